@@ -1,0 +1,5 @@
+pub mod Deadlines
+pub mod Products
+pub mod Table
+pub mod Visit
+pub mod ZeroBytes

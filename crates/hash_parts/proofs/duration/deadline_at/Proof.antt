@@ -1,0 +1,37 @@
+-- `deadline_at` meets its contract: past the limit every number of ticks is refused. Assumes nothing.
+use mathlib.Core.Path.{sym, _∙_}
+use Prim.Native.Nat.{ℕ, _+_, _*_, _-_, _/_, _%_, _^_, _≤_, _<_}
+use native.Mathlib.Omega.{arith}
+use Rattle.hash_parts.specs.Duration.{nanosOf, ceilDiv}
+use Rattle.hash_parts.proofs.Deadlines.{deadline-in, deadline-out}
+use borrow.Author.Needs.{needs}
+use Rattle.hash_parts.proofs.duration.deadline_at.Statement.{statement}
+use Rattle.hash_parts.proofs.duration.deadline_at.Tie as tie
+
+returns : tie.Need-returns
+returns c =
+    let a = c .before .args in
+    deadline-out (a .base) (nanosOf (a .lifetime)) (nanosOf (a .tick)) (omega arith)
+
+ticks-of-requires : tie.Need-ticks-of-requires
+ticks-of-requires c κs = search needs
+
+returns-2 : tie.Need-returns-2
+returns-2 c =
+    let a = c .before .before .before .args in
+    deadline-out (a .base) (nanosOf (a .lifetime)) (nanosOf (a .tick)) (omega (arith, c .before .ticks-of .ensures))
+
+add-t9 : tie.Need-add-t9
+add-t9 c = search needs
+
+cast-t10 : tie.Need-cast-t10
+cast-t10 c = search needs
+
+returns-3 : tie.Need-returns-3
+returns-3 c =
+    let a = c .before .before .before .args in
+    deadline-in (a .base) (nanosOf (a .lifetime)) (nanosOf (a .tick)) (c .before .ticks-of .result) (omega arith) (c .before .ticks-of .ensures) (c .if2 .left)
+
+pub deadline-at-spec : {M : Type 1} → statement M
+deadline-at-spec =
+    tie.close (tie.spec returns ticks-of-requires returns-2 add-t9 cast-t10 returns-3)

@@ -1,0 +1,60 @@
+-- `encode_expiry_at_tick` meets its contract, case by case. Assumes nothing.
+use mathlib.Core.Path.{sym, _∙_, _≡_}
+use native.Mathlib.Omega.{arith}
+use borrow.Author.Tests.{eqb-true, eqb-false}
+use Rattle.hash_parts.specs.Duration.{encodedExpiry, nanosOf}
+use Prim.Native.Nat.{ℕ}
+use borrow.Author.Needs.{needs}
+use Rattle.hash_parts.proofs.duration.encode_expiry_at_tick.Statement.{statement}
+use Rattle.hash_parts.proofs.duration.encode_expiry_at_tick.Tie as tie
+
+enum-known-ttl : tie.Need-enum-known-ttl
+enum-known-ttl c = search needs
+
+enum-told : tie.Need-enum-told
+enum-told c = search needs
+
+returns : tie.Need-returns
+unfolding encodedExpiry
+returns c = rw (c .enum-told .given .1)
+
+enum-known-expiry : tie.Need-enum-known-expiry
+enum-known-expiry c = search needs
+
+enum-told-2 : tie.Need-enum-told-2
+enum-told-2 c = search needs
+
+returns-2 : tie.Need-returns-2
+unfolding encodedExpiry
+returns-2 c = rw (c .before .before .before .ttl .given .1, c .enum-told2 .given .1)
+
+is-zero-requires : tie.Need-is-zero-requires
+is-zero-requires c κs = search needs
+
+returns-3 : tie.Need-returns-3
+unfolding encodedExpiry
+returns-3 c = rw (c .before .before .before .before .before .before .ttl .given .1, c .before .before .before .expiry .given .1, sym (c .before .is-zero .ensures) ∙ c .if1 .taken)
+
+deadline-at-requires : tie.Need-deadline-at-requires
+deadline-at-requires c κs =
+    let n : nanosOf (c .before .before .before .expiry .given .0 .0) ≡ 0 → ⊥ = eqb-false _ _ (sym (c .before .is-zero .ensures) ∙ c .if1 .left) in
+    omega arith
+
+returns-4 : tie.Need-returns-4
+unfolding encodedExpiry
+returns-4 c = rw (c .before .before .before .before .before .before .before .ttl .given .1, c .before .before .before .before .expiry .given .1, sym (c .before .before .is-zero .ensures) ∙ c .before .if1 .left) (c .deadline-at .ensures)
+
+pub encode-expiry-at-tick-spec : {M : Type 1} → statement M
+encode-expiry-at-tick-spec =
+    tie.close
+    (tie.spec
+    enum-known-ttl
+    enum-told
+    returns
+    enum-known-expiry
+    enum-told-2
+    returns-2
+    is-zero-requires
+    returns-3
+    deadline-at-requires
+    returns-4)

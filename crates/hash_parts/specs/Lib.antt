@@ -1,0 +1,7 @@
+pub mod Choice
+pub mod Duration
+pub mod Error
+pub mod Hash
+pub mod Outcome
+pub mod Setting
+pub mod ZeroBytes

@@ -1,0 +1,37 @@
+// Marks on the bytes of a word: 0x80 in each byte that is marked, 0 in the others.
+ghost use mathlib.Core.Path.{_≡_};
+ghost use Prim.Native.Nat.{_-_, _/_, _≤_};
+ghost use lib.Bits.{bitAnd};
+ghost use lib.Count.{trailingZeros};
+ghost use Rattle.hash_parts.specs.ZeroBytes.{zeroMarks};
+
+const BYTE_HIGH_BITS: u64 = 0x8080_8080_8080_8080;
+
+const BYTE_LOW_SEVEN_BITS: u64 = 0x7f7f_7f7f_7f7f_7f7f;
+
+// Marks the zero bytes. No byte's sum carries into the next, so that every byte is judged alone.
+pub fn zero_byte_high_bits(value: u64) -> u64
+    ensures { λ r. ⌜ r ≡ zeroMarks value ⌝ }
+{
+    !(std::num::wrapping_add_u64(value & BYTE_LOW_SEVEN_BITS, BYTE_LOW_SEVEN_BITS)
+        | value
+        | BYTE_LOW_SEVEN_BITS)
+        & BYTE_HIGH_BITS
+}
+
+// The byte of the lowest mark; 8 where there is none.
+pub fn lowest_marked_byte(marks: u64) -> usize
+    ensures { λ r. ⌜ (r ≡ trailingZeros 64 marks / 8) × (r ≤ 8) ⌝ }
+{
+    (u64::trailing_zeros(marks) / 8) as usize
+}
+
+// The marks without the lowest.
+pub fn without_lowest_mark(marks: u64) -> u64
+    ensures { λ r. ⌜ r ≡ bitAnd marks (marks - 1) ⌝ }
+{
+    if marks == 0 {
+        return 0;
+    }
+    marks & (marks - 1)
+}
