@@ -1,0 +1,5 @@
+pub mod Area
+pub mod Parts
+pub mod Prefix
+pub mod Stored
+pub mod Uleb128

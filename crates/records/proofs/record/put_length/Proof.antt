@@ -1,0 +1,44 @@
+-- `put_length` meets its contract: the rest of the area that it lends comes home. Assumes nothing.
+use mathlib.Core.Path.{ap}
+use Prim.Native.Nat.{ℕ, _+_}
+use borrow.Author.Needs.{needs}
+use Rattle.records.specs.Uleb128.{uleb128}
+use Rattle.records.proofs.Area.{part-home}
+use Rattle.records.proofs.record.put_length.Statement.{statement}
+use Rattle.records.proofs.record.put_length.Tie as tie
+
+sub-put-varint : tie.Need-sub-put-varint
+sub-put-varint c = search needs
+
+part-put-varint-start : tie.Need-part-put-varint-start
+part-put-varint-start c = search needs
+
+part-put-varint-end : tie.Need-part-put-varint-end
+part-put-varint-end c = search needs
+
+put-varint-requires : tie.Need-put-varint-requires
+put-varint-requires c κs = search needs
+
+add-result : tie.Need-add-result
+add-result c = search needs
+
+same-length : tie.Need-same-length
+same-length c = search needs
+
+returns : tie.Need-returns
+returns c =
+    let a = c .before .before .before .before .before .args in
+    let w = c .before .before .put-varint in
+    (ap (λ (n : ℕ). a .at + n) (w .ensures .0), part-home (uleb128 (a .value)) (a .out .now) (w .last .0) (a .at) (w .ensures .1))
+
+pub put-length-spec : {M : Type 1} → statement M
+put-length-spec =
+    tie.close
+    (tie.spec
+    sub-put-varint
+    part-put-varint-start
+    part-put-varint-end
+    put-varint-requires
+    add-result
+    same-length
+    returns)

@@ -1,0 +1,31 @@
+-- `write_varint` meets its contract: it asks for the room that `put_varint` needs. Assumes nothing.
+use borrow.Author.Needs.{needs}
+use native.Mathlib.Omega.{arith}
+use Rattle.records.specs.Uleb128.{uleb128}
+use Rattle.records.proofs.Area.{written-in, written-out}
+use Rattle.records.proofs.varint.write_varint.Statement.{statement}
+use Rattle.records.proofs.varint.write_varint.Tie as tie
+
+varint-bytes-requires : tie.Need-varint-bytes-requires
+varint-bytes-requires c κs = search needs
+
+returns : tie.Need-returns
+returns c =
+    let a = c .before .before .before .args in
+    written-out (uleb128 (a .value)) (a .output .now) (omega arith)
+
+put-varint-requires : tie.Need-put-varint-requires
+put-varint-requires c κs = search needs
+
+same-length : tie.Need-same-length
+same-length c = search needs
+
+returns-2 : tie.Need-returns-2
+returns-2 c =
+    let a = c .before .before .before .before .before .before .before .args in
+    let p = c .before .before .put-varint in
+    written-in (uleb128 (a .value)) (a .output .now) (p .last .0) (p .result) (omega arith) (p .ensures .0) (p .ensures .1)
+
+pub write-varint-spec : {M : Type 1} → statement M
+write-varint-spec =
+    tie.close (tie.spec varint-bytes-requires returns put-varint-requires same-length returns-2)

@@ -1,0 +1,4 @@
+pub mod Area
+pub mod Record
+pub mod Uleb128
+pub mod Varint

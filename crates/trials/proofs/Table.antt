@@ -1,0 +1,59 @@
+-- Document 01's trials marked P, as one table of tests on the definitions that the contracts cite.
+-- Assumes nothing.
+use mathlib.Core.Path.{_≡_}
+use mathlib.Core.Bool.{Bool, true, false, _&&_}
+use mathlib.Core.List.{List, [], _∷_}
+use Prim.Native.Nat.{ℕ, _*_, _-_, _^_}
+use native.Mathlib.Omega.{arith}
+use borrow.Author.Tests.{le-ltb}
+use lib.Dec.{T, eqb}
+use Rattle.hash_parts.specs.Choice.{pick}
+use Rattle.hash_parts.specs.Duration.{encodedExpiry, deadlineAt, livesAt}
+use Rattle.hash_parts.specs.Hash.{tagOf, firstBucket, controlTag, secondaryTag}
+use Rattle.hash_parts.specs.Outcome.{Outcome}
+use Rattle.hash_parts.specs.ZeroBytes.{zeroMarks, zeroBytes, marks, bytesOf}
+use Rattle.hash_parts.specs.declared.duration.Lifetime.the-variants.{For}
+use Rattle.hash_parts.specs.declared.setting.SegmentExpiry.the-variants.{Relative16}
+use Rattle.records.specs.Area.{sameBytes}
+use Rattle.records.specs.Uleb128.{uleb128, ulebIn}
+
+abbrev all : List Bool → Bool
+all [] = true
+all (b ∷ bs) = pick b (all bs) false
+
+-- the outcome has this number and this value
+abbrev gives : Outcome → ℕ → ℕ → Bool
+gives o number value = eqb (o .number) number && eqb (o .value) value
+
+-- the deadline of a lifetime in a build, with ticks of one second
+abbrev ofLifetime : ℕ → ℕ → Outcome
+ofLifetime secs nanos = encodedExpiry (Relative16 record { secs = 1; nanos = 0 }) (For record { secs = secs; nanos = nanos }) 0
+
+pub p-trials : T
+    (all
+    (sameBytes (uleb128 127) (0x7f ∷ [])
+    ∷ sameBytes (uleb128 128) (0x80 ∷ 0x01 ∷ [])
+    ∷ sameBytes (uleb128 16383) (0xff ∷ 0x7f ∷ [])
+    ∷ sameBytes (uleb128 16384) (0x80 ∷ 0x80 ∷ 0x01 ∷ [])
+    ∷ eqb (firstBucket (2 ^ 63) 3) 1
+    ∷ eqb (firstBucket (2 ^ 64 - 1) 3) 2
+    ∷ eqb (tagOf (2 ^ 64 - 1)) 0x7fffff
+    ∷ eqb (controlTag 0x7fffff) 1
+    ∷ eqb (secondaryTag 0x7fffff) 0xffff
+    ∷ eqb (tagOf 0x0000fe0000000000) 127
+    ∷ eqb (controlTag 127) 1
+    ∷ eqb (secondaryTag 127) 0
+    ∷ eqb (controlTag (tagOf 0)) (controlTag 127)
+    ∷ eqb (secondaryTag (tagOf 0)) (secondaryTag 127)
+    ∷ eqb (zeroMarks 0x0100) 0x8080808080800080
+    ∷ gives (ofLifetime 65534 0) 0 65534
+    ∷ gives (ofLifetime 65534 1) 6 0
+    ∷ gives (ofLifetime 0 0) 0 0
+    ∷ []))
+unfolding uleb128 ulebIn sameBytes firstBucket zeroMarks zeroBytes marks bytesOf encodedExpiry deadlineAt
+p-trials = tt
+
+-- "lapsed from tick 0": a record with deadline 0 lives at no tick
+pub lapsed-from-start : (tick : ℕ) → livesAt 0 tick ≡ false
+unfolding livesAt
+lapsed-from-start tick = le-ltb tick 0 (omega arith)
