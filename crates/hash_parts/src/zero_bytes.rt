@@ -13,10 +13,8 @@ const BYTE_LOW_SEVEN_BITS: u64 = 0x7f7f_7f7f_7f7f_7f7f;
 pub fn zero_byte_high_bits(value: u64) -> u64
     ensures { λ r. ⌜ r ≡ zeroMarks value ⌝ }
 {
-    !(std::num::wrapping_add_u64(value & BYTE_LOW_SEVEN_BITS, BYTE_LOW_SEVEN_BITS)
-        | value
-        | BYTE_LOW_SEVEN_BITS)
-        & BYTE_HIGH_BITS
+    let sums = std::num::wrapping_add_u64(value & BYTE_LOW_SEVEN_BITS, BYTE_LOW_SEVEN_BITS);
+    !(sums | value | BYTE_LOW_SEVEN_BITS) & BYTE_HIGH_BITS
 }
 
 // The byte of the lowest mark; 8 where there is none.

@@ -1,0 +1,80 @@
+// Calls the port and the Rust that it was made from with the same inputs and compares the answers.
+mod areas;
+mod durations;
+mod hash;
+mod port;
+mod record_read;
+mod record_write;
+mod report;
+mod rng;
+mod varints;
+
+use report::{Group, Run};
+use std::process::ExitCode;
+
+const RANDOM_CASES: u64 = 1_200_000;
+
+fn main() -> ExitCode {
+    let random = match std::env::args().nth(1).as_deref() {
+        Some("short") => RANDOM_CASES,
+        Some("long") => 10 * RANDOM_CASES,
+        _ => {
+            eprintln!("usage: driver short|long");
+            return ExitCode::from(2);
+        }
+    };
+    let mut run = Run::new(random);
+    run.group("oracle", oracle);
+    run.group("hash parts", hash::parts);
+    run.group("tags", hash::tags);
+    run.group("zero bytes and marks", hash::marks);
+    run.group("mixed hash", hash::mixed);
+    run.group("deadlines", durations::deadlines);
+    run.group("remaining time", durations::remaining);
+    run.group("varint writing", varints::write);
+    run.group("varint reading", varints::read);
+    run.group("record sizes", record_write::sizes);
+    run.group("record writing", record_write::write);
+    run.group("record reading", record_read::read);
+    run.group("byte slices", areas::slices);
+    run.group("lent words", areas::words);
+    if run.end() {
+        ExitCode::SUCCESS
+    } else {
+        ExitCode::FAILURE
+    }
+}
+
+// The two builds are what they should be: the segment target of each, and the stub for the hash.
+fn oracle(group: &mut Group, _random: u64) {
+    let none = || String::new();
+    group.rule(
+        "large target",
+        oracle_large::access::SEGMENT_TARGET,
+        100_663_296,
+        none,
+    );
+    group.rule(
+        "small target",
+        oracle_small::access::SEGMENT_TARGET,
+        4_096,
+        none,
+    );
+    for hash in rng::edges() {
+        oracle_large::set_hash(hash);
+        oracle_small::set_hash(!hash);
+        let input = || format!("{hash:#x}");
+        group.rule(
+            "large hash",
+            oracle_large::access::key_hash(b"key"),
+            hash,
+            input,
+        );
+        group.rule(
+            "small hash",
+            oracle_small::access::key_hash(b"key"),
+            !hash,
+            input,
+        );
+    }
+}

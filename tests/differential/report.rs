@@ -1,0 +1,122 @@
+// Counts the cases of each group and prints the first differences of each.
+use std::fmt::Debug;
+use std::time::Instant;
+
+const PRINTED: u64 = 10;
+
+// A line about a long input is cut here.
+const LINE: usize = 1000;
+
+pub struct Run {
+    // How many random cases a group has.
+    pub random: u64,
+    cases: u64,
+    differences: u64,
+}
+
+impl Run {
+    pub fn new(random: u64) -> Run {
+        Run {
+            random,
+            cases: 0,
+            differences: 0,
+        }
+    }
+
+    pub fn group(&mut self, name: &'static str, compare: impl FnOnce(&mut Group, u64)) {
+        let start = Instant::now();
+        let mut group = Group {
+            name,
+            cases: 0,
+            differences: 0,
+        };
+        compare(&mut group, self.random);
+        let seconds = start.elapsed().as_secs_f64();
+        println!(
+            "{name}: {} cases, {} differences ({seconds:.1} s)",
+            group.cases, group.differences
+        );
+        self.cases += group.cases;
+        self.differences += group.differences;
+    }
+
+    // Prints the sum, and tells whether there was no difference.
+    pub fn end(&self) -> bool {
+        println!("{} cases, {} differences", self.cases, self.differences);
+        self.differences == 0
+    }
+}
+
+pub struct Group {
+    name: &'static str,
+    cases: u64,
+    differences: u64,
+}
+
+impl Group {
+    // The port's answer against the Rust's.
+    pub fn rust<T: PartialEq + Debug>(
+        &mut self,
+        call: &str,
+        port: T,
+        rust: T,
+        input: impl FnOnce() -> String,
+    ) {
+        self.same(call, port, "Rust", rust, input);
+    }
+
+    // The port's answer against a rule of this test, where the Rust has no answer of its own.
+    pub fn rule<T: PartialEq + Debug>(
+        &mut self,
+        call: &str,
+        port: T,
+        rule: T,
+        input: impl FnOnce() -> String,
+    ) {
+        self.same(call, port, "rule", rule, input);
+    }
+
+    // What the port left in an area against the bytes that belong there.
+    pub fn area(&mut self, call: &str, port: &[u8], wanted: &[u8], input: impl FnOnce() -> String) {
+        self.cases += 1;
+        if port == wanted {
+            return;
+        }
+        let at = (0..port.len()).find(|&i| port.get(i) != wanted.get(i));
+        let at = at.unwrap_or(port.len());
+        let (left, right) = (port.get(at), wanted.get(at));
+        self.print(
+            call,
+            &format!("byte {at}: port {left:?}, wanted {right:?}"),
+            input,
+        );
+    }
+
+    fn same<T: PartialEq + Debug>(
+        &mut self,
+        call: &str,
+        port: T,
+        source: &str,
+        wanted: T,
+        input: impl FnOnce() -> String,
+    ) {
+        self.cases += 1;
+        if port != wanted {
+            self.print(call, &format!("port {port:?}, {source} {wanted:?}"), input);
+        }
+    }
+
+    fn print(&mut self, call: &str, answers: &str, input: impl FnOnce() -> String) {
+        self.differences += 1;
+        if self.differences > PRINTED {
+            return;
+        }
+        let input = input();
+        let shown: String = input.chars().take(LINE).collect();
+        let cut = if shown.len() < input.len() { " .." } else { "" };
+        println!(
+            "difference in {}: {call}({shown}{cut}): {answers}",
+            self.name
+        );
+    }
+}
