@@ -8,3 +8,9 @@ run:
 # The gate.
 test:
 	bash .ci/run
+
+# The differential runs at ten times their length, and all wrong answers.
+soak:
+	tests/differential/run long
+	tests/wrong_answers/run hash_parts
+	tests/wrong_answers/run records

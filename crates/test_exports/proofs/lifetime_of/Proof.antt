@@ -1,0 +1,13 @@
+-- `lifetime_of` meets its contract by its test. Assumes nothing.
+use borrow.Author.Needs.{needs}
+use Rattle.test_exports.proofs.lifetime_of.Statement.{statement}
+use Rattle.test_exports.proofs.lifetime_of.Tie as tie
+
+returns : tie.Need-returns
+returns c = rw (c .if1 .taken)
+
+returns-2 : tie.Need-returns-2
+returns-2 c = search needs
+
+pub lifetime-of-spec : {M : Type 1} → statement M
+lifetime-of-spec = tie.close (tie.spec returns returns-2)
