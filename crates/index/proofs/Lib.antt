@@ -1,0 +1,17 @@
+pub mod Around
+pub mod Bytes
+pub mod Candidates
+pub mod Filling
+pub mod Filters
+pub mod Finds
+pub mod Marks
+pub mod PackedReads
+pub mod Packing
+pub mod PackingLoop
+pub mod Slots
+pub mod Splits
+pub mod Starts
+pub mod Sweeps
+pub mod Views
+pub mod Walks
+pub mod Words

@@ -1,0 +1,72 @@
+-- Laws of reading under a stored location. Assumes nothing.
+use mathlib.Core.Path.{_≡_, refl, sym, ap, ap₂, _∙_}
+use mathlib.Core.Bool.{Bool, true, false}
+use mathlib.Core.List.{List, [], _∷_}
+use mathlib.Core.Option.{Option, none, some}
+use Prim.Native.Nat.{ℕ, zero, suc, _+_, _-_, _/_, _%_, _^_, _≤_, _<_, min}
+use native.Mathlib.Omega.{arith}
+use lib.Dec.{leb, ltb}
+use lib.ListN.{length, take, drop, getD, length-take, length-drop}
+use lib.Seq.{take-nil, take-take, drop-drop}
+use borrow.Author.Tests.{le-leb, lt-leb, lt-ltb, le-ltb, leb-true}
+use Rattle.hash_parts.specs.Choice.{pick}
+use Rattle.hash_parts.specs.declared.setting.SegmentExpiry.{SegmentExpiry}
+use Rattle.records.specs.Area.{part}
+use Rattle.records.specs.Record.{Stored, recordAt, storedAt, contents}
+use Rattle.records.specs.declared.record.RecordAnswer.{RecordAnswer}
+use Rattle.records.specs.declared.record.RecordAnswer.the-variants.{Read, Unreadable}
+use Rattle.records.specs.declared.record.RecordRef.{RecordRef}
+use Rattle.records.proofs.Stored.{record-inside}
+use Rattle.index.specs.View.{refMoved, answerMoved, inSegment, isSegment, recordIn, storedIn}
+use Rattle.index.specs.declared.view.SegmentView.{SegmentView}
+
+-- ---- parts of lists
+
+module _ {A : Type 0} where
+  drop-take : (a n : ℕ) (l : List A) → drop a (take n l) ≡ take (n - a) (drop a l)
+  drop-take zero n l = let e : n - 0 ≡ n = omega arith in rw e
+  drop-take (suc a) zero l = let e : 0 - suc a ≡ 0 = omega arith in rw e
+  drop-take (suc a) (suc n) [] = sym (take-nil (suc n - suc a))
+  drop-take (suc a) (suc n) (x ∷ l) = let e : suc n - suc a ≡ n - a = omega arith in rw e (drop-take a n l)
+
+-- a part of the front is a part of the whole
+pub part-front : (at len n : ℕ) (s : List ℕ) → at + len ≤ n → part at len (take n s) ≡ part at len s
+part-front at len n s h = ap (take len) (drop-take at n s) ∙ take-take len (n - at) (drop at s) (omega arith)
+
+-- a part of a part
+pub part-part : (start len at n : ℕ) (s : List ℕ) → at + n ≤ len → part at n (part start len s) ≡ part (start + at) n s
+part-part start len at n s h = part-front at n len (drop start s) h ∙ ap (take n) (drop-drop at start s)
+
+-- ---- in a segment
+
+module _ (e : SegmentExpiry) (bytes : List ℕ) (start len location : ℕ) where
+  pub segment-outside : length bytes < start + len → Unreadable ≡ inSegment e bytes start len location
+  unfolding inSegment
+  segment-outside h = simp (lt-leb (start + len) (length bytes) h)
+
+  pub segment-gives : (s : List ℕ) (a : RecordAnswer) → start + len ≤ length bytes → s ≡ part start len bytes → recordAt e s (location % 2 ^ 32) ≡ a
+      → answerMoved location start a ≡ inSegment e bytes start len location
+  unfolding inSegment
+  segment-gives s a h p f = rw (sym f ∙ ap (λ (l : List ℕ). recordAt e l (location % 2 ^ 32)) p) (simp (le-leb (start + len) (length bytes) h))
+
+-- ---- under a stored location
+
+module _ (view : SegmentView) (arena starts lengths : List ℕ) where
+  pub location-none : (stored : ℕ) → stored ≡ 0 → Unreadable ≡ recordIn view arena starts lengths stored
+  unfolding recordIn
+  location-none stored z = rw z
+
+  pub location-outside : (stored : ℕ) → 0 < stored → isSegment view starts lengths ((stored - 1) / 2 ^ 32) ≡ false → Unreadable ≡ recordIn view arena starts lengths stored
+  unfolding recordIn
+  location-outside zero p h = absurd (omega arith)
+  location-outside (suc l) p h =
+      let e : suc l - 1 ≡ l = omega arith in
+      rw (rw e at h)
+
+  pub location-inside : (stored : ℕ) → 0 < stored → isSegment view starts lengths ((stored - 1) / 2 ^ 32) ≡ true
+      → inSegment (view .expiry) (take (view .filled) arena) (getD starts ((stored - 1) / 2 ^ 32) 0) (getD lengths ((stored - 1) / 2 ^ 32) 0) (stored - 1) ≡ recordIn view arena starts lengths stored
+  unfolding recordIn
+  location-inside zero p h = absurd (omega arith)
+  location-inside (suc l) p h =
+      let e : suc l - 1 ≡ l = omega arith in
+      rw e (rw (rw e at h))

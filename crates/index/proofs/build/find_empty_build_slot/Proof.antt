@@ -1,0 +1,97 @@
+-- `find_empty_build_slot` meets its contract: the buckets left answer as the whole walk does. Without buckets a hash's first bucket is 0, so buckets are bounded
+-- by `buckets - 1`. Assumes nothing.
+use mathlib.Core.Path.{_≡_, sym, _∙_}
+use mathlib.Core.Logic.{⊎-elim}
+use Prim.Native.Nat.{_-_, _≤_}
+use native.Mathlib.Omega.{arith}
+use borrow.Author.Needs.{needs}
+use Rattle.hash_parts.specs.Hash.{firstBucket}
+use Rattle.index.specs.declared.build.BuildSlot.the-variants.{Full}
+use Rattle.index.specs.Build.{never, emptySlot}
+use Rattle.index.proofs.Walks.{next-within}
+use Rattle.index.proofs.Slots.{slots-short, bucketsAnswer, buckets-first, buckets-end, buckets-on, buckets-found}
+use Rattle.index.proofs.build.find_empty_build_slot.Statement.{statement}
+use Rattle.index.proofs.build.find_empty_build_slot.Tie as tie
+
+abbrev Inv-loop : tie.InvT-loop
+Inv-loop index buckets hash bucket₀ left₀ bucket left =
+    (bucket ≤ buckets - 1) × (left ≤ buckets) × (emptySlot index buckets hash ≡ bucketsAnswer never index buckets left bucket)
+
+abbrev μ-loop : tie.MeasureT-loop
+μ-loop index buckets hash bucket₀ left₀ bucket left = left
+
+returns : tie.Need-returns Inv-loop μ-loop
+returns c = let a = c .before .before .args in sym (slots-short never (a .index .now) (a .buckets) (a .hash) (c .if1 .taken))
+
+reduce-hash-requires : tie.Need-reduce-hash-requires Inv-loop μ-loop
+reduce-hash-requires c κs = search needs
+
+loop-holds : tie.Need-loop-holds Inv-loop μ-loop
+loop-holds c =
+    let a = c .before .before .before .args in
+    let e : c .reduce-hash .result ≡ firstBucket (a .hash) (a .buckets) = c .reduce-hash .ensures .0 in
+    (c .reduce-hash .ensures .1, omega arith, rw e (buckets-first never (a .index .now) (a .buckets) (a .hash) (omega arith) (omega arith)))
+
+empty-slot-in-bucket-requires : tie.Need-empty-slot-in-bucket-requires Inv-loop μ-loop
+empty-slot-in-bucket-requires c κs = omega arith
+
+enum-told : tie.Need-enum-told Inv-loop μ-loop
+enum-told c = search needs
+
+-- the arm is left by the variants 0 and 1, and `Full` is the variant 2
+returns-2 : tie.Need-returns-2 Inv-loop μ-loop
+returns-2 c =
+    let l = c .before .before .before in
+    let a = l .before .before .before .before .args in
+    let r = c .before .empty-slot-in-bucket .result in
+    let e = c .before .empty-slot-in-bucket .ensures in
+    let other : r ≡ Full → ⊥ = λ (f : r ≡ Full). ⊎-elim (λ p. omega arith) (λ p. omega arith) (rw f at (c .match .keys2)) in
+    e
+    ∙ sym (buckets-found never (a .index .now) (a .buckets) (l .loop .left) (l .loop .bucket)
+    (c .before .before .loop-test .taken) (λ f. other (e ∙ f)))
+    ∙ sym (l .loop .inv .2)
+
+next-bucket-requires : tie.Need-next-bucket-requires Inv-loop μ-loop
+next-bucket-requires c κs = search needs
+
+sub-left : tie.Need-sub-left Inv-loop μ-loop
+sub-left c = omega arith
+
+loop-less : tie.Need-loop-less Inv-loop μ-loop
+loop-less c = omega arith
+
+loop-again : tie.Need-loop-again Inv-loop μ-loop
+loop-again c =
+    let l = c .before .before .before .before .before in
+    let a = l .before .before .before .before .args in
+    let full = sym (c .before .before .before .empty-slot-in-bucket .ensures) ∙ c .before .enum-told .given .1 in
+    let e = c .next-bucket .ensures in (
+      omega (arith, e, next-within (l .loop .bucket) (a .buckets)),
+      omega arith,
+      l .loop .inv .2 ∙ rw e (buckets-on never (a .index .now) (a .buckets) (l .loop .left) (l .loop .bucket)
+          (c .before .before .before .before .loop-test .taken) full),
+    )
+
+returns-3 : tie.Need-returns-3 Inv-loop μ-loop
+returns-3 c =
+    let l = c .before in
+    let a = l .before .before .before .before .args in
+    sym (l .loop .inv .2 ∙ buckets-end never (a .index .now) (a .buckets) (l .loop .left) (l .loop .bucket) (c .loop-test .left))
+
+pub find-empty-build-slot-spec : {M : Type 1} → statement M
+find-empty-build-slot-spec =
+    tie.close
+    (tie.spec
+    Inv-loop
+    μ-loop
+    returns
+    reduce-hash-requires
+    loop-holds
+    empty-slot-in-bucket-requires
+    enum-told
+    returns-2
+    next-bucket-requires
+    sub-left
+    loop-less
+    loop-again
+    returns-3)

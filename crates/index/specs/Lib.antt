@@ -1,0 +1,9 @@
+pub mod Build
+pub mod Filter
+pub mod Find
+pub mod Packed
+pub mod Segments
+pub mod Slot
+pub mod View
+pub mod Walk
+pub mod Word

@@ -1,0 +1,33 @@
+-- A slot of a finished index, as either layout shows it.
+-- Assumes nothing.
+use mathlib.Core.Bool.{Bool, true, false}
+use mathlib.Core.List.{List, map}
+use Prim.Native.Nat.{ℕ, _+_, _*_}
+use lib.Dec.{eqb}
+use lib.ListN.{take}
+use Rattle.hash_parts.specs.Choice.{pick}
+use Rattle.hash_parts.specs.Hash.{controlTag, secondaryTag}
+use Rattle.index.specs.Word.{wordTag, wordStored}
+use Rattle.index.specs.declared.slot.IndexSlot.{IndexSlot}
+use Rattle.index.specs.declared.slot.IndexSlot.the-variants.{Empty, Used}
+
+-- a slot of the word layout: an empty word, or the whole tag and the stored location
+unfoldable pub wordSlot : ℕ → IndexSlot
+wordSlot w = pick (eqb w 0) Empty (Used (wordTag w) (wordStored w))
+
+-- what the packed layout keeps of a tag, as one number: the control byte's seven bits, and the rest
+abbrev pub packedTag : ℕ → ℕ
+packedTag tag = controlTag tag + 128 * secondaryTag tag
+
+-- what a layout keeps of a tag
+abbrev pub keptTag : Bool → ℕ → ℕ
+keptTag packed tag = pick packed (packedTag tag) tag
+
+-- a slot of the word layout as the packed layout keeps it
+abbrev pub repacked : IndexSlot → IndexSlot
+repacked Empty = Empty
+repacked (Used tag stored) = Used (packedTag tag) stored
+
+-- the slots of so many buckets of words
+abbrev pub wordSlots : ℕ → List ℕ → List IndexSlot
+wordSlots buckets index = map wordSlot (take (8 * buckets) index)

@@ -1,0 +1,297 @@
+// Finding a record in a finished index, in either layout.
+use crate::build::next_bucket;
+use crate::filter::negative_filter_may_contain;
+use crate::packed::packed_slot;
+use crate::slot::IndexSlot;
+use crate::slot::word_slot;
+use crate::view::SegmentView;
+use crate::view::record_at_location;
+use crate::word::BUCKET_SLOTS;
+use hash_parts::hash::hash_tag;
+use hash_parts::hash::packed_control_tag;
+use hash_parts::hash::packed_secondary_tag;
+use hash_parts::hash::reduce_hash;
+use hash_parts::zero_bytes::lowest_marked_byte;
+use hash_parts::zero_bytes::without_lowest_mark;
+use hash_parts::zero_bytes::zero_byte_high_bits;
+use records::record::RecordAnswer;
+use records::record::RecordRef;
+use records::record::same_bytes;
+use records::record::value_slice;
+ghost use mathlib.Core.Path.{_≡_};
+ghost use mathlib.Core.List.{map};
+ghost use Prim.Native.Nat.{_+_, _*_, _<_, _≤_};
+ghost use lib.ListN.{drop, getD, length, take};
+ghost use Rattle.index.specs.Find.{endsAt, findIn, inBucket, look, looksFrom, scan, slotsOf, stepOf, sweptOut};
+ghost use Rattle.index.specs.Filter.{filterHas};
+ghost use Rattle.index.specs.Packed.{packedBucket};
+ghost use Rattle.index.specs.Slot.{packedTag, keptTag, wordSlot};
+ghost use Rattle.index.specs.View.{recordIn};
+ghost use Rattle.hash_parts.specs.Hash.{tagOf};
+ghost use Rattle.index.specs.declared.slot.IndexSlot.the-variants as slot;
+
+const PACKED_CONTROL_TAG_BITS: u64 = 0x7f7f_7f7f_7f7f_7f7f;
+
+const BYTE_LOW_BITS: u64 = 0x0101_0101_0101_0101;
+
+// A record that was found, and the slot that names it.
+pub struct FoundRecord {
+    pub slot: usize,
+    pub entry: RecordRef,
+}
+
+pub enum FindAnswer {
+    Found(FoundRecord),
+    Nothing,
+}
+
+// What a slot or a bucket says: a hit, the end of the walk with nothing, or on.
+pub enum FindStep {
+    Hit(FoundRecord),
+    Stop,
+    Next,
+}
+
+// The first record of a key on the walk of its hash. The filter is asked once, after the second
+// bucket.
+pub fn find_record(
+    view: SegmentView,
+    packed: bool,
+    index: &[u64],
+    buckets: usize,
+    filter: &[u64],
+    filter_words: usize,
+    starts: &[u64],
+    lengths: &[u64],
+    arena: &[u8],
+    key: &[u8],
+    hash: u64,
+) -> FindAnswer
+    ensures { λ r. ⌜ r ≡ findIn view packed (now (index .entry)) buckets (now (filter .entry)) «filter_words» (now (starts .entry)) (now (lengths .entry)) (now (arena .entry)) (now (key .entry)) hash ⌝ }
+{
+    if index.len() / BUCKET_SLOTS < buckets {
+        return FindAnswer::Nothing;
+    }
+    let tag = hash_tag(hash);
+    let mut bucket = reduce_hash(hash, buckets);
+    let mut left = buckets;
+    let mut probe: usize = 0;
+    while left > 0 {
+        let step = find_in_bucket(
+            view,
+            packed,
+            index,
+            buckets,
+            bucket,
+            starts,
+            lengths,
+            arena,
+            key,
+            tag,
+        );
+        if let FindStep::Hit(found) = step {
+            return FindAnswer::Found(found);
+        }
+        let FindStep::Next = step else {
+            return FindAnswer::Nothing;
+        };
+        if ends_at_filter(probe, filter, filter_words, hash) {
+            return FindAnswer::Nothing;
+        }
+        probe += 1;
+        bucket = next_bucket(bucket, buckets);
+        left -= 1;
+    }
+    FindAnswer::Nothing
+}
+
+// Whether the filter ends a walk after so many buckets and one: it is asked after the second.
+fn ends_at_filter(probe: usize, filter: &[u64], filter_words: usize, hash: u64) -> bool
+    ensures { λ r. ⌜ r ≡ endsAt probe (filterHas (now (filter .entry)) «filter_words» hash) ⌝ }
+{
+    if probe != 1 {
+        return false;
+    }
+    !negative_filter_may_contain(filter, filter_words, hash)
+}
+
+// The slots of a bucket, in either layout.
+fn find_in_bucket(
+    view: SegmentView,
+    packed: bool,
+    index: &[u64],
+    buckets: usize,
+    bucket: usize,
+    starts: &[u64],
+    lengths: &[u64],
+    arena: &[u8],
+    key: &[u8],
+    tag: u64,
+) -> FindStep
+    requires { ⌜ (bucket < buckets) × (8 * buckets ≤ length (now index)) ⌝ }
+    ensures { λ r. ⌜ r ≡ inBucket packed (looksFrom (recordIn view (now (arena .entry)) (now (starts .entry)) (now (lengths .entry))) (now (arena .entry)) (now (key .entry)) (keptTag packed tag) (8 * bucket) (slotsOf packed buckets (now (index .entry)) bucket)) ⌝ }
+{
+    if packed {
+        return find_in_packed(
+            view,
+            index,
+            buckets,
+            bucket,
+            starts,
+            lengths,
+            arena,
+            key,
+            tag,
+        );
+    }
+    find_in_words(view, index, bucket, starts, lengths, arena, key, tag)
+}
+
+fn find_in_words(
+    view: SegmentView,
+    index: &[u64],
+    bucket: usize,
+    starts: &[u64],
+    lengths: &[u64],
+    arena: &[u8],
+    key: &[u8],
+    tag: u64,
+) -> FindStep
+    requires { ⌜ 8 * bucket + 8 ≤ length (now index) ⌝ }
+    ensures { λ r. ⌜ r ≡ scan (looksFrom (recordIn view (now (arena .entry)) (now (starts .entry)) (now (lengths .entry))) (now (arena .entry)) (now (key .entry)) tag (8 * bucket) (map wordSlot (take 8 (drop (8 * bucket) (now (index .entry)))))) ⌝ }
+{
+    let mut slot = bucket * BUCKET_SLOTS;
+    let mut left = BUCKET_SLOTS;
+    while left > 0 {
+        let step = find_in_slot(
+            view,
+            starts,
+            lengths,
+            arena,
+            key,
+            tag,
+            slot,
+            word_slot(index[slot]),
+        );
+        let FindStep::Next = step else {
+            return step;
+        };
+        slot += 1;
+        left -= 1;
+    }
+    FindStep::Next
+}
+
+// One slot: an empty one, or one whose record can't be read, ends the walk.
+fn find_in_slot(
+    view: SegmentView,
+    starts: &[u64],
+    lengths: &[u64],
+    arena: &[u8],
+    key: &[u8],
+    tag: u64,
+    slot: usize,
+    content: IndexSlot,
+) -> FindStep
+    ensures { λ r. ⌜ r ≡ stepOf (look (recordIn view (now (arena .entry)) (now (starts .entry)) (now (lengths .entry))) (now (arena .entry)) (now (key .entry)) tag slot content) ⌝ }
+{
+    let IndexSlot::Used(kept, stored) = content else {
+        return FindStep::Stop;
+    };
+    if kept != tag {
+        return FindStep::Next;
+    }
+    let RecordAnswer::Read(entry) = record_at_location(view, arena, starts, lengths, stored) else {
+        return FindStep::Stop;
+    };
+    let span = entry.key;
+    if same_bytes(value_slice(arena, span), key) {
+        return FindStep::Hit(FoundRecord { slot, entry });
+    }
+    FindStep::Next
+}
+
+// All candidates of the bucket, the lowest first; then an empty slot ends the walk.
+fn find_in_packed(
+    view: SegmentView,
+    index: &[u64],
+    buckets: usize,
+    bucket: usize,
+    starts: &[u64],
+    lengths: &[u64],
+    arena: &[u8],
+    key: &[u8],
+    tag: u64,
+) -> FindStep
+    requires { ⌜ (bucket < buckets) × (8 * buckets ≤ length (now index)) ⌝ }
+    ensures { λ r. ⌜ r ≡ sweptOut (looksFrom (recordIn view (now (arena .entry)) (now (starts .entry)) (now (lengths .entry))) (now (arena .entry)) (now (key .entry)) (packedTag tag) (8 * bucket) (packedBucket buckets (now (index .entry)) bucket)) ⌝ }
+{
+    let tags = index[bucket] & PACKED_CONTROL_TAG_BITS;
+    let repeated_tag = (packed_control_tag(tag) as u64) * BYTE_LOW_BITS;
+    let mut candidates = zero_byte_high_bits(tags ^ repeated_tag);
+    while candidates != 0 {
+        let offset = lowest_marked_byte(candidates);
+        let step = find_in_packed_slot(
+            view,
+            index,
+            buckets,
+            bucket,
+            offset,
+            starts,
+            lengths,
+            arena,
+            key,
+            tag,
+        );
+        let FindStep::Next = step else {
+            return step;
+        };
+        candidates = without_lowest_mark(candidates);
+    }
+    if zero_byte_high_bits(tags) != 0 {
+        return FindStep::Stop;
+    }
+    FindStep::Next
+}
+
+fn find_in_packed_slot(
+    view: SegmentView,
+    index: &[u64],
+    buckets: usize,
+    bucket: usize,
+    offset: usize,
+    starts: &[u64],
+    lengths: &[u64],
+    arena: &[u8],
+    key: &[u8],
+    tag: u64,
+) -> FindStep
+    requires { ⌜ (bucket < buckets) × (8 * buckets ≤ length (now index)) × (offset < 8) ⌝ }
+    ensures { λ r. ⌜ r ≡ stepOf (look (recordIn view (now (arena .entry)) (now (starts .entry)) (now (lengths .entry))) (now (arena .entry)) (now (key .entry)) (packedTag tag) (8 * bucket + offset) (getD (packedBucket buckets (now (index .entry)) bucket) offset slot.Empty)) ⌝ }
+{
+    let content = packed_slot_at(index, buckets, bucket, offset);
+    let kept = (packed_control_tag(tag) as u64) + 128 * (packed_secondary_tag(tag) as u64);
+    find_in_slot(
+        view,
+        starts,
+        lengths,
+        arena,
+        key,
+        kept,
+        bucket * BUCKET_SLOTS + offset,
+        content,
+    )
+}
+
+// A slot of the packed layout. The reference of slot 7 ends in the word that slot 6's begins.
+fn packed_slot_at(index: &[u64], buckets: usize, bucket: usize, offset: usize) -> IndexSlot
+    requires { ⌜ (bucket < buckets) × (8 * buckets ≤ length (now index)) × (offset < 8) ⌝ }
+    ensures { λ r. ⌜ r ≡ getD (packedBucket buckets (now (index .entry)) bucket) offset slot.Empty ⌝ }
+{
+    let at = buckets + 7 * bucket + offset;
+    let before = index[at - 1];
+    if offset == 7 {
+        return packed_slot(index[bucket], before, 0, offset);
+    }
+    packed_slot(index[bucket], before, index[at], offset)
+}
