@@ -26,10 +26,6 @@ bucketsFor records occupied = max 1 (ceilDiv records occupied)
 unfoldable pub cleared : List ℕ → ℕ → List ℕ
 cleared area count = pick (leb count (length area)) (replicate count 0 ++ drop count area) area
 
--- how far a bucket is past the first, around
-unfoldable pub displaced : ℕ → ℕ → ℕ → ℕ
-displaced primary current buckets = pick (leb primary current) (current - primary) (buckets - primary + current)
-
 -- ---- what a slot says to a push
 
 pub data Look : Type 0 where

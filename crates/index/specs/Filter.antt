@@ -3,7 +3,7 @@
 -- Assumes nothing.
 use mathlib.Core.Bool.{Bool, true, false}
 use mathlib.Core.List.{List}
-use Prim.Native.Nat.{ℕ, zero, suc, _+_, _/_, _%_, _^_}
+use Prim.Native.Nat.{ℕ, _+_, _-_, _/_, _%_, _^_}
 use lib.Bits.{bitAnd, bitOr}
 use lib.Dec.{eqb, leb}
 use lib.ListN.{length, getD, set}
@@ -39,6 +39,15 @@ usable filter words = pick (eqb words 0) false (leb words (length filter))
 unfoldable pub filterMarked : List ℕ → ℕ → ℕ → List ℕ
 filterMarked filter words h =
     pick (usable filter words) (set filter (filterWord words h) (bitOr (getD filter (filterWord words h) 0) (filterMask h))) filter
+
+-- how far a bucket is past the first, around
+unfoldable pub displaced : ℕ → ℕ → ℕ → ℕ
+displaced primary current buckets = pick (leb primary current) (current - primary) (buckets - primary + current)
+
+-- "Only records two or more buckets past their first are marked."
+unfoldable pub displacedMarked : List ℕ → ℕ → ℕ → ℕ → ℕ → List ℕ
+displacedMarked filter words h slot buckets =
+    pick (leb 2 (displaced (firstBucket h buckets) (slot / 8) buckets)) (filterMarked filter words h) filter
 
 -- whether a hash may have been marked
 unfoldable pub filterHas : List ℕ → ℕ → ℕ → Bool

@@ -10,7 +10,7 @@ use records::record::value_slice;
 ghost use mathlib.Core.Path.{_≡_};
 ghost use Prim.Native.Nat.{_+_, _*_, _<_, _≤_};
 ghost use lib.ListN.{length, take, drop};
-ghost use Rattle.index.specs.Build.{bucketsFor, cleared, displaced, nextBucket, buildRecord, holdsKey, looks, searched, buildSlot, emptySlot, never};
+ghost use Rattle.index.specs.Build.{bucketsFor, cleared, nextBucket, buildRecord, holdsKey, looks, searched, buildSlot, emptySlot, never};
 
 // What looking for a slot finds.
 pub enum BuildSlot {
@@ -47,19 +47,6 @@ pub fn clear_words(words: &mut [u64], count: usize)
         words[i] = 0;
         i += 1;
     }
-}
-
-// How many buckets past the first a slot's bucket is.
-pub fn bucket_displacement(primary: usize, current: usize, buckets: usize) -> usize
-    ensures { λ r. ⌜ r ≡ displaced primary current buckets ⌝ }
-{
-    if current >= primary {
-        return current - primary;
-    }
-    if buckets < primary {
-        return current;
-    }
-    buckets - primary + current
 }
 
 // The slot of a new record: the first empty one of its walk, unless a word of its tag before it

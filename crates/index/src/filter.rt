@@ -1,9 +1,12 @@
 // The negative filter: three bits in one word for each record that stands two or more buckets past
 // its first. Counts come from the state, never from the length of a longer area.
+use crate::word::BUCKET_SLOTS;
 ghost use mathlib.Core.Path.{_≡_};
 ghost use Prim.Native.Nat.{_-_, _*_, _^_, _<_, _≤_};
 ghost use Rattle.hash_parts.specs.Duration.{ceilDiv};
-ghost use Rattle.index.specs.Filter.{filterWord, filterMask, bitPast, filterMarked, filterHas};
+ghost use Rattle.index.specs.Filter.{filterWord, filterMask, bitPast, filterMarked, displaced, displacedMarked, filterHas};
+
+const NEGATIVE_FILTER_PREFIX_BUCKETS: usize = 2;
 
 // A word of the filter, and the bits of a hash in it.
 pub struct FilterLocation {
@@ -66,6 +69,31 @@ pub fn mark_negative_filter(filter: &mut [u64], words: usize, hash: u64)
     let location = negative_filter_location(words, hash);
     let word = location.word;
     filter[word] = filter[word] | location.mask;
+}
+
+// How many buckets past the first a slot's bucket is.
+pub fn bucket_displacement(primary: usize, current: usize, buckets: usize) -> usize
+    ensures { λ r. ⌜ r ≡ displaced primary current buckets ⌝ }
+{
+    if current >= primary {
+        return current - primary;
+    }
+    if buckets < primary {
+        return current;
+    }
+    buckets - primary + current
+}
+
+// Marks the hash of a record in a slot that is two or more buckets past its first: a lookup has by
+// then not met it, and asks.
+pub fn mark_displaced(filter: &mut [u64], words: usize, hash: u64, slot: usize, buckets: usize)
+    ensures { λ r. ⌜ now (filter .exit) ≡ displacedMarked (now (filter .entry)) words hash slot buckets ⌝ }
+{
+    let primary = hash_parts::hash::reduce_hash(hash, buckets);
+    if bucket_displacement(primary, slot / BUCKET_SLOTS, buckets) < NEGATIVE_FILTER_PREFIX_BUCKETS {
+        return;
+    }
+    mark_negative_filter(filter, words, hash);
 }
 
 // Whether a hash may have been marked. Without words every hash may.

@@ -3,17 +3,22 @@
 use mathlib.Core.Path.{_≡_}
 use mathlib.Core.Bool.{Bool, true, false, _&&_}
 use mathlib.Core.List.{List, [], _∷_}
-use Prim.Native.Nat.{ℕ, _*_, _-_, _^_}
+use Prim.Native.Nat.{ℕ, _+_, _*_, _-_, _^_, _<_}
 use native.Mathlib.Omega.{arith}
 use borrow.Author.Tests.{le-ltb}
 use lib.Dec.{T, eqb}
 use Rattle.hash_parts.specs.Choice.{pick}
 use Rattle.hash_parts.specs.Duration.{encodedExpiry, deadlineAt, livesAt}
-use Rattle.hash_parts.specs.Hash.{tagOf, firstBucket, controlTag, secondaryTag}
+use Rattle.hash_parts.specs.Hash.{tagOf, firstBucket, controlTag, secondaryTag, mixedHash, rotated}
 use Rattle.hash_parts.specs.Outcome.{Outcome}
 use Rattle.hash_parts.specs.ZeroBytes.{zeroMarks, zeroBytes, marks, bytesOf}
 use Rattle.hash_parts.specs.declared.duration.Lifetime.the-variants.{For}
 use Rattle.hash_parts.specs.declared.setting.SegmentExpiry.the-variants.{Relative16}
+use Rattle.index.specs.Filter.{bitPast, filterWord, filterMask}
+use Rattle.index.specs.Packed.{controlByte, referenceBytes}
+use Rattle.index.specs.Word.{wordOf}
+use Rattle.index.proofs.Filters.{filter-zero, mask-zero}
+use Rattle.index.proofs.PackedReads.{tags-alike}
 use Rattle.records.specs.Area.{sameBytes}
 use Rattle.records.specs.Uleb128.{uleb128, ulebIn}
 
@@ -46,14 +51,24 @@ pub p-trials : T
     ∷ eqb (controlTag (tagOf 0)) (controlTag 127)
     ∷ eqb (secondaryTag (tagOf 0)) (secondaryTag 127)
     ∷ eqb (zeroMarks 0x0100) 0x8080808080800080
+    ∷ eqb (filterWord 1 0) 0
+    ∷ eqb (filterMask 0) 7
     ∷ gives (ofLifetime 65534 0) 0 65534
     ∷ gives (ofLifetime 65534 1) 6 0
     ∷ gives (ofLifetime 0 0) 0 0
     ∷ []))
-unfolding uleb128 ulebIn sameBytes firstBucket zeroMarks zeroBytes marks bytesOf encodedExpiry deadlineAt
+unfolding uleb128 ulebIn sameBytes firstBucket zeroMarks zeroBytes marks bytesOf encodedExpiry deadlineAt filterWord filterMask bitPast mixedHash rotated
 p-trials = tt
 
 -- "lapsed from tick 0": a record with deadline 0 lives at no tick
 pub lapsed-from-start : (tick : ℕ) → livesAt 0 tick ≡ false
 unfolding livesAt
 lapsed-from-start tick = le-ltb tick 0 (omega arith)
+
+-- "Filter, hash 0: word 0, mask 7", whatever the number of words
+pub filter-of-zero : (words : ℕ) → (filterWord words 0 ≡ 0) × (filterMask 0 ≡ 7)
+filter-of-zero words = (filter-zero words, mask-zero)
+
+-- "in the packed index alike with hash 0": the tags 127 and 0 are kept alike, at every location
+pub kept-alike : (location : ℕ) → location + 1 < 2 ^ 40 → (referenceBytes (wordOf 127 location) ≡ referenceBytes (wordOf 0 location)) × (controlByte (wordOf 127 location) ≡ controlByte (wordOf 0 location))
+kept-alike location h = tags-alike location h

@@ -1,4 +1,6 @@
 // Document 01's trials, run: each line says what was asked and what came out.
+mod seventeen;
+
 use hash_parts::duration::Duration;
 use hash_parts::duration::EncodedExpiry;
 use hash_parts::duration::Lifetime;
@@ -88,6 +90,9 @@ fn hashes() {
         b"its rest",
         hash_parts::hash::packed_secondary_tag(0) as u64,
     );
+    let spot = index::filter::negative_filter_location(1, 0);
+    show::number(b"filter, hash 0: word", spot.word as u64);
+    show::number(b"its mask", spot.mask);
     show::hex(
         b"zero bytes of 0x0100",
         hash_parts::zero_bytes::zero_byte_high_bits(0x0100),
@@ -118,4 +123,5 @@ fn main() {
     show::text(b"arena:");
     show::front(&arena, filled);
     show::text(b"\n");
+    seventeen::run();
 }

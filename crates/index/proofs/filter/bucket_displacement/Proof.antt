@@ -2,9 +2,9 @@
 use native.Mathlib.Omega.{arith}
 use borrow.Author.Tests.{le-leb, lt-leb}
 use borrow.Author.Needs.{needs}
-use Rattle.index.specs.Build.{displaced}
-use Rattle.index.proofs.build.bucket_displacement.Statement.{statement}
-use Rattle.index.proofs.build.bucket_displacement.Tie as tie
+use Rattle.index.specs.Filter.{displaced}
+use Rattle.index.proofs.filter.bucket_displacement.Statement.{statement}
+use Rattle.index.proofs.filter.bucket_displacement.Tie as tie
 
 returns : tie.Need-returns
 unfolding displaced
