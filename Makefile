@@ -14,3 +14,4 @@ soak:
 	tests/differential/run long
 	tests/wrong_answers/run hash_parts
 	tests/wrong_answers/run records
+	tests/wrong_answers/run index

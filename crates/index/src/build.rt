@@ -134,7 +134,8 @@ fn holds_key(word: u64, records: &[u8], expiry: SegmentExpiry, key: &[u8], tag: 
         return false;
     };
     let span = record.key;
-    same_bytes(value_slice(records, span), key)
+    let stored_key = value_slice(records, span);
+    same_bytes(stored_key, key)
 }
 
 // The slot of a record whose key may stand in the index already.

@@ -1,5 +1,5 @@
 -- The answers of the lower calls as numbers and words. Assumes nothing.
-use Prim.Native.Nat.{ℕ, _+_}
+use Prim.Native.Nat.{ℕ, _+_, _^_}
 use mathlib.Core.Bool.{Bool, true, false}
 use mathlib.Core.List.{List, [], _∷_}
 use lib.Dec.{eqb, leb, ltb}
@@ -13,6 +13,11 @@ use Rattle.hash_parts.specs.declared.duration.SegmentRemainingTtl.{SegmentRemai
 use Rattle.hash_parts.specs.declared.duration.SegmentRemainingTtl.the-variants as left
 use Rattle.hash_parts.specs.declared.setting.SegmentExpiry.{SegmentExpiry}
 use Rattle.hash_parts.specs.declared.setting.SegmentExpiry.the-variants.{None, Relative16}
+use Rattle.index.specs.declared.build.BuildSlot.{BuildSlot}
+use Rattle.index.specs.declared.build.BuildSlot.the-variants as slot
+use Rattle.index.specs.declared.find.FindAnswer.{FindAnswer}
+use Rattle.index.specs.declared.find.FindAnswer.the-variants as found
+use Rattle.index.specs.declared.view.SegmentView.{SegmentView}
 use Rattle.records.specs.Area.{over}
 use Rattle.records.specs.declared.record.RecordAnswer.{RecordAnswer}
 use Rattle.records.specs.declared.record.RecordAnswer.the-variants as record-answer
@@ -34,11 +39,20 @@ lifetimeOf finite secs nanos = pick finite (life.For (durationOf secs nanos)) li
 abbrev pub spanOf : ℕ → ℕ → Span
 spanOf at len = record { at = at; len = len }
 
+abbrev pub viewOf : Bool → ℕ → ℕ → SegmentView
+viewOf on filled segments = record { expiry = expiryOf on 1 0; filled = filled; segments = segments }
+
 -- ---- what comes out
 
 -- an answer as one number: its value, or a base and the refusal's number
 unfoldable pub codeOf : ℕ → Outcome → ℕ
 codeOf base o = pick (eqb (o .number) 0) (o .value) (base + o .number)
+
+-- a slot as one number: itself, or 2^63 and 4 for a duplicate, 3 for a full index
+abbrev pub slotCode : BuildSlot → ℕ
+slotCode (slot.Empty i) = i
+slotCode slot.Duplicate = 2 ^ 63 + 4
+slotCode slot.Full = 2 ^ 63 + 3
 
 -- lent words with these written over their front where all of them fit; else as they were
 unfoldable pub placed : List ℕ → List ℕ → List ℕ
@@ -76,6 +90,11 @@ abbrev pub recordTold : RecordAnswer → Told Bool
 recordTold record-answer.Unreadable = told false []
 recordTold (record-answer.Read r) =
     told true (r .location ∷ r .«key_offset» ∷ r .key .at ∷ r .key .len ∷ r .value .at ∷ r .value .len ∷ r .«expires_at» ∷ [])
+
+-- whether there is a record of the key; its slot, and the words of the record
+abbrev pub foundTold : FindAnswer → Told Bool
+foundTold found.Nothing = told false []
+foundTold (found.Found f) = told true (f .slot ∷ recordTold (record-answer.Read (f .entry)) .words)
 
 -- the byte at i, or 256 past the end
 unfoldable pub byteOr256 : List ℕ → ℕ → ℕ
