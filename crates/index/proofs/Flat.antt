@@ -1,12 +1,12 @@
 -- Slots in a row and slots by buckets: the buckets of a walk, one after the other, are the slots from the first bucket's on, around. Assumes nothing.
 use mathlib.Core.Path.{_≡_, refl, sym, ap, ap₂, _∙_}
 use mathlib.Core.Bool.{Bool, true, false}
-use mathlib.Core.List.{List, [], _∷_, _++_, map, map-append, flatten, append-nil}
+use mathlib.Core.List.{List, [], _∷_, _++_, map, map-append, flatten}
 use Prim.Native.Nat.{ℕ, zero, suc, _+_, _-_, _*_, _≤_, _<_}
 use native.Mathlib.Nat.{add-zero}
 use native.Mathlib.Omega.{arith}
 use lib.ListN.{length, take, drop, length-drop}
-use lib.Seq.{take-at, take-nil, take-take, drop-at, drop-drop, length-take-le}
+use lib.Seq.{take-at, take-take, drop-at, drop-drop, length-take-le}
 use Rattle.hash_parts.specs.Choice.{pick}
 use Rattle.index.specs.Find.{slotsOf}
 use Rattle.index.specs.Packed.{packedBucket, packedBuckets}
@@ -16,7 +16,7 @@ use Rattle.index.specs.declared.slot.IndexSlot.{IndexSlot}
 use Rattle.index.proofs.Around.{around, walk-around}
 use Rattle.index.proofs.PackedReads.{bucket-length}
 use Rattle.index.proofs.Views.{part-front}
-use Rattle.index.proofs.Walks.{walk-flat, next-below}
+use Rattle.index.proofs.Walks.{drop-take, walk-flat, next-below}
 
 module _ {A B : Type 0} (f : A → B) where
   map-take : (n : ℕ) (l : List A) → map f (take n l) ≡ take n (map f l)
@@ -47,11 +47,6 @@ module _ {A : Type 0} where
       let e : 8 * a + 8 ≡ 8 * suc a = omega arith in
       ap (λ (r : List (List A)). bucketAt l a ∷ r) (buckets-up l (suc a) n ∙ ap (bucketsOf n) (ap (λ (k : ℕ). drop k l) (sym e) ∙ sym (drop-drop 8 (8 * a) l)))
 
-  drop-take : (a n : ℕ) (l : List A) → drop a (take (a + n) l) ≡ take n (drop a l)
-  drop-take zero n l = let e : 0 + n ≡ n = omega arith in rw e
-  drop-take (suc a) n [] = let e : suc a + n ≡ suc (a + n) = omega arith in rw e (sym (take-nil n))
-  drop-take (suc a) n (x ∷ l) = let e : suc a + n ≡ suc (a + n) = omega arith in rw e (drop-take a n l)
-
   buckets-front : (n : ℕ) (l : List A) → bucketsOf n (take (8 * n) l) ≡ bucketsOf n l
   unfolding bucketsOf
   buckets-front zero l = refl
@@ -67,11 +62,6 @@ module _ {A : Type 0} where
   walk-slots l buckets f h =
       ap flatten (map-rot (bucketAt l) f (upFrom 0 buckets) ∙ ap (rot f) (buckets-up l 0 buckets ∙ sym (buckets-front buckets l)))
       ∙ walk-flat (take (8 * buckets) l) buckets f (length-take-le (8 * buckets) l h)
-
-  pub buckets-flat : (buckets : ℕ) (l : List A) → 8 * buckets ≤ length l → flatten (bucketsOf buckets l) ≡ take (8 * buckets) l
-  buckets-flat buckets l h =
-      let s : List A = take (8 * buckets) l in
-      ap flatten (sym (buckets-front buckets l) ∙ sym (append-nil (bucketsOf buckets s))) ∙ walk-flat s buckets 0 (length-take-le (8 * buckets) l h) ∙ append-nil s
 
 -- ---- the slots of a finished index
 

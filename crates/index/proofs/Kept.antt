@@ -22,7 +22,8 @@ use Rattle.index.specs.Word.{wordTag, wordStored, marked, unmarked}
 use Rattle.index.specs.declared.slot.IndexSlot.{IndexSlot}
 use Rattle.index.specs.declared.slot.IndexSlot.the-variants.{Empty, Used}
 use Rattle.index.proofs.Entries.{new-slot, Cell, cell-empty, cell-used, Indexed, none-indexed, slots-mapped, reheld, words-long}
-use Rattle.index.proofs.Flat.{buckets-flat, indexSlots}
+use Rattle.index.proofs.Flat.{indexSlots}
+use Rattle.index.proofs.Walks.{flatten-buckets}
 use Rattle.index.proofs.PackedReads.{packed-read, mark-hidden, clear-hidden}
 use Rattle.index.proofs.Words.{marked-tag, marked-stored, unmarked-tag, unmarked-stored}
 
@@ -50,7 +51,7 @@ pub packed-slots : (buckets : ℕ) (index : List ℕ) → 8 * buckets ≤ length
 packed-slots buckets index long =
     ap flatten (packed-read buckets index long)
     ∙ flatten-map (λ w. repacked (wordSlot w)) (bucketsOf buckets index)
-    ∙ ap (map (λ w. repacked (wordSlot w))) (buckets-flat buckets index long)
+    ∙ ap (map (λ w. repacked (wordSlot w))) (flatten-buckets buckets index)
     ∙ sym (map-map repacked wordSlot (take (8 * buckets) index))
 
 -- ---- words of the same slots

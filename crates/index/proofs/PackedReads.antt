@@ -20,7 +20,8 @@ use Rattle.index.specs.Word.{wordOf, wordTag, wordStored}
 use Rattle.index.specs.declared.slot.IndexSlot.the-variants.{Empty, Used}
 use Rattle.index.proofs.Bytes.{Bytes, no-bytes, one-byte, bytes-append, bytes-take, bytes-drop, bytes-set, bytes-of, length-bytes, bytes-number, number-bytes, below-eight}
 use Rattle.index.proofs.Packing.{control-small, reference-bytes, length-reference}
-use Rattle.index.proofs.PackingLoop.{length-buckets, length-references, wordsFrom, words-from}
+use Rattle.index.proofs.Walks.{length-buckets}
+use Rattle.index.proofs.PackingLoop.{length-references, wordsFrom, words-from}
 
 -- ---- a bucket packed and read back
 

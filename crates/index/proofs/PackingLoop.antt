@@ -3,24 +3,20 @@ use mathlib.Core.Path.{_≡_, refl, sym, ap, ap₂, _∙_}
 use mathlib.Core.Bool.{Bool, true, false}
 use mathlib.Core.List.{List, [], _∷_, _++_, map, append-assoc}
 use Prim.Native.Nat.{ℕ, zero, suc, _+_, _-_, _*_, _≤_, _<_}
-use native.Mathlib.Nat.{add-zero, sub-zero, sub-self, mul-comm, suc-add, zero-add, not-suc-le-zero, le-of-suc-le-suc}
+use native.Mathlib.Nat.{add-zero, sub-zero, sub-self, mul-comm, not-suc-le-zero, le-of-suc-le-suc}
 use native.Mathlib.Numerals.{add-one, add-two, add-three, add-four, add-five, add-six, add-seven}
 use native.Mathlib.Omega.{arith}
 use borrow.Author.Tests.{le-leb, lt-leb}
 use lib.ListN.{length, getD, take, drop, set, length-append, length-drop, length-set, length-map}
 use lib.Dec.{leb}
-use lib.Seq.{take-nil, drop-cons, take-suc, set-at, take-at, drop-at, drop-drop, take-take, take-append-le, length-take-le}
+use lib.Seq.{drop-cons, take-suc, set-at, take-at, drop-at, drop-drop, take-take, take-append-le, length-take-le}
 use Rattle.hash_parts.specs.Choice.{pick}
 use Rattle.records.specs.Area.{pasted}
 use Rattle.index.specs.Packed.{concatMap, referenceBytes, controlWord, controlWords, wordsOf, referenceWords, packed, packedIndex, packedScratch}
 use Rattle.index.specs.Walk.{bucketsOf}
+use Rattle.index.proofs.Walks.{drop-take, length-buckets}
 
 -- ---- parts of lists
-
-drop-take : (n m : ℕ) (l : List ℕ) → drop n (take (n + m) l) ≡ take m (drop n l)
-drop-take zero m l = rw (zero-add m)
-drop-take (suc n) m [] = rw (suc-add n m) (sym (take-nil m))
-drop-take (suc n) m (x ∷ l) = rw (suc-add n m) (drop-take n m l)
 
 drop-set-here : (l : List ℕ) (i a : ℕ) → i < length l → drop i (set l i a) ≡ a ∷ drop (suc i) l
 drop-set-here [] i a h = absurd (not-suc-le-zero h)
@@ -63,12 +59,6 @@ bucket-words l b h =
     rw (mul-comm 8 b, add-one at, add-two at, add-three at, add-four at, add-five at, add-six at, add-seven at) (words-from 8 at l (omega arith))
 
 -- ---- buckets
-
-module _ {A : Type 0} where
-  pub length-buckets : (n : ℕ) (l : List A) → length (bucketsOf n l) ≡ n
-  unfolding bucketsOf
-  length-buckets zero l = refl
-  length-buckets (suc n) l = ap suc (length-buckets n (drop 8 l))
 
 pub length-words : (n : ℕ) (l : List ℕ) → length (wordsOf n l) ≡ n
 unfolding wordsOf

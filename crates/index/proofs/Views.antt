@@ -7,7 +7,7 @@ use Prim.Native.Nat.{ℕ, zero, suc, _+_, _-_, _/_, _%_, _^_, _≤_, _<_, min}
 use native.Mathlib.Omega.{arith}
 use lib.Dec.{leb, ltb}
 use lib.ListN.{length, take, drop, getD, length-take, length-drop}
-use lib.Seq.{take-nil, take-take, drop-drop}
+use lib.Seq.{take-take, drop-drop}
 use borrow.Author.Tests.{le-leb, lt-leb, lt-ltb, le-ltb, leb-true}
 use Rattle.hash_parts.specs.Choice.{pick}
 use Rattle.hash_parts.specs.declared.setting.SegmentExpiry.{SegmentExpiry}
@@ -19,19 +19,15 @@ use Rattle.records.specs.declared.record.RecordRef.{RecordRef}
 use Rattle.records.proofs.Stored.{record-inside}
 use Rattle.index.specs.View.{refMoved, answerMoved, inSegment, isSegment, recordIn, storedIn}
 use Rattle.index.specs.declared.view.SegmentView.{SegmentView}
+use Rattle.index.proofs.Walks.{drop-take}
 
 -- ---- parts of lists
 
-module _ {A : Type 0} where
-  drop-take : (a n : ℕ) (l : List A) → drop a (take n l) ≡ take (n - a) (drop a l)
-  drop-take zero n l = let e : n - 0 ≡ n = omega arith in rw e
-  drop-take (suc a) zero l = let e : 0 - suc a ≡ 0 = omega arith in rw e
-  drop-take (suc a) (suc n) [] = sym (take-nil (suc n - suc a))
-  drop-take (suc a) (suc n) (x ∷ l) = let e : suc n - suc a ≡ n - a = omega arith in rw e (drop-take a n l)
-
 -- a part of the front is a part of the whole
 pub part-front : (at len n : ℕ) (s : List ℕ) → at + len ≤ n → part at len (take n s) ≡ part at len s
-part-front at len n s h = ap (take len) (drop-take at n s) ∙ take-take len (n - at) (drop at s) (omega arith)
+part-front at len n s h =
+    let e : at + (n - at) ≡ n = omega arith in
+    ap (take len) (ap (λ (k : ℕ). drop at (take k s)) (sym e) ∙ drop-take at (n - at) s) ∙ take-take len (n - at) (drop at s) (omega arith)
 
 -- a part of a part
 pub part-part : (start len at n : ℕ) (s : List ℕ) → at + n ≤ len → part at n (part start len s) ≡ part (start + at) n s

@@ -2,12 +2,12 @@
 use mathlib.Core.Path.{_≡_, refl, sym, ap, ap₂, _∙_}
 use mathlib.Core.List.{List, [], _∷_, _++_, append-assoc, flatten}
 use Prim.Native.Nat.{ℕ, zero, suc, _+_, _-_, _*_, _≤_, _<_}
-use native.Mathlib.Nat.{not-suc-le-zero, add-zero, add-suc}
+use native.Mathlib.Nat.{add-suc, add-zero, not-suc-le-zero, suc-add, zero-add}
 use native.Mathlib.Decide.{decLe}
 use native.Mathlib.Numerals.{add-one}
 use native.Mathlib.Omega.{arith}
 use lib.ListN.{length, take, drop, getD, length-drop, drop-of-length-le}
-use lib.Seq.{take-all, take-add, take-at, take-take, drop-at, drop-drop, drop-cons}
+use lib.Seq.{drop-at, drop-cons, drop-drop, take-add, take-all, take-at, take-nil, take-take}
 use borrow.Author.Tests.{le-leb, lt-leb}
 use Rattle.index.specs.Build.{nextBucket}
 use Rattle.index.specs.Walk.{bucketsOf, rot}
@@ -36,6 +36,11 @@ next-below b buckets h = omega (arith, next-within b buckets)
 -- ---- parts of lists
 
 module _ {A : Type 0} where
+  pub drop-take : (a n : ℕ) (l : List A) → drop a (take (a + n) l) ≡ take n (drop a l)
+  drop-take zero n l = rw (zero-add n)
+  drop-take (suc a) n [] = rw (suc-add a n) (sym (take-nil n))
+  drop-take (suc a) n (x ∷ l) = rw (suc-add a n) (drop-take a n l)
+
   -- one slot more of a bucket, for the loop over its slots
   pub part-cons : (l : List A) (n i : ℕ) (d : A) → 0 < n → i < length l → take n (drop i l) ≡ getD l i d ∷ take (n - 1) (drop (i + 1) l)
   part-cons l zero i d h k = absurd (not-suc-le-zero h)
@@ -71,7 +76,7 @@ module _ {A : Type 0} where
   flatten-append [] t = refl
   flatten-append (x ∷ s) t = ap (λ (r : List A). x ++ r) (flatten-append s t) ∙ sym (append-assoc x (flatten s) (flatten t))
 
-  flatten-buckets : (n : ℕ) (l : List A) → flatten (bucketsOf n l) ≡ take (8 * n) l
+  pub flatten-buckets : (n : ℕ) (l : List A) → flatten (bucketsOf n l) ≡ take (8 * n) l
   unfolding flatten bucketsOf
   flatten-buckets zero l = refl
   flatten-buckets (suc n) l =

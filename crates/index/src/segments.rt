@@ -1,4 +1,5 @@
 // Splitting the filled arena into segments that begin at records.
+use crate::build::clear_words;
 use crate::word::BUCKET_SLOTS;
 use crate::word::encode_index_word;
 use crate::word::index_location;
@@ -124,11 +125,7 @@ fn clear_segments(area: &mut [u64])
     requires { ⌜ 256 ≤ length (now area) ⌝ }
     ensures { λ r. ⌜ now (area .exit) ≡ replaced (padded []) (now (area .entry)) ⌝ }
 {
-    let mut i = 0;
-    while i < MAX_RECORD_SEGMENTS {
-        area[i] = 0;
-        i += 1;
-    }
+    clear_words(area, MAX_RECORD_SEGMENTS);
 }
 
 // Writes the starts, of 257 the first 256, and says how many there are.
