@@ -2,7 +2,7 @@
 use mathlib.Core.Path.{_≡_, refl, sym, ap, ap₂, _∙_}
 use mathlib.Core.Bool.{Bool, true, false}
 use mathlib.Core.List.{List, [], _∷_, _++_, append-assoc, append-nil}
-use Prim.Native.Nat.{ℕ, _+_, _-_, _≤_, _<_}
+use Prim.Native.Nat.{ℕ, _+_, _*_, _-_, _≤_, _<_}
 use native.Mathlib.Nat.{le-of-eq}
 use native.Mathlib.Numerals.{add-one}
 use native.Mathlib.Omega.{arith}
@@ -10,10 +10,10 @@ use borrow.Author.Tests.{eqb-true, eq-eqb, ne-eqb, le-leb, lt-leb}
 use borrow.Rule.Slice.PartMut.{putMid}
 use lib.Dec.{eqb}
 use lib.ListN.{length, getD, take, drop, set, length-append, length-drop, drop-of-length-le}
-use lib.Seq.{take-all, take-at, drop-at, drop-drop, set-at, drop-cons}
+use lib.Seq.{take-all, take-at, drop-at, drop-drop, set-at, drop-cons, getD-drop}
 use Rattle.hash_parts.specs.Choice.{pick}
 use Rattle.hash_parts.specs.declared.error.SegmentCacheBuildError.the-variants.{AreaTooShort}
-use Rattle.records.specs.Area.{over, pasted, writeResult, written, spanned, sameBytes}
+use Rattle.records.specs.Area.{wordIn, over, pasted, writeResult, written, spanned, sameBytes}
 use Rattle.records.specs.declared.record.Span.{Span}
 use Rattle.records.specs.declared.varint.WriteAnswer.the-variants as write
 
@@ -160,3 +160,50 @@ same-differ a b i h k ne = same-step a b i h k ∙ rw (ne-eqb (getD a i 0) (getD
 pub same-end : (a b : List ℕ) (i : ℕ) → length a ≤ i → length b ≤ i → sameBytes (drop i a) (drop i b) ≡ true
 unfolding sameBytes
 same-end a b i h k = rw (drop-of-length-le a h, drop-of-length-le b k)
+
+-- ---- eight bytes at a time
+
+digit : (a b x y : ℕ) → a < 256 → b < 256 → a + 256 * x ≡ b + 256 * y → (a ≡ b) × (x ≡ y)
+digit a b x y h k e = (omega arith, omega arith)
+
+module _ (a b : List ℕ) (i : ℕ) (h : i + 8 ≤ length a) (k : i + 8 ≤ length b) where
+  pub same-words : ((j : ℕ) → getD a j 0 < 256) → ((j : ℕ) → getD b j 0 < 256) → wordIn a i ≡ wordIn b i → sameBytes (drop i a) (drop i b) ≡ sameBytes (drop (i + 8) a) (drop (i + 8) b)
+  same-words f g e =
+      let d₀ = digit (getD a i 0) (getD b i 0) _ _ (f i) (g i) e in
+      let d₁ = digit (getD a (i + 1) 0) (getD b (i + 1) 0) _ _ (f (i + 1)) (g (i + 1)) (d₀ .1) in
+      let d₂ = digit (getD a (i + 2) 0) (getD b (i + 2) 0) _ _ (f (i + 2)) (g (i + 2)) (d₁ .1) in
+      let d₃ = digit (getD a (i + 3) 0) (getD b (i + 3) 0) _ _ (f (i + 3)) (g (i + 3)) (d₂ .1) in
+      let d₄ = digit (getD a (i + 4) 0) (getD b (i + 4) 0) _ _ (f (i + 4)) (g (i + 4)) (d₃ .1) in
+      let d₅ = digit (getD a (i + 5) 0) (getD b (i + 5) 0) _ _ (f (i + 5)) (g (i + 5)) (d₄ .1) in
+      let d₆ = digit (getD a (i + 6) 0) (getD b (i + 6) 0) _ _ (f (i + 6)) (g (i + 6)) (d₅ .1) in
+      same-next a b i (omega arith) (omega arith) (d₀ .0)
+      ∙ next 1 (omega arith) (d₁ .0)
+      ∙ next 2 (omega arith) (d₂ .0)
+      ∙ next 3 (omega arith) (d₃ .0)
+      ∙ next 4 (omega arith) (d₄ .0)
+      ∙ next 5 (omega arith) (d₅ .0)
+      ∙ next 6 (omega arith) (d₆ .0)
+      ∙ next 7 (omega arith) (d₆ .1)
+    where
+      next : (n : ℕ) → n < 8 → getD a (i + n) 0 ≡ getD b (i + n) 0 → sameBytes (drop (i + n) a) (drop (i + n) b) ≡ sameBytes (drop (i + (n + 1)) a) (drop (i + (n + 1)) b)
+      next n l e =
+          let s : i + n + 1 ≡ i + (n + 1) = omega arith in
+          same-next a b (i + n) (omega arith) (omega arith) e ∙ ap (λ (m : ℕ). sameBytes (drop m a) (drop m b)) s
+
+  pub words-differ : (wordIn a i ≡ wordIn b i → ⊥) → sameBytes (drop i a) (drop i b) ≡ false
+  words-differ n = go (sameBytes (drop i a) (drop i b)) refl
+    where
+      at : (l : List ℕ) (j : ℕ) → getD l (i + j) 0 ≡ getD (drop i l) j 0
+      at l j = sym (getD-drop i l j 0)
+
+      go : (t : Bool) → sameBytes (drop i a) (drop i b) ≡ t → t ≡ false
+      go false e = refl
+      go true e = absurd (n (words (same-true (drop i a) (drop i b) e)))
+        where
+          byte : drop i a ≡ drop i b → (j : ℕ) → getD a (i + j) 0 ≡ getD b (i + j) 0
+          byte s j = at a j ∙ ap (λ (l : List ℕ). getD l j 0) s ∙ sym (at b j)
+
+          words : drop i a ≡ drop i b → wordIn a i ≡ wordIn b i
+          words s =
+              let z : i + 0 ≡ i = omega arith in
+              omega (arith, rw z at (byte s 0), byte s 1, byte s 2, byte s 3, byte s 4, byte s 5, byte s 6, byte s 7)

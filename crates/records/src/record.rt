@@ -8,9 +8,9 @@ use hash_parts::error::SegmentCacheBuildError;
 use hash_parts::setting::SegmentExpiry;
 ghost use mathlib.Core.Path.{_≡_};
 ghost use Prim.Native.Nat.{_+_, _<_, _≤_};
-ghost use lib.ListN.{length};
+ghost use lib.ListN.{drop, getD, length};
 ghost use Rattle.hash_parts.specs.Setting.{bytesPerRecord};
-ghost use Rattle.records.specs.Area.{over, pasted, sameBytes, spanned, writeResult, written};
+ghost use Rattle.records.specs.Area.{over, pasted, sameBytes, spanned, wordIn, writeResult, written};
 ghost use Rattle.records.specs.Record.{deadlineBytes, deadlineIn, encodedSize, recordAt, recordBytes, recordOf, sizeOutcome};
 ghost use Rattle.records.specs.Uleb128.{uleb128};
 
@@ -205,6 +205,7 @@ fn wide(byte: u8) -> u16
     byte as u16
 }
 
+// Eight bytes at a time: what compiles to the load and compare of one word.
 pub fn same_bytes(a: &[u8], b: &[u8]) -> bool
     ensures { λ r. ⌜ r ≡ sameBytes (now (a .entry)) (now (b .entry)) ⌝ }
 {
@@ -212,6 +213,43 @@ pub fn same_bytes(a: &[u8], b: &[u8]) -> bool
         return false;
     }
     let mut i = 0;
+    while a.len() - i >= 8 {
+        if word_at(a, i) != word_at(b, i) {
+            return false;
+        }
+        i += 8;
+    }
+    same_rest(a, b, i)
+}
+
+// Eight bytes as one number.
+fn word_at(bytes: &[u8], at: usize) -> u64
+    requires { ⌜ at + 8 ≤ length (now bytes) ⌝ }
+    ensures { λ r. ⌜ r ≡ wordIn (now (bytes .entry)) at ⌝ }
+{
+    byte_at(bytes, at)
+        + byte_at(bytes, at + 1) * 0x100
+        + byte_at(bytes, at + 2) * 0x1_0000
+        + byte_at(bytes, at + 3) * 0x100_0000
+        + byte_at(bytes, at + 4) * 0x1_0000_0000
+        + byte_at(bytes, at + 5) * 0x100_0000_0000
+        + byte_at(bytes, at + 6) * 0x1_0000_0000_0000
+        + byte_at(bytes, at + 7) * 0x100_0000_0000_0000
+}
+
+fn byte_at(bytes: &[u8], at: usize) -> u64
+    requires { ⌜ at < length (now bytes) ⌝ }
+    ensures { λ r. ⌜ (r ≡ getD (now (bytes .entry)) at 0) × (r < 256) ⌝ }
+{
+    bytes[at] as u64
+}
+
+// The bytes from a position on, one by one.
+fn same_rest(a: &[u8], b: &[u8], from: usize) -> bool
+    requires { ⌜ length (now a) ≡ length (now b) ⌝ }
+    ensures { λ r. ⌜ r ≡ sameBytes (drop from (now (a .entry))) (drop from (now (b .entry))) ⌝ }
+{
+    let mut i = from;
     while i < a.len() {
         if a[i] != b[i] {
             return false;

@@ -1,36 +1,39 @@
 -- `same_bytes` meets its contract: the bytes left are the same where all are. Assumes nothing.
 use mathlib.Core.Path.{_≡_, refl, sym, _∙_}
-use Prim.Native.Nat.{_-_}
+use Prim.Native.Nat.{ℕ, _+_, _-_, _≤_}
 use native.Mathlib.Omega.{arith}
 use lib.ListN.{length, drop}
 use Rattle.records.specs.Area.{sameBytes}
-use Rattle.records.proofs.Area.{same-lengths, same-next, same-differ, same-end}
+use Rattle.records.proofs.Area.{same-lengths, same-words, words-differ}
 use Rattle.records.proofs.record.same_bytes.Statement.{statement}
 use Rattle.records.proofs.record.same_bytes.Tie as tie
 
 abbrev Inv-loop : tie.InvT-loop
-Inv-loop a b i₀ i = sameBytes a b ≡ sameBytes (drop i a) (drop i b)
+Inv-loop a b i₀ i = (i ≤ length a) × (sameBytes a b ≡ sameBytes (drop i a) (drop i b))
 
 abbrev μ-loop : tie.MeasureT-loop
 μ-loop a b i₀ i = length a - i
 
 returns : tie.Need-returns Inv-loop μ-loop
-returns c = sym (same-lengths (c .before .args .a .now) (c .before .args .b .now) (c .if1 .taken))
+returns c = sym (same-lengths (c .before .before .before .args .a .now) (c .before .before .before .args .b .now) (c .if1 .taken))
 
 loop-holds : tie.Need-loop-holds Inv-loop μ-loop
-loop-holds c = refl
+loop-holds c = (omega arith, refl)
 
-shared-slice-read-if2 : tie.Need-shared-slice-read-if2 Inv-loop μ-loop
-shared-slice-read-if2 c = omega arith
+sub-loop : tie.Need-sub-loop Inv-loop μ-loop
+sub-loop c = omega arith
 
-shared-slice-read-if2-2 : tie.Need-shared-slice-read-if2-2 Inv-loop μ-loop
-shared-slice-read-if2-2 c = omega arith
+word-at-requires : tie.Need-word-at-requires Inv-loop μ-loop
+word-at-requires c κs = omega arith
+
+word-at-requires-2 : tie.Need-word-at-requires-2 Inv-loop μ-loop
+word-at-requires-2 c κs = omega arith
 
 returns-2 : tie.Need-returns-2 Inv-loop μ-loop
 returns-2 c =
     let l = c .before .before .before .before .loop in
-    let a = c .before .before .before .before .before .before .args in
-    sym (l .inv ∙ same-differ (a .a .now) (a .b .now) (l .i) (c .before .before .before .loop-test .taken) (omega arith) (c .if2 .taken))
+    let a = c .before .before .before .before .before .before .before .before .args in
+    sym (l .inv .1 ∙ words-differ (a .a .now) (a .b .now) (l .i) (omega arith) (omega arith) (λ e. c .if2 .taken (c .before .before .word-at .ensures ∙ e ∙ sym (c .before .word-at2 .ensures))))
 
 add-i : tie.Need-add-i Inv-loop μ-loop
 add-i c = omega arith
@@ -41,13 +44,14 @@ loop-less c = omega arith
 loop-again : tie.Need-loop-again Inv-loop μ-loop
 loop-again c =
     let l = c .before .before .before .before .loop in
-    let a = c .before .before .before .before .before .before .args in
-    l .inv ∙ same-next (a .a .now) (a .b .now) (l .i) (c .before .before .before .loop-test .taken) (omega arith) (c .if2 .left)
+    let a = c .before .before .before .before .before .before .before .before .args in
+    (omega arith, l .inv .1 ∙ same-words (a .a .now) (a .b .now) (l .i) (omega arith) (omega arith) (λ j. c .before .before .before .before .before .before .before .shared-slice-known .given j .fits) (λ j. c .before .before .before .before .before .before .shared-slice-known2 .given j .fits) (sym (c .before .before .word-at .ensures) ∙ c .if2 .left ∙ c .before .word-at2 .ensures))
+
+same-rest-requires : tie.Need-same-rest-requires Inv-loop μ-loop
+same-rest-requires c κs = omega arith
 
 returns-3 : tie.Need-returns-3 Inv-loop μ-loop
-returns-3 c =
-    let a = c .before .before .before .args in
-    sym (c .before .loop .inv ∙ same-end (a .a .now) (a .b .now) (c .before .loop .i) (c .loop-test .left) (omega arith))
+returns-3 c = c .same-rest .ensures ∙ sym (c .before .before .loop .inv .1)
 
 pub same-bytes-spec : {M : Type 1} → statement M
 same-bytes-spec =
@@ -57,10 +61,12 @@ same-bytes-spec =
     μ-loop
     returns
     loop-holds
-    shared-slice-read-if2
-    shared-slice-read-if2-2
+    sub-loop
+    word-at-requires
+    word-at-requires-2
     returns-2
     add-i
     loop-less
     loop-again
+    same-rest-requires
     returns-3)
