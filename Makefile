@@ -1,4 +1,4 @@
-.PHONY: run test soak
+.PHONY: run test soak bench
 
 # Proves and builds the trials program and runs it.
 run:
@@ -15,3 +15,7 @@ soak:
 	tests/wrong_answers/run hash_parts
 	tests/wrong_answers/run records
 	tests/wrong_answers/run index
+
+# Speed beside the Rust, as ratios.
+bench:
+	bench/run

@@ -6,7 +6,7 @@ pub mod access {
     pub const SEGMENT_TARGET: usize = TARGET_RECORD_SEGMENT_BYTES;
 
     // The number that the port gives to the same refusal.
-    fn number(refusal: SegmentCacheBuildError) -> u64 {
+    pub(super) fn number(refusal: SegmentCacheBuildError) -> u64 {
         match refusal {
             SegmentCacheBuildError::InvalidBucketOccupancy => 1,
             SegmentCacheBuildError::ZeroExpiryTick => 2,
@@ -19,7 +19,7 @@ pub mod access {
         }
     }
 
-    fn expiry(tick: Option<Duration>) -> SegmentExpiry {
+    pub(super) fn expiry(tick: Option<Duration>) -> SegmentExpiry {
         tick.map_or(SegmentExpiry::None, |tick| SegmentExpiry::Relative16 {
             tick,
         })

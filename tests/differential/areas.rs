@@ -1,6 +1,7 @@
 // Byte slices: comparison and the part of an arena that is handed out; and that no export writes
 // past the words lent for its answer.
 use crate::port;
+use crate::port_index::{self, Areas};
 use crate::report::Group;
 use crate::rng::{Rng, edges};
 
@@ -128,6 +129,38 @@ pub fn words(group: &mut Group, _random: u64) {
     });
     lent(group, "record_at nothing", 0, &[], &|out| {
         u64::from(port::record_words(&record, true, 0, out))
+    });
+    found_words(group, &record);
+}
+
+// A set of one record, whose segment starts at the arena's second byte.
+fn found_words(group: &mut Group, arena: &[u8]) {
+    let set = Areas {
+        on: true,
+        packed: false,
+        filled: 8,
+        segments: 1,
+        buckets: 1,
+        filter_words: 0,
+        arena,
+        index: &[1, 0, 0, 0, 0, 0, 0, 0],
+        filter: &[],
+        starts: &[1],
+        lengths: &[7],
+    };
+    let told = [0, 4, 5, 2, 7, 1, 7];
+    lent(group, "record_at_location", 1, &told, &|out| {
+        u64::from(port_index::location_words(&set, 1, out))
+    });
+    lent(group, "record_at_location nothing", 0, &[], &|out| {
+        u64::from(port_index::location_words(&set, 0, out))
+    });
+    let told = [0, 0, 4, 5, 2, 7, 1, 7];
+    lent(group, "find_record", 1, &told, &|out| {
+        u64::from(port_index::find_words(&set, b"ke", 0, out))
+    });
+    lent(group, "find_record nothing", 0, &[], &|out| {
+        u64::from(port_index::find_words(&set, b"kv", 0, out))
     });
 }
 

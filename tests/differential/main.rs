@@ -1,18 +1,36 @@
 // Calls the port and the Rust that it was made from with the same inputs and compares the answers.
 mod areas;
+mod build_walks;
 mod durations;
+mod filter;
+mod finds;
+mod forged;
+mod forged_finds;
 mod hash;
+mod index_words;
+mod large;
+mod model;
+mod packed_index;
 mod port;
+mod port_index;
 mod record_read;
 mod record_write;
 mod report;
 mod rng;
+mod segment_starts;
+mod small;
+mod spreads;
 mod varints;
 
 use report::{Group, Run};
 use std::process::ExitCode;
 
 const RANDOM_CASES: u64 = 1_200_000;
+
+// Whether a run with so many random cases is a long one, which has the largest inputs too.
+fn long(random: u64) -> bool {
+    random > RANDOM_CASES
+}
 
 fn main() -> ExitCode {
     let random = match std::env::args().nth(1).as_deref() {
@@ -38,6 +56,17 @@ fn main() -> ExitCode {
     run.group("record reading", record_read::read);
     run.group("byte slices", areas::slices);
     run.group("lent words", areas::words);
+    run.group("index words", index_words::words);
+    run.group("buckets", index_words::buckets);
+    run.group("build walks", build_walks::walks);
+    run.group("negative filter", filter::filter);
+    run.group("segment starts", segment_starts::starts);
+    run.group("segments, large target", large::segments::split);
+    run.group("segments, small target", small::segments::split);
+    run.group("packed index", packed_index::packing);
+    run.group("forged lookups", forged_finds::finds);
+    run.group("sets, large target", large::sets::sets);
+    run.group("sets, small target", small::sets::sets);
     if run.end() {
         ExitCode::SUCCESS
     } else {

@@ -1,8 +1,8 @@
-// The crate root of the oracle: the unchanged source with the accessor module behind it, and in
+// The crate root of the oracle: the unchanged source with the accessor modules behind it, and in
 // place of its hashing a stub, since the port takes the hash as an argument.
 pub mod segment_cache;
 
-pub use segment_cache::access;
+pub use segment_cache::{access, access_index};
 
 use std::cell::Cell;
 use std::hash::{BuildHasher, Hasher};

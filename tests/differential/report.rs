@@ -76,8 +76,14 @@ impl Group {
         self.same(call, port, "rule", rule, input);
     }
 
-    // What the port left in an area against the bytes that belong there.
-    pub fn area(&mut self, call: &str, port: &[u8], wanted: &[u8], input: impl FnOnce() -> String) {
+    // What the port left in an area against the bytes or words that belong there.
+    pub fn area<T: PartialEq + Debug>(
+        &mut self,
+        call: &str,
+        port: &[T],
+        wanted: &[T],
+        input: impl FnOnce() -> String,
+    ) {
         self.cases += 1;
         if port == wanted {
             return;
@@ -87,7 +93,7 @@ impl Group {
         let (left, right) = (port.get(at), wanted.get(at));
         self.print(
             call,
-            &format!("byte {at}: port {left:?}, wanted {right:?}"),
+            &format!("place {at}: port {left:x?}, wanted {right:x?}"),
             input,
         );
     }

@@ -70,3 +70,17 @@ pub fn pattern(len: usize) -> Vec<u8> {
         .map(|i| (i as u8).wrapping_mul(37).wrapping_add(0x5b))
         .collect()
 }
+
+// The same in words.
+pub fn word_pattern(len: usize) -> Vec<u64> {
+    (0..len as u64)
+        .map(|i| (i + 1).wrapping_mul(0xa5c3_9d71_e6b4_2f8d))
+        .collect()
+}
+
+// An area that is three words longer than what it holds; they are in no pattern.
+pub fn lent(words: &[u64]) -> Vec<u64> {
+    let mut area = words.to_vec();
+    area.extend(word_pattern(3).iter().map(|word| !word));
+    area
+}

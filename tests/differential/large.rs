@@ -1,0 +1,9 @@
+// The groups that split arenas, with the Rust as it is.
+use oracle_large as oracle;
+
+#[path = "one_set.rs"]
+mod one_set;
+#[path = "segments.rs"]
+pub mod segments;
+#[path = "sets.rs"]
+pub mod sets;
