@@ -41,22 +41,35 @@ pub fn sets(group: &mut Group, random: u64) {
         full_segments(group, &mut rng, full);
     }
     if crate::long(random) {
-        for count in [65_535, 65_536, 65_537, 1_048_576] {
+        for count in [65_535, 65_536, 65_537] {
             spread_set(group, &mut rng, &SPREADS[0], count);
+        }
+        for buckets in 1..=600 {
+            let occupied = 1 + rng.below(7) as usize;
+            set_of(group, &mut rng, &SPREADS[0], buckets * occupied, occupied);
+        }
+        // 149,797 buckets, and as many as records.
+        for occupied in [7, 1] {
+            set_of(group, &mut rng, &SPREADS[0], 1_048_576, occupied);
         }
     }
 }
 
-// One setting, in both layouts.
 fn spread_set(group: &mut Group, rng: &mut Rng, spread: &Spread, count: usize) {
+    let occupied = 1 + rng.below(7) as usize;
+    set_of(group, rng, spread, count, occupied);
+}
+
+// One setting, in both layouts.
+fn set_of(group: &mut Group, rng: &mut Rng, spread: &Spread, count: usize, occupied: usize) {
     let on = rng.one_in(2);
     let setting = Setting {
         tick: tick(on),
-        occupied: 1 + rng.below(7) as u8,
+        occupied: occupied as u8,
         packed: false,
         bits: rng.pick(&BITS),
     };
-    let buckets = count.div_ceil(setting.occupied.into()).max(1);
+    let buckets = count.div_ceil(occupied).max(1);
     let hashes = (spread.hashes)(rng, count, buckets);
     let list = records(rng, &hashes, on);
     both_layouts(group, rng, spread.name, setting, &list);
