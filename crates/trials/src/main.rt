@@ -1,5 +1,8 @@
 // Document 01's trials, run: each line says what was asked and what came out.
+mod calls;
+mod example;
 mod seventeen;
+mod targets;
 
 use hash_parts::duration::Duration;
 use hash_parts::duration::EncodedExpiry;
@@ -26,30 +29,6 @@ fn lifetime(secs: u64, nanos: u32) {
     match hash_parts::duration::encode_expiry_at_tick(expiry, life, 0) {
         EncodedExpiry::At(deadline) => show::number(b"deadline", deadline as u64),
         EncodedExpiry::Refused(refusal) => show::number(b"refusal", refusal.number() as u64),
-    }
-}
-
-// Appends a record at a position of the arena, and gives the position after it.
-fn append(arena: &mut [u8], filled: usize, key: &[u8], value: &[u8], expires_at: u16) -> usize {
-    if arena.len() < filled {
-        return filled;
-    }
-    let expiry = SegmentExpiry::Relative16 {
-        tick: Duration { secs: 1, nanos: 0 },
-    };
-    let WriteAnswer::Written(n) = records::record::append_record(
-        &mut arena[filled..],
-        expiry,
-        key,
-        value,
-        expires_at,
-    ) else {
-        return filled;
-    };
-    if n <= arena.len() - filled {
-        filled + n
-    } else {
-        filled
     }
 }
 
@@ -117,11 +96,7 @@ fn main() {
     lifetime(65_534, 1);
     lifetime(0, 0);
     lives(0, 0);
-    let mut arena = [0u8; 16];
-    let first = append(&mut arena, 0, b"a", b"AB", 10);
-    let filled = append(&mut arena, first, b"b", b"", 65_535);
-    show::text(b"arena:");
-    show::front(&arena, filled);
-    show::text(b"\n");
+    example::run();
+    targets::run();
     seventeen::run();
 }
