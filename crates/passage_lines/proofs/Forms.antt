@@ -1,0 +1,1 @@
+-- Laws of the forms of a line. Assumes nothing.

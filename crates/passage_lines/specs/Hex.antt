@@ -1,0 +1,37 @@
+-- Bytes as hexadecimal text, in small letters. Document 01, Program `passage`: "Hash, key and value hexadecimal in small letters, `-` for no
+-- bytes".
+-- Assumes nothing.
+use Prim.Native.Nat.{ℕ, _+_, _*_}
+use mathlib.Core.Bool.{Bool, true, false}
+use mathlib.Core.List.{List, [], _∷_}
+use mathlib.Core.Option.{Option, none, some}
+use lib.Dec.{eqb, ltb}
+use lib.ListN.{length}
+use Rattle.hash_parts.specs.Choice.{pick}
+use Rattle.records.specs.Area.{sameBytes}
+use Rattle.passage_lines.specs.Text.{digitOf}
+
+abbrev pub inFront : ℕ → Option (List ℕ) → Option (List ℕ)
+inFront b none = none
+inFront b (some s) = some (b ∷ s)
+
+-- the bytes that a text spells, two digits to a byte; none for an odd number of characters, and where one is no digit
+unfoldable pub bytesOfHex : List ℕ → Option (List ℕ)
+bytesOfHex [] = some []
+bytesOfHex (h ∷ []) = none
+bytesOfHex (h ∷ l ∷ s) = pick (ltb (digitOf h) 16) (pick (ltb (digitOf l) 16) (inFront (digitOf h * 16 + digitOf l) (bytesOfHex s)) none) none
+
+abbrev pub spells : Option (List ℕ) → Bool
+spells none = false
+spells (some s) = true
+
+-- whether a text spells bytes
+unfoldable pub isHex : List ℕ → Bool
+isHex text = spells (bytesOfHex text)
+
+abbrev pub dash : List ℕ
+dash = 45 ∷ []
+
+-- how many characters of a field spell its bytes: "`-` for no bytes", else an even number of digits, and at least two
+unfoldable pub hexLength : List ℕ → Option ℕ
+hexLength text = pick (sameBytes text dash) (some 0) (pick (eqb (length text) 0) none (pick (isHex text) (some (length text)) none))

@@ -1,0 +1,4 @@
+pub mod Command
+pub mod Fields
+pub mod Hex
+pub mod Text
