@@ -1,52 +1,19 @@
 -- What a line says. Document 01, Program `passage`: "In: `open` records occupancy layout filter-bits tick-length; `put` hash key value
 -- lifetime; `close` target; `get` hash key tick. [..] A line of another form, over 8,192 bytes, with a number past its width [..] prints `bad`."
 -- Assumes nothing.
-use Prim.Native.Nat.{ℕ, _-_, _^_}
+use Prim.Native.Nat.{ℕ}
 use mathlib.Core.Bool.{Bool}
 use mathlib.Core.List.{List, [], _∷_}
 use mathlib.Core.Option.{Option, none, some}
 use lib.Dec.{ltb}
 use lib.ListN.{length}
 use Rattle.hash_parts.specs.Choice.{pick}
-use Rattle.hash_parts.specs.declared.duration.Lifetime.{Lifetime}
 use Rattle.hash_parts.specs.declared.setting.SegmentCacheConfig.{SegmentCacheConfig}
 use Rattle.hash_parts.specs.declared.setting.SegmentExpiry.{SegmentExpiry}
 use Rattle.records.specs.Area.{sameBytes}
-use Rattle.records.specs.declared.record.Span.{Span}
-use Rattle.passage_lines.specs.Fields.{Field, fieldsOf}
-use Rattle.passage_lines.specs.Hex.{hexLength}
-use Rattle.passage_lines.specs.Text.{numberIn, layoutOf, tickLengthOf, lifetimeOf}
+use Rattle.passage_lines.specs.Fields.{Field, fieldsOf, decimal, hash, bytes, layout, tickLength, lifetime}
 use Rattle.passage_lines.specs.declared.command.Command.{Command}
 use Rattle.passage_lines.specs.declared.command.Command.the-variants.{Open, Put, Close, Get, Bad}
-
--- ---- the kinds of a field
-
-abbrev pub number : ℕ → ℕ → Field → Option ℕ
-number base max f = numberIn base max (f .text)
-
--- a decimal number of so many bits, and a hash of 64
-abbrev pub decimal : ℕ → Field → Option ℕ
-decimal bits = number 10 (2 ^ bits - 1)
-
-abbrev pub hash : Field → Option ℕ
-hash = number 16 (2 ^ 64 - 1)
-
-abbrev pub spanOf : ℕ → Option ℕ → Option Span
-spanOf at none = none
-spanOf at (some n) = some (record { at = at; len = n })
-
--- a key or a value, as the part of the line that spells it
-abbrev pub bytes : Field → Option Span
-bytes f = spanOf (f .at) (hexLength (f .text))
-
-abbrev pub layout : Field → Option Bool
-layout f = layoutOf (f .text)
-
-abbrev pub tickLength : Field → Option SegmentExpiry
-tickLength f = tickLengthOf (f .text)
-
-abbrev pub lifetime : Field → Option Lifetime
-lifetime f = lifetimeOf (f .text)
 
 -- ---- forms
 

@@ -17,8 +17,8 @@ use Rattle.hash_parts.specs.declared.setting.SegmentExpiry.the-variants as expi
 use Rattle.records.specs.Area.{sameBytes}
 use Rattle.passage_lines.specs.declared.text.DurationText.{DurationText}
 use Rattle.passage_lines.specs.declared.text.DurationText.the-variants as duration
-use Rattle.passage_lines.specs.declared.text.Layout.{Layout}
-use Rattle.passage_lines.specs.declared.text.Layout.the-variants as layout
+use Rattle.passage_lines.specs.declared.text.LayoutText.{LayoutText}
+use Rattle.passage_lines.specs.declared.text.LayoutText.the-variants as layout
 use Rattle.passage_lines.specs.declared.text.LifetimeText.{LifetimeText}
 use Rattle.passage_lines.specs.declared.text.LifetimeText.the-variants as lifetime
 use Rattle.passage_lines.specs.declared.text.TickLength.{TickLength}
@@ -85,9 +85,8 @@ neverText = 110 ∷ 101 ∷ 118 ∷ 101 ∷ 114 ∷ []
 unfoldable pub layoutOf : List ℕ → Option Bool
 layoutOf text = pick (sameBytes text packedText) (some true) (pick (sameBytes text wordsText) (some false) none)
 
-abbrev pub layoutGiven : Layout → Option Bool
-layoutGiven layout.Packed = some true
-layoutGiven layout.Words = some false
+abbrev pub layoutGiven : LayoutText → Option Bool
+layoutGiven (layout.Packed p) = some p
 layoutGiven layout.Bad = none
 
 abbrev pub ticksOf : Option Duration → Option SegmentExpiry

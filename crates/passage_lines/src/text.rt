@@ -17,9 +17,9 @@ pub enum DurationText {
     Bad,
 }
 
-pub enum Layout {
-    Packed,
-    Words,
+// Whether the layout is packed.
+pub enum LayoutText {
+    Packed(bool),
     Bad,
 }
 
@@ -99,16 +99,16 @@ pub(crate) fn parse_duration(text: &[u8]) -> DurationText
     })
 }
 
-pub(crate) fn parse_layout(text: &[u8]) -> Layout
+pub(crate) fn parse_layout(text: &[u8]) -> LayoutText
     ensures { λ r. ⌜ layoutGiven r ≡ layoutOf (now (text .entry)) ⌝ }
 {
     if same_bytes(text, b"packed") {
-        return Layout::Packed;
+        return LayoutText::Packed(true);
     }
     if same_bytes(text, b"words") {
-        return Layout::Words;
+        return LayoutText::Packed(false);
     }
-    Layout::Bad
+    LayoutText::Bad
 }
 
 pub(crate) fn parse_tick_length(text: &[u8]) -> TickLength
