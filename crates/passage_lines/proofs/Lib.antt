@@ -1,4 +1,5 @@
 pub mod Digits
 pub mod Forms
 pub mod Numbers
+pub mod Spelling
 pub mod Splitting

@@ -1,4 +1,5 @@
 pub mod Command
 pub mod Fields
 pub mod Hex
+pub mod Output
 pub mod Text
