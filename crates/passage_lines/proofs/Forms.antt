@@ -8,13 +8,15 @@ use native.Mathlib.Omega.{arith}
 use borrow.Author.Tests.{le-ltb}
 use lib.ListN.{length, take, drop, length-drop}
 use lib.Seq.{length-take-le}
+use Rattle.passage_lines.specs.Bytes.{firstFrom}
 use Rattle.passage_lines.specs.Command.{given, next, done, wordForm, commandIn, commandOf}
-use Rattle.passage_lines.specs.Fields.{Field, field, number, fieldEnd, fieldsAt, Got, got, nothing, gotBefore, first, fieldAt}
+use Rattle.passage_lines.specs.Fields.{Field, field, number, fieldsAt, Got, got, nothing, gotBefore, first, fieldAt}
 use Rattle.passage_lines.specs.Text.{numberIn}
 use Rattle.passage_lines.specs.declared.command.Command.{Command}
 use Rattle.passage_lines.specs.declared.command.Command.the-variants.{Bad}
 use Rattle.passage_lines.proofs.Numbers.{number-limit}
-use Rattle.passage_lines.proofs.Splitting.{end-within, fields-at, fields-none, fields-all}
+use Rattle.passage_lines.proofs.Search.{first-within}
+use Rattle.passage_lines.proofs.Splitting.{fields-at, fields-none, fields-all}
 
 module _ {A : Type 0} (kind : Field → Option A) (line : List ℕ) (at : ℕ) where
   pub field-none : length line < at → fieldAt kind line at ≡ nothing
@@ -22,10 +24,10 @@ module _ {A : Type 0} (kind : Field → Option A) (line : List ℕ) (at : ℕ) w
   field-none h = rw (fields-none line at h)
 
   -- the field from a position to its end
-  pub field-is : (e : ℕ) → at ≤ length line → e ≡ fieldEnd line at → fieldAt kind line at ≡ gotBefore (e + 1) (kind (field at (take (e - at) (drop at line))))
+  pub field-is : (e : ℕ) → at ≤ length line → e ≡ firstFrom 32 line at → fieldAt kind line at ≡ gotBefore (e + 1) (kind (field at (take (e - at) (drop at line))))
   unfolding fieldAt
   field-is e h q =
-      let w = end-within line at h in
+      let w = first-within 32 line at h in
       let n : e - at ≤ length (drop at line) = omega (arith, length-drop at line) in
       let l : at + length (take (e - at) (drop at line)) + 1 ≡ e + 1 = omega (arith, length-take-le (e - at) (drop at line) n) in
       rw (fields-at line at h, ← q, l)
@@ -48,15 +50,15 @@ module _ {A : Type 0} (kind : Field → Option A) (line : List ℕ) (at : ℕ) w
   unfolding next
   next-some v n e form = go (decLe at (length line))
     where
-      at-first : (o : Option A) → gotBefore (fieldEnd line at + 1) o ≡ got v n → given o (λ v. form v (fieldsAt line (fieldEnd line at + 1))) ≡ form v (fieldsAt line n)
+      at-first : (o : Option A) → gotBefore (firstFrom 32 line at + 1) o ≡ got v n → given o (λ v. form v (fieldsAt line (firstFrom 32 line at + 1))) ≡ form v (fieldsAt line n)
       at-first none q = absurd (let z : _≡_ {A = ℕ} 0 1 = cc in omega arith)
       at-first (some w) q =
           let x : w ≡ v = cc in
-          let y : fieldEnd line at + 1 ≡ n = cc in
+          let y : firstFrom 32 line at + 1 ≡ n = cc in
           ap₂ (λ (u : A) (m : ℕ). form u (fieldsAt line m)) x y
 
       go : Dec (at ≤ length line) → next kind form (fieldsAt line at) ≡ form v (fieldsAt line n)
-      go (yes h) = rw (fields-at line at h) (at-first (kind (field at (take (fieldEnd line at - at) (drop at line)))) (sym (field-is (fieldEnd line at) h refl) ∙ e))
+      go (yes h) = rw (fields-at line at h) (at-first (kind (field at (take (firstFrom 32 line at - at) (drop at line)))) (sym (field-is (firstFrom 32 line at) h refl) ∙ e))
       go (no g) = absurd (let z : _≡_ {A = Got A} nothing (got v n) = sym (field-none (omega arith)) ∙ e in let o : _≡_ {A = ℕ} 0 1 = cc in omega arith)
 
 -- ---- no field more
@@ -86,6 +88,6 @@ field-limit base max line at v n e = go (fieldsAt line at) e
 -- ---- the line
 
 -- the word is the first field, which ends at e
-pub command-is : (line : List ℕ) (e : ℕ) → length line ≤ 8192 → e ≡ fieldEnd line 0 → commandOf line ≡ wordForm (take (e - 0) line) (fieldsAt line (e + 1))
+pub command-is : (line : List ℕ) (e : ℕ) → length line ≤ 8192 → e ≡ firstFrom 32 line 0 → commandOf line ≡ wordForm (take (e - 0) line) (fieldsAt line (e + 1))
 unfolding commandOf
 command-is line e h q = rw (le-ltb 8192 (length line) h, fields-all line, fields-at line 0 (omega arith), ← q)

@@ -1,5 +1,6 @@
 pub mod Digits
 pub mod Forms
 pub mod Numbers
+pub mod Search
 pub mod Spelling
 pub mod Splitting

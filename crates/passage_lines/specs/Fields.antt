@@ -71,15 +71,6 @@ lifetime f = lifetimeOf (f .text)
 
 -- ---- the same from a position on, as a line is read
 
--- the characters before the first space
-unfoldable pub fieldText : List ℕ → List ℕ
-fieldText [] = []
-fieldText (c ∷ s) = pick (eqb c 32) [] (c ∷ fieldText s)
-
--- where the field ends that begins at a position
-unfoldable pub fieldEnd : List ℕ → ℕ → ℕ
-fieldEnd line at = at + length (fieldText (drop at line))
-
 -- the fields from a position on, none past the line's end
 unfoldable pub fieldsAt : List ℕ → ℕ → List Field
 fieldsAt line at = pick (leb at (length line)) (split at [] (drop at line)) []

@@ -1,3 +1,4 @@
+pub mod Bytes
 pub mod Command
 pub mod Fields
 pub mod Hex

@@ -1,11 +1,11 @@
 // What a line of the input asks for.
+use crate::bytes::find_byte;
 use crate::fields::BytesField;
 use crate::fields::LayoutField;
 use crate::fields::LifetimeField;
 use crate::fields::NumberField;
 use crate::fields::TickField;
 use crate::fields::bytes_field;
-use crate::fields::field_end;
 use crate::fields::layout_field;
 use crate::fields::lifetime_field;
 use crate::fields::number_field;
@@ -51,7 +51,7 @@ pub fn parse_line(line: &[u8]) -> Command
     if line.len() > MAX_LINE_BYTES {
         return Command::Bad;
     }
-    let end = field_end(line, 0);
+    let end = find_byte(line, 0, b' ');
     parse_word(&line[0..end], line, end + 1)
 }
 

@@ -1,5 +1,6 @@
 // The fields of a line. Each function reads the field at a position, and gives with it the
 // position after its space, which lies past the line where no field is left.
+use crate::bytes::find_byte;
 use crate::hex::hex_length;
 use crate::text::LayoutText;
 use crate::text::LifetimeText;
@@ -14,8 +15,7 @@ use hash_parts::setting::SegmentExpiry;
 use records::record::Span;
 ghost use mathlib.Core.Path.{_≡_};
 ghost use Prim.Native.Nat.{_<_, _≤_};
-ghost use lib.ListN.{length};
-ghost use Rattle.passage_lines.specs.Fields.{bytes, fieldAt, fieldEnd, gotBytes, gotLayout, gotLifetime, gotNumber, gotTick, layout, lifetime, number, tickLength};
+ghost use Rattle.passage_lines.specs.Fields.{bytes, fieldAt, gotBytes, gotLayout, gotLifetime, gotNumber, gotTick, layout, lifetime, number, tickLength};
 
 pub enum NumberField {
     Value(u64, usize),
@@ -42,21 +42,6 @@ pub enum LifetimeField {
     Bad,
 }
 
-// Where the field ends that begins at a position: at the next space, or at the end of the line.
-pub(crate) fn field_end(line: &[u8], at: usize) -> usize
-    requires { ⌜ at ≤ length (now line) ⌝ }
-    ensures { λ r. ⌜ (r ≡ fieldEnd (now (line .entry)) at) × (at ≤ r) × (r ≤ length (now (line .entry))) ⌝ }
-{
-    let mut i = at;
-    while i < line.len() {
-        if line[i] == b' ' {
-            return i;
-        }
-        i += 1;
-    }
-    i
-}
-
 pub(crate) fn number_field(line: &[u8], at: usize, base: u64, max: u64) -> NumberField
     requires { ⌜ (0 < base) × (base ≤ 16) × (16 ≤ max) ⌝ }
     ensures { λ r. ⌜ gotNumber r ≡ fieldAt (number base max) (now (line .entry)) at ⌝ }
@@ -64,7 +49,7 @@ pub(crate) fn number_field(line: &[u8], at: usize, base: u64, max: u64) -> Numbe
     if line.len() < at {
         return NumberField::Bad;
     }
-    let end = field_end(line, at);
+    let end = find_byte(line, at, b' ');
     let Number::Value(value) = parse_number(&line[at..end], base, max) else {
         return NumberField::Bad;
     };
@@ -77,7 +62,7 @@ pub(crate) fn bytes_field(line: &[u8], at: usize) -> BytesField
     if line.len() < at {
         return BytesField::Bad;
     }
-    let end = field_end(line, at);
+    let end = find_byte(line, at, b' ');
     let Number::Value(len) = hex_length(&line[at..end]) else {
         return BytesField::Bad;
     };
@@ -96,7 +81,7 @@ pub(crate) fn layout_field(line: &[u8], at: usize) -> LayoutField
     if line.len() < at {
         return LayoutField::Bad;
     }
-    let end = field_end(line, at);
+    let end = find_byte(line, at, b' ');
     let LayoutText::Packed(packed) = parse_layout(&line[at..end]) else {
         return LayoutField::Bad;
     };
@@ -109,7 +94,7 @@ pub(crate) fn tick_field(line: &[u8], at: usize) -> TickField
     if line.len() < at {
         return TickField::Bad;
     }
-    let end = field_end(line, at);
+    let end = find_byte(line, at, b' ');
     let TickLength::Of(expiry) = parse_tick_length(&line[at..end]) else {
         return TickField::Bad;
     };
@@ -122,7 +107,7 @@ pub(crate) fn lifetime_field(line: &[u8], at: usize) -> LifetimeField
     if line.len() < at {
         return LifetimeField::Bad;
     }
-    let end = field_end(line, at);
+    let end = find_byte(line, at, b' ');
     let LifetimeText::Of(ttl) = parse_lifetime(&line[at..end]) else {
         return LifetimeField::Bad;
     };

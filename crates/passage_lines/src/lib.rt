@@ -1,5 +1,6 @@
 // The lines of the program passage: reading them from blocks of input, taking them apart, and
 // writing the lines of its output.
+mod bytes;
 pub mod command;
 pub mod fields;
 pub mod hex;

@@ -14,8 +14,8 @@ returns : tie.Need-returns
 unfolding commandOf
 returns c = rw (lt-ltb 8192 (length (c .before .before .args .line .now)) (c .if1 .taken))
 
-field-end-requires : tie.Need-field-end-requires
-field-end-requires c κs = search needs
+find-byte-requires : tie.Need-find-byte-requires
+find-byte-requires c κs = search needs
 
 sub-parse-word : tie.Need-sub-parse-word
 sub-parse-word c = search needs
@@ -34,7 +34,7 @@ parse-word-requires c κs = search needs
 
 returns-2 : tie.Need-returns-2
 returns-2 c = let line = c .before .before .before .before .before .args .line .now in
-    let e = c .before .before .field-end in
+    let e = c .before .before .find-byte in
     rw (command-is line (e .result) (c .before .before .before .if1 .left) (e .ensures .0)) (c .parse-word .ensures)
 
 pub parse-line-spec : {M : Type 1} → statement M
@@ -42,7 +42,7 @@ parse-line-spec =
     tie.close
     (tie.spec
     returns
-    field-end-requires
+    find-byte-requires
     sub-parse-word
     part-parse-word-start
     part-parse-word-end

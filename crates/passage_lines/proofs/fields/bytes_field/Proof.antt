@@ -11,8 +11,8 @@ use Rattle.passage_lines.proofs.fields.bytes_field.Tie as tie
 returns : tie.Need-returns
 returns c = let a = c .before .before .args in sym (field-none bytes (a .line .now) (a .at) (c .if1 .taken))
 
-field-end-requires : tie.Need-field-end-requires
-field-end-requires c κs = search needs
+find-byte-requires : tie.Need-find-byte-requires
+find-byte-requires c κs = search needs
 
 sub-hex-length : tie.Need-sub-hex-length
 sub-hex-length c = search needs
@@ -34,7 +34,7 @@ enum-told c = search needs
 
 returns-2 : tie.Need-returns-2
 returns-2 c = let a = c .before .before .before .before .before .before .before .args in
-    let e = c .before .before .before .before .field-end in
+    let e = c .before .before .before .before .find-byte in
     sym (field-is bytes (a .line .now) (a .at) (e .result) (c .before .before .before .before .before .if1 .left) (e .ensures .0) ∙ ap (λ o. gotBefore (e .result + 1) (spanOf (a .at) o)) (sym (c .before .before .hex-length .ensures) ∙ ap numberGiven (c .enum-told .given .1)))
 
 add-t12 : tie.Need-add-t12
@@ -42,7 +42,7 @@ add-t12 c = search needs
 
 returns-3 : tie.Need-returns-3
 returns-3 c = let a = c .before .before .before .before .before .before .before .before .args in
-    let e = c .before .before .before .before .before .field-end in
+    let e = c .before .before .before .before .before .find-byte in
     sym (field-is bytes (a .line .now) (a .at) (e .result) (c .before .before .before .before .before .before .if1 .left) (e .ensures .0) ∙ ap (λ o. gotBefore (e .result + 1) (spanOf (a .at) o)) (sym (c .before .before .before .hex-length .ensures) ∙ ap numberGiven (c .before .len .given .1)))
 
 pub bytes-field-spec : {M : Type 1} → statement M
@@ -50,7 +50,7 @@ bytes-field-spec =
     tie.close
     (tie.spec
     returns
-    field-end-requires
+    find-byte-requires
     sub-hex-length
     part-hex-length-start
     part-hex-length-end

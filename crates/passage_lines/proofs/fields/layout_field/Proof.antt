@@ -11,8 +11,8 @@ use Rattle.passage_lines.proofs.fields.layout_field.Tie as tie
 returns : tie.Need-returns
 returns c = let a = c .before .before .args in sym (field-none layout (a .line .now) (a .at) (c .if1 .taken))
 
-field-end-requires : tie.Need-field-end-requires
-field-end-requires c κs = search needs
+find-byte-requires : tie.Need-find-byte-requires
+find-byte-requires c κs = search needs
 
 sub-parse-layout : tie.Need-sub-parse-layout
 sub-parse-layout c = search needs
@@ -34,7 +34,7 @@ enum-told c = search needs
 
 returns-2 : tie.Need-returns-2
 returns-2 c = let a = c .before .before .before .before .before .before .before .args in
-    let e = c .before .before .before .before .field-end in
+    let e = c .before .before .before .before .find-byte in
     sym (field-is layout (a .line .now) (a .at) (e .result) (c .before .before .before .before .before .if1 .left) (e .ensures .0) ∙ ap (gotBefore (e .result + 1)) (sym (c .before .before .parse-layout .ensures) ∙ ap layoutGiven (c .enum-told .given .1)))
 
 add-t5 : tie.Need-add-t5
@@ -42,7 +42,7 @@ add-t5 c = search needs
 
 returns-3 : tie.Need-returns-3
 returns-3 c = let a = c .before .before .before .before .before .before .before .before .args in
-    let e = c .before .before .before .before .before .field-end in
+    let e = c .before .before .before .before .before .find-byte in
     sym (field-is layout (a .line .now) (a .at) (e .result) (c .before .before .before .before .before .before .if1 .left) (e .ensures .0) ∙ ap (gotBefore (e .result + 1)) (sym (c .before .before .before .parse-layout .ensures) ∙ ap layoutGiven (c .before .packed .given .1)))
 
 pub layout-field-spec : {M : Type 1} → statement M
@@ -50,7 +50,7 @@ layout-field-spec =
     tie.close
     (tie.spec
     returns
-    field-end-requires
+    find-byte-requires
     sub-parse-layout
     part-parse-layout-start
     part-parse-layout-end
