@@ -1,6 +1,7 @@
 pub mod Digits
 pub mod Forms
 pub mod Numbers
+pub mod Replies
 pub mod Search
 pub mod Spelling
 pub mod Splitting

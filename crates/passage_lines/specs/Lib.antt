@@ -3,4 +3,5 @@ pub mod Command
 pub mod Fields
 pub mod Hex
 pub mod Output
+pub mod Reply
 pub mod Text

@@ -5,4 +5,5 @@ pub mod command;
 pub mod fields;
 pub mod hex;
 pub mod output;
+pub mod reply;
 pub mod text;
