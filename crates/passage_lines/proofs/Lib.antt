@@ -1,5 +1,6 @@
 pub mod Digits
 pub mod Forms
+pub mod Lines
 pub mod Numbers
 pub mod Replies
 pub mod Search

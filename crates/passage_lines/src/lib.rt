@@ -4,6 +4,7 @@ mod bytes;
 pub mod command;
 pub mod fields;
 pub mod hex;
+pub mod input;
 pub mod output;
 pub mod reply;
 pub mod text;

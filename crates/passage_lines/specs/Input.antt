@@ -1,0 +1,66 @@
+-- The lines of an input that is read in blocks.
+-- Assumes nothing.
+use Prim.Native.Nat.{ℕ, _+_, _-_}
+use mathlib.Core.Bool.{Bool, true, false}
+use mathlib.Core.List.{List, [], _∷_, _++_, map}
+use mathlib.Core.Option.{Option, none, some}
+use lib.Dec.{eqb, leb, ltb}
+use lib.ListN.{length, take}
+use Rattle.hash_parts.specs.Choice.{pick}
+use Rattle.records.specs.Area.{over, part}
+use Rattle.passage_lines.specs.Bytes.{firstFrom}
+use Rattle.passage_lines.specs.declared.input.Input.{Input}
+use Rattle.passage_lines.specs.declared.input.NextLine.{NextLine}
+use Rattle.passage_lines.specs.declared.input.NextLine.the-variants.{Line, TooLong, Skipped, More}
+
+-- ---- the lines of a whole input
+
+-- the lines of what is left of an input, after so many bytes of a line; a line feed (10) ends a line, and a last line without one counts
+unfoldable pub linesFrom : List ℕ → List ℕ → List (List ℕ)
+linesFrom seen [] = pick (eqb (length seen) 0) [] (seen ∷ [])
+linesFrom seen (c ∷ s) = pick (eqb c 10) (seen ∷ linesFrom [] s) (linesFrom (seen ++ (c ∷ [])) s)
+
+-- "A line [..] over 8,192 bytes [..] prints `bad`": only that it is there counts
+abbrev pub limited : List ℕ → Option (List ℕ)
+limited line = pick (ltb 8192 (length line)) none (some line)
+
+-- the lines of an input
+unfoldable pub linesOf : List ℕ → List (Option (List ℕ))
+linesOf s = map limited (linesFrom [] s)
+
+-- ---- a block of it
+
+abbrev pub input : ℕ → ℕ → Bool → Input
+input at end skipping = record { at = at; end = end; skipping = skipping }
+
+-- what of a block is unread
+abbrev pub unread : List ℕ → Input → List ℕ
+unread block i = part (i .at) (i .end - i .at) block
+
+-- the next line, by where the next line feed stands
+abbrev pub nextBefore : ℕ → ℕ → Bool → ℕ → NextLine
+nextBefore at end true feed = pick (ltb feed end) (Skipped (input (feed + 1) end false)) (More (input end end true))
+nextBefore at end false feed =
+    pick (ltb feed end) (Line at feed (input (feed + 1) end false))
+    (pick (ltb 8192 (end - at)) (TooLong (input end end true)) (More (input at end false)))
+
+-- the next line of a block; a state that points outside the block has nothing unread
+unfoldable pub nextLine : List ℕ → Input → NextLine
+nextLine block i =
+    pick (ltb (length block) (i .end)) (More (input 0 0 false))
+    (pick (ltb (i .end) (i .at)) (More (input 0 0 false))
+    (nextBefore (i .at) (i .end) (i .skipping) (firstFrom 10 (take (i .end) block) (i .at))))
+
+-- what moving the unread bytes to the front leaves
+pub record Kept : Type 0 where
+  pub state : Input
+  pub block : List ℕ
+
+abbrev pub kept : Input → List ℕ → Kept
+kept i block = record { state = i; block = block }
+
+unfoldable pub keptUnread : List ℕ → Input → Kept
+keptUnread block i =
+    pick (ltb (length block) (i .end)) (kept (input 0 0 false) block)
+    (pick (ltb (i .end) (i .at)) (kept (input 0 0 false) block)
+    (kept (input 0 (i .end - i .at) (i .skipping)) (over (unread block i) block)))
