@@ -64,3 +64,27 @@ keptUnread block i =
     pick (ltb (length block) (i .end)) (kept (input 0 0 false) block)
     (pick (ltb (i .end) (i .at)) (kept (input 0 0 false) block)
     (kept (input 0 (i .end - i .at) (i .skipping)) (over (unread block i) block)))
+
+-- ---- the lines of the whole input, as its blocks give them
+
+-- what stands after the next line feed
+unfoldable pub afterFeed : List ℕ → List ℕ
+afterFeed [] = []
+afterFeed (c ∷ s) = pick (eqb c 10) s (afterFeed s)
+
+-- the lines that are left of an input; of a line that was too long the rest counts no more
+abbrev pub linesLeft : Bool → List ℕ → List (Option (List ℕ))
+linesLeft false s = linesOf s
+linesLeft true s = linesOf (afterFeed s)
+
+-- the lines that a block and the input after it have, by what stands next in the block
+abbrev pub linesBy : List ℕ → List ℕ → NextLine → List (Option (List ℕ))
+linesBy block later (Line from to i) = limited (part from (to - from) block) ∷ linesLeft (i .skipping) (unread block i ++ later)
+linesBy block later (TooLong i) = none ∷ linesLeft (i .skipping) (unread block i ++ later)
+linesBy block later (Skipped i) = linesLeft (i .skipping) (unread block i ++ later)
+linesBy block later (More i) = linesLeft (i .skipping) (unread block i ++ later)
+
+-- the line that is left where the input ends after a state that asked for more
+abbrev pub lastLine : Bool → List ℕ → List (Option (List ℕ))
+lastLine true s = []
+lastLine false s = pick (eqb (length s) 0) [] (some s ∷ [])
