@@ -1,4 +1,5 @@
 pub mod Digits
+pub mod Example
 pub mod Forms
 pub mod Lines
 pub mod Numbers

@@ -10,7 +10,6 @@ use lib.ListN.{length, take, drop, length-append, length-take, length-drop}
 use lib.Seq.{length-take-le, take-at, drop-at, drop-drop}
 use Rattle.records.specs.Area.{over, pasted}
 use Rattle.records.proofs.Area.{Writing, fits, next}
-use Rattle.passage_lines.specs.Hex.{dash}
 use Rattle.passage_lines.specs.Output.{decimalText, hexText, bytesText, Output, output, appended}
 use Rattle.passage_lines.specs.Reply.{wordText, lineFeed, refusedText, acceptedText, valueText}
 use Rattle.passage_lines.specs.declared.reply.Word.{Word}
@@ -54,9 +53,7 @@ bytes-length (b ∷ s) = omega (arith, hex-length (b ∷ s))
 
 pub value-length : (value : List ℕ) → length (valueText value) ≡ 7 + max 1 (2 * length value)
 unfolding valueText
-value-length value =
-    simp length-append
-    (omega (arith, bytes-length value, ap length (decimal-small 0 (omega arith)), length-append (decimalText 0) (32 ∷ bytesText value ++ lineFeed), length-append (bytesText value) lineFeed))
+value-length value = omega (arith, bytes-length value, length-append (bytesText value) lineFeed)
 
 -- ---- two pieces from a position on
 

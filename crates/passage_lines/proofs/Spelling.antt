@@ -12,7 +12,7 @@ use lib.ListN.{length, getD, take, drop, set, length-append, length-set, drop-of
 use lib.Seq.{drop-cons, drop-at, set-split, length-take-le}
 use Rattle.hash_parts.specs.Choice.{pick}
 use Rattle.records.specs.Area.{pasted}
-use Rattle.passage_lines.specs.Hex.{dash}
+use Rattle.passage_lines.specs.Ascii.{ascii}
 use Rattle.passage_lines.specs.Output.{digitsIn, decimalText, hexDigit, hexText, bytesText, Output, output, appended}
 
 -- ---- decimal numbers
@@ -110,7 +110,7 @@ unfolding hexText
 hex-length [] = refl
 hex-length (b ∷ s) = omega (arith, hex-length s)
 
-pub bytes-none : (bytes : List ℕ) → length bytes ≡ 0 → bytesText bytes ≡ dash
+pub bytes-none : (bytes : List ℕ) → length bytes ≡ 0 → bytesText bytes ≡ ascii "-"
 unfolding bytesText
 bytes-none [] h = refl
 bytes-none (b ∷ s) h = absurd (omega arith)

@@ -11,6 +11,7 @@ use Rattle.hash_parts.specs.Choice.{pick}
 use Rattle.hash_parts.specs.declared.setting.SegmentCacheConfig.{SegmentCacheConfig}
 use Rattle.hash_parts.specs.declared.setting.SegmentExpiry.{SegmentExpiry}
 use Rattle.records.specs.Area.{sameBytes}
+use Rattle.passage_lines.specs.Ascii.{ascii}
 use Rattle.passage_lines.specs.Fields.{Field, fieldsOf, decimal, hash, bytes, layout, tickLength, lifetime}
 use Rattle.passage_lines.specs.declared.command.Command.{Command}
 use Rattle.passage_lines.specs.declared.command.Command.the-variants.{Open, Put, Close, Get, Bad}
@@ -56,25 +57,13 @@ closeForm = next (decimal 64) λ target. done (Close target)
 unfoldable pub getForm : List Field → Command
 getForm = next hash λ h. next bytes λ key. next (decimal 64) λ tick. done (Get h key tick)
 
-abbrev pub openText : List ℕ
-openText = 111 ∷ 112 ∷ 101 ∷ 110 ∷ []
-
-abbrev pub putText : List ℕ
-putText = 112 ∷ 117 ∷ 116 ∷ []
-
-abbrev pub closeText : List ℕ
-closeText = 99 ∷ 108 ∷ 111 ∷ 115 ∷ 101 ∷ []
-
-abbrev pub getText : List ℕ
-getText = 103 ∷ 101 ∷ 116 ∷ []
-
 -- the form that a word asks for
 unfoldable pub wordForm : List ℕ → List Field → Command
 wordForm word fields =
-    pick (sameBytes word openText) (openForm fields)
-    (pick (sameBytes word putText) (putForm fields)
-    (pick (sameBytes word closeText) (closeForm fields)
-    (pick (sameBytes word getText) (getForm fields) Bad)))
+    pick (sameBytes word (ascii "open")) (openForm fields)
+    (pick (sameBytes word (ascii "put")) (putForm fields)
+    (pick (sameBytes word (ascii "close")) (closeForm fields)
+    (pick (sameBytes word (ascii "get")) (getForm fields) Bad)))
 
 abbrev pub commandIn : List Field → Command
 commandIn [] = Bad

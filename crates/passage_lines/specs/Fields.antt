@@ -34,7 +34,10 @@ field at text = record { at = at; text = text }
 -- the fields of what is left of a line, where `seen` are the characters of the field that begins at a place so far; a space (32) ends a field
 unfoldable pub split : ℕ → List ℕ → List ℕ → List Field
 split at seen [] = field at seen ∷ []
-split at seen (c ∷ s) = pick (eqb c 32) (field at seen ∷ split (at + length seen + 1) [] s) (split at (seen ++ (c ∷ [])) s)
+split at seen (c ∷ s) =
+    let ended : List Field = field at seen ∷ split (at + length seen + 1) [] s in
+    let longer : List Field = split at (seen ++ (c ∷ [])) s in
+    pick (eqb c 32) ended longer
 
 -- the fields of a line
 unfoldable pub fieldsOf : List ℕ → List Field

@@ -9,6 +9,7 @@ use lib.Dec.{eqb, leb, ltb}
 use lib.ListN.{length}
 use Rattle.hash_parts.specs.Choice.{pick}
 use Rattle.records.specs.Area.{over, sameBytes}
+use Rattle.passage_lines.specs.Ascii.{ascii}
 use Rattle.passage_lines.specs.Text.{digitOf}
 use Rattle.passage_lines.specs.declared.hex.DecodeAnswer.{DecodeAnswer}
 use Rattle.passage_lines.specs.declared.hex.DecodeAnswer.the-variants as decode
@@ -31,12 +32,9 @@ spells (some s) = true
 unfoldable pub isHex : List ℕ → Bool
 isHex text = spells (bytesOfHex text)
 
-abbrev pub dash : List ℕ
-dash = 45 ∷ []
-
 -- how many characters of a field spell its bytes: "`-` for no bytes", else an even number of digits, and at least two
 unfoldable pub hexLength : List ℕ → Option ℕ
-hexLength text = pick (sameBytes text dash) (some 0) (pick (eqb (length text) 0) none (pick (isHex text) (some (length text)) none))
+hexLength text = pick (sameBytes text (ascii "-")) (some 0) (pick (eqb (length text) 0) none (pick (isHex text) (some (length text)) none))
 
 -- ---- decoding into a lent area
 

@@ -18,7 +18,10 @@ use Rattle.passage_lines.specs.declared.input.NextLine.the-variants.{Lin
 -- the lines of what is left of an input, after so many bytes of a line; a line feed (10) ends a line, and a last line without one counts
 unfoldable pub linesFrom : List ℕ → List ℕ → List (List ℕ)
 linesFrom seen [] = pick (eqb (length seen) 0) [] (seen ∷ [])
-linesFrom seen (c ∷ s) = pick (eqb c 10) (seen ∷ linesFrom [] s) (linesFrom (seen ++ (c ∷ [])) s)
+linesFrom seen (c ∷ s) =
+    let ended : List (List ℕ) = seen ∷ linesFrom [] s in
+    let longer : List (List ℕ) = linesFrom (seen ++ (c ∷ [])) s in
+    pick (eqb c 10) ended longer
 
 -- "A line [..] over 8,192 bytes [..] prints `bad`": only that it is there counts
 abbrev pub limited : List ℕ → Option (List ℕ)

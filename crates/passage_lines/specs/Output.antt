@@ -6,7 +6,7 @@ use lib.Dec.{leb, ltb}
 use lib.ListN.{length}
 use Rattle.hash_parts.specs.Choice.{pick}
 use Rattle.records.specs.Area.{pasted}
-use Rattle.passage_lines.specs.Hex.{dash}
+use Rattle.passage_lines.specs.Ascii.{ascii}
 
 -- the decimal digits of n (48 is `0`), where `steps` digits before the last are more than enough
 unfoldable pub digitsIn : ℕ → ℕ → List ℕ
@@ -27,7 +27,7 @@ hexText (b ∷ s) = hexDigit (b / 16) ∷ hexDigit (b % 16) ∷ hexText s
 
 -- "hexadecimal in small letters, `-` for no bytes"
 unfoldable pub bytesText : List ℕ → List ℕ
-bytesText [] = dash
+bytesText [] = ascii "-"
 bytesText (b ∷ s) = hexText (b ∷ s)
 
 -- what writing leaves: the position after what was written, and the area's content

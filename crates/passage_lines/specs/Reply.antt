@@ -4,25 +4,21 @@
 use Prim.Native.Nat.{ℕ}
 use mathlib.Core.List.{List, [], _∷_, _++_}
 use Rattle.hash_parts.specs.Error.{errorNumber}
-use Rattle.passage_lines.specs.Command.{openText, putText, closeText, getText}
+use Rattle.passage_lines.specs.Ascii.{ascii}
 use Rattle.passage_lines.specs.Output.{decimalText, bytesText}
-use Rattle.passage_lines.specs.Text.{noneText}
 use Rattle.passage_lines.specs.declared.reply.Reply.{Reply}
 use Rattle.passage_lines.specs.declared.reply.Reply.the-variants.{Bad, Missing, Refused, Accepted}
 use Rattle.passage_lines.specs.declared.reply.Word.{Word}
 use Rattle.passage_lines.specs.declared.reply.Word.the-variants.{Open, Put, Close, Get}
 
 abbrev pub wordText : Word → List ℕ
-wordText Open = openText
-wordText Put = putText
-wordText Close = closeText
-wordText Get = getText
-
-abbrev pub badText : List ℕ
-badText = 98 ∷ 97 ∷ 100 ∷ []
+wordText Open = ascii "open"
+wordText Put = ascii "put"
+wordText Close = ascii "close"
+wordText Get = ascii "get"
 
 abbrev pub lineFeed : List ℕ
-lineFeed = 10 ∷ []
+lineFeed = ascii "\n"
 
 -- a number as a field: a space, and its digits
 abbrev pub numberField : ℕ → List ℕ
@@ -38,11 +34,11 @@ acceptedText word first second = wordText word ++ (numberField 0 ++ (numberField
 
 -- the line of a reply, with its line feed
 unfoldable pub replyText : Reply → List ℕ
-replyText Bad = badText ++ lineFeed
-replyText Missing = getText ++ (32 ∷ noneText ++ lineFeed)
+replyText Bad = ascii "bad\n"
+replyText Missing = ascii "get none\n"
 replyText (Refused word error) = refusedText word (errorNumber error)
 replyText (Accepted word first second) = acceptedText word first second
 
 -- the line of a value that was found
 unfoldable pub valueText : List ℕ → List ℕ
-valueText value = getText ++ (numberField 0 ++ (32 ∷ bytesText value ++ lineFeed))
+valueText value = ascii "get 0 " ++ (bytesText value ++ lineFeed)

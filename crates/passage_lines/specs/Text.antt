@@ -15,6 +15,7 @@ use Rattle.hash_parts.specs.declared.duration.Lifetime.the-variants as life
 use Rattle.hash_parts.specs.declared.setting.SegmentExpiry.{SegmentExpiry}
 use Rattle.hash_parts.specs.declared.setting.SegmentExpiry.the-variants as expiry
 use Rattle.records.specs.Area.{sameBytes}
+use Rattle.passage_lines.specs.Ascii.{ascii}
 use Rattle.passage_lines.specs.declared.text.DurationText.{DurationText}
 use Rattle.passage_lines.specs.declared.text.DurationText.the-variants as duration
 use Rattle.passage_lines.specs.declared.text.LayoutText.{LayoutText}
@@ -69,21 +70,9 @@ durationGiven duration.Bad = none
 
 -- ---- layout, tick length and lifetime
 
-abbrev pub packedText : List ℕ
-packedText = 112 ∷ 97 ∷ 99 ∷ 107 ∷ 101 ∷ 100 ∷ []
-
-abbrev pub wordsText : List ℕ
-wordsText = 119 ∷ 111 ∷ 114 ∷ 100 ∷ 115 ∷ []
-
-abbrev pub noneText : List ℕ
-noneText = 110 ∷ 111 ∷ 110 ∷ 101 ∷ []
-
-abbrev pub neverText : List ℕ
-neverText = 110 ∷ 101 ∷ 118 ∷ 101 ∷ 114 ∷ []
-
 -- "Layout is `packed` or `words`": whether it is packed
 unfoldable pub layoutOf : List ℕ → Option Bool
-layoutOf text = pick (sameBytes text packedText) (some true) (pick (sameBytes text wordsText) (some false) none)
+layoutOf text = pick (sameBytes text (ascii "packed")) (some true) (pick (sameBytes text (ascii "words")) (some false) none)
 
 abbrev pub layoutGiven : LayoutText → Option Bool
 layoutGiven (layout.Packed p) = some p
@@ -95,7 +84,7 @@ ticksOf (some tick) = some (expiry.Relative16 tick)
 
 -- "tick length may be `none`"
 unfoldable pub tickLengthOf : List ℕ → Option SegmentExpiry
-tickLengthOf text = pick (sameBytes text noneText) (some expiry.None) (ticksOf (durationOf text))
+tickLengthOf text = pick (sameBytes text (ascii "none")) (some expiry.None) (ticksOf (durationOf text))
 
 abbrev pub tickLengthGiven : TickLength → Option SegmentExpiry
 tickLengthGiven (tick.Of e) = some e
@@ -107,7 +96,7 @@ endingAfter (some d) = some (life.For d)
 
 -- "lifetime `never`"
 unfoldable pub lifetimeOf : List ℕ → Option Lifetime
-lifetimeOf text = pick (sameBytes text neverText) (some life.Never) (endingAfter (durationOf text))
+lifetimeOf text = pick (sameBytes text (ascii "never")) (some life.Never) (endingAfter (durationOf text))
 
 abbrev pub lifetimeGiven : LifetimeText → Option Lifetime
 lifetimeGiven (lifetime.Of l) = some l

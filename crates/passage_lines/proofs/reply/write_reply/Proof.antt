@@ -1,8 +1,8 @@
 -- `write_reply` meets its contract: each kind of reply is its line. Assumes nothing.
 use borrow.Author.Needs.{needs}
 use mathlib.Core.Path.{_≡_, ap, _∙_}
-use mathlib.Core.List.{[], _∷_}
 use native.Mathlib.Omega.{arith}
+use Rattle.passage_lines.specs.Ascii.{ascii}
 use Rattle.passage_lines.specs.Reply.{replyText}
 use Rattle.passage_lines.proofs.Replies.{appended-parts}
 use Rattle.passage_lines.proofs.reply.write_reply.Statement.{statement}
@@ -47,7 +47,7 @@ same-length c = search needs
 returns : tie.Need-returns
 unfolding replyText
 returns c = let t = c .before .before .put-text in
-    let p = appended-parts 0 (98 ∷ 97 ∷ 100 ∷ 10 ∷ []) (c .before .before .before .before .before .before .before .before .args .line .now) (t .last .0) (t .result) (t .ensures) (omega (arith, c .before .before .before .before .before .before .before .before .pre)) in
+    let p = appended-parts 0 (ascii "bad\n") (c .before .before .before .before .before .before .before .before .args .line .now) (t .last .0) (t .result) (t .ensures) (omega (arith, c .before .before .before .before .before .before .before .before .pre)) in
     rw (c .before .before .before .before .before .enum-told .given .1) (p .0, omega (arith, p .0), p .1)
 
 same-length-2 : tie.Need-same-length-2
@@ -56,7 +56,7 @@ same-length-2 c = search needs
 returns-2 : tie.Need-returns-2
 unfolding replyText
 returns-2 c = let t = c .before .before .put-text2 in
-    let p = appended-parts 0 (103 ∷ 101 ∷ 116 ∷ 32 ∷ 110 ∷ 111 ∷ 110 ∷ 101 ∷ 10 ∷ []) (c .before .before .before .before .before .before .before .before .args .line .now) (t .last .0) (t .result) (t .ensures) (omega (arith, c .before .before .before .before .before .before .before .before .pre)) in
+    let p = appended-parts 0 (ascii "get none\n") (c .before .before .before .before .before .before .before .before .args .line .now) (t .last .0) (t .result) (t .ensures) (omega (arith, c .before .before .before .before .before .before .before .before .pre)) in
     rw (c .before .before .before .before .before .enum-told2 .given .1) (p .0, omega (arith, p .0), p .1)
 
 same-length-3 : tie.Need-same-length-3
