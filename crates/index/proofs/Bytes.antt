@@ -101,7 +101,7 @@ below-eight P a b c d e f g h (suc (suc (suc (suc (suc (suc (suc zero))))))) l =
 below-eight P a b c d e f g h (suc (suc (suc (suc (suc (suc (suc (suc j)))))))) l = absurd (omega arith)
 
 -- byte j of a word, by division
-byte-at : (w j : ℕ) → j < 8 → getD (bytesOf 8 w) j 0 ≡ w / 2 ^ (j * 8) % 256
+pub byte-at : (w j : ℕ) → j < 8 → getD (bytesOf 8 w) j 0 ≡ w / 2 ^ (j * 8) % 256
 unfolding bytesOf
 byte-at w =
     below-eight (λ j. getD (bytesOf 8 w) j 0 ≡ w / 2 ^ (j * 8) % 256) (omega arith) (omega arith) (omega arith) (omega arith) (omega arith) (omega arith) (omega arith) (omega arith)

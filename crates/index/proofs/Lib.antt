@@ -19,6 +19,7 @@ pub mod Pairs
 pub mod Placed
 pub mod Pushes
 pub mod Searches
+pub mod SlotReads
 pub mod Slots
 pub mod Splits
 pub mod Starts

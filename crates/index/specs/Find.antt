@@ -4,9 +4,9 @@
 -- Assumes nothing.
 use mathlib.Core.Bool.{Bool, true, false, not}
 use mathlib.Core.List.{List, [], _∷_, map}
-use Prim.Native.Nat.{ℕ, zero, suc, _+_, _*_}
-use lib.Dec.{eqb, leb}
-use lib.ListN.{length, take, drop}
+use Prim.Native.Nat.{ℕ, zero, suc, _+_, _*_, _/_, _%_}
+use lib.Dec.{eqb, leb, ltb}
+use lib.ListN.{length, take, drop, getD}
 use Rattle.hash_parts.specs.Choice.{pick}
 use Rattle.hash_parts.specs.Hash.{tagOf}
 use Rattle.records.specs.Area.{spanned, sameBytes}
@@ -116,6 +116,11 @@ found packed may looks i (b ∷ bs) =
 -- the slots of bucket b of a finished index
 abbrev pub slotsOf : Bool → ℕ → List ℕ → ℕ → List IndexSlot
 slotsOf packed buckets index b = pick packed (packedBucket buckets index b) (map wordSlot (take 8 (drop (8 * b) index)))
+
+-- slot s of a finished index; empty past its buckets, and in an area with fewer words than they need
+unfoldable pub slotAt : Bool → ℕ → List ℕ → ℕ → IndexSlot
+slotAt packed buckets index s =
+    pick (leb (8 * buckets) (length index)) (pick (ltb s (8 * buckets)) (getD (slotsOf packed buckets index (s / 8)) (s % 8) Empty) Empty) Empty
 
 -- the first record of the key on the walk of its hash; an area with fewer words than the buckets need holds none
 unfoldable pub findIn : SegmentView → Bool → List ℕ → ℕ → List ℕ → ℕ → List ℕ → List ℕ → List ℕ → List ℕ → ℕ → FindAnswer

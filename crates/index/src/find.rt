@@ -22,7 +22,7 @@ ghost use mathlib.Core.Path.{_≡_};
 ghost use mathlib.Core.List.{map};
 ghost use Prim.Native.Nat.{_+_, _*_, _<_, _≤_};
 ghost use lib.ListN.{drop, getD, length, take};
-ghost use Rattle.index.specs.Find.{endsAt, findIn, inBucket, look, looksFrom, scan, slotsOf, stepOf, sweptOut};
+ghost use Rattle.index.specs.Find.{endsAt, findIn, inBucket, look, looksFrom, scan, slotAt, slotsOf, stepOf, sweptOut};
 ghost use Rattle.index.specs.Filter.{filterHas};
 ghost use Rattle.index.specs.Packed.{packedBucket};
 ghost use Rattle.index.specs.Slot.{packedTag, keptTag, wordSlot};
@@ -281,6 +281,23 @@ fn find_in_packed_slot(
         bucket * BUCKET_SLOTS + offset,
         content,
     )
+}
+
+// A slot of a finished index, in either layout; empty past its buckets, and where the area holds
+// fewer.
+pub fn slot_at(index: &[u64], packed: bool, buckets: usize, slot: usize) -> IndexSlot
+    ensures { λ r. ⌜ r ≡ slotAt packed buckets (now (index .entry)) slot ⌝ }
+{
+    if index.len() / BUCKET_SLOTS < buckets {
+        return IndexSlot::Empty;
+    }
+    if slot / BUCKET_SLOTS >= buckets {
+        return IndexSlot::Empty;
+    }
+    if packed {
+        return packed_slot_at(index, buckets, slot / BUCKET_SLOTS, slot % BUCKET_SLOTS);
+    }
+    word_slot(index[slot])
 }
 
 // A slot of the packed layout. The reference of slot 7 ends in the word that slot 6's begins.

@@ -1,0 +1,106 @@
+-- An accepted finish keeps the relation of world and book. Assumes nothing.
+use mathlib.Core.Path.{_≡_, sym, _∙_, subst}
+use mathlib.Core.Bool.{true}
+use mathlib.Core.List.{List, _∷_}
+use mathlib.Core.Option.{some}
+use Prim.Native.Nat.{ℕ, _+_, _*_, _^_, _≤_, _<_}
+use native.Mathlib.Omega.{arith}
+use lib.ListN.{length, take}
+use Rattle.hash_parts.specs.declared.setting.SegmentExpiry.{SegmentExpiry}
+use Rattle.index.specs.Segments as cuts
+use Rattle.index.specs.View.{storedIn}
+use Rattle.index.proofs.Filling.{filled-back}
+use Rattle.index.proofs.Kept.{one-start, split-indexed}
+use Rattle.sets.specs.Build.{setOf}
+use Rattle.sets.specs.Lookup.{viewOf}
+use Rattle.sets.specs.Questions.{scratchHolds}
+use Rattle.sets.specs.declared.builder.SegmentCacheBuilder.{SegmentCacheBuilder}
+use Rattle.sets.proofs.Accepted.{FinishAsked, startsMade, finishMade}
+use Rattle.sets.proofs.Closure.{setPasses}
+use Rattle.book.specs.Book.{Entry, Book, startsOf}
+use Rattle.book.specs.World.{Areas}
+use Rattle.book.proofs.Cutting.{index-starts, every-start}
+use Rattle.book.proofs.Finishing.{split-reads, laid-out}
+use Rattle.book.proofs.Keys.{storedOf}
+use Rattle.book.proofs.Relation.{BuilderHolds, SetHolds}
+use Rattle.book.proofs.Standing.{Every, every-nil, every-cons, bytesOf, places, Stands}
+
+every-tail : {P : ℕ → Type 0} {a : ℕ} {l : List ℕ} → Every P (a ∷ l) → Every P l
+every-tail (every-cons x r) = r
+
+every-both : {P Q R : ℕ → Type 0} → ((v : ℕ) → P v → Q v → R v) → {l : List ℕ} → Every P l → Every Q l → Every R l
+every-both f every-nil every-nil = every-nil
+every-both f (every-cons x r) (every-cons y s) = every-cons (f _ x y) (every-both f r s)
+
+module _ (H : List ℕ → ℕ) where
+  pub builder-finish : (b : SegmentCacheBuilder) (a : Areas) (arena scratch : List ℕ) (target : ℕ) (k : Book) → BuilderHolds H b a (length arena) k
+      → FinishAsked b target (a .index) (a .starts) (a .lengths) scratch arena → length (startsMade b target (a .index) (a .starts) (a .lengths) scratch arena) ≤ 256
+      → take (length (k .tape)) arena ≡ k .tape
+      → setPasses (setOf b (length (startsMade b target (a .index) (a .starts) (a .lengths) scratch arena)))
+      (length (finishMade b target (a .index) (a .starts) (a .lengths) scratch arena .index)) (length (a .filter))
+      (length (finishMade b target (a .index) (a .starts) (a .lengths) scratch arena .starts))
+      (length (finishMade b target (a .index) (a .starts) (a .lengths) scratch arena .lengths)) (length arena) ≡ true
+      → SetHolds H (k .expiry) arena (length (k .tape))
+      record {
+        cache = setOf b (length (startsMade b target (a .index) (a .starts) (a .lengths) scratch arena));
+        areas =
+            record {
+              index = finishMade b target (a .index) (a .starts) (a .lengths) scratch arena .index;
+              filter = a .filter;
+              starts = finishMade b target (a .index) (a .starts) (a .lengths) scratch arena .starts;
+              lengths = finishMade b target (a .index) (a .starts) (a .lengths) scratch arena .lengths;
+            };
+      }
+      record { list = k .list; starts = startsOf (length (k .tape)) target (k .list); filled = length (k .tape) }
+  unfolding scratchHolds cuts.startsOf
+  builder-finish b a arena scratch target k ok asked few memory passes =
+      record {
+        expiry = ok .expiry;
+        low = omega (arith, ok .filled);
+        filled = ok .filled;
+        starts = filled-back ss (a .starts) few ∙ same;
+        passes = passes;
+        index =
+            laid-out (b .config .«packed_bucket_index») (b .«bucket_count») (cuts.splitWords (a .index) (b .«bucket_count») ss (b .filled) target) scratch (asked .scratch-holds)
+            (split-indexed (Stands x tape (places (k .list))) Reads ss located moves (b .«bucket_count») (a .index) (b .filled) target (one-start ws (b .filled) target) (ok .index));
+      }
+    where
+      x : SegmentExpiry
+      x = k .expiry
+
+      tape : List ℕ
+      tape = k .tape
+
+      ws : List ℕ
+      ws = take (8 * b .«bucket_count») (a .index)
+
+      ss : List ℕ
+      ss = cuts.startsOf ws (b .filled) target
+
+      short : length tape ≤ 2 ^ 30
+      short = omega (arith, ok .filled, asked .areas .filled-held, asked .areas .arena-short)
+
+      same : ss ≡ startsOf (length tape) target (k .list)
+      same =
+          rw (← ok .filled)
+          (index-starts (b .«bucket_count») (a .index) (a .filter) (b .«filter_words») (b .filled) target (k .list) (ok .index) (asked .some-target) (rw (ok .filled) (ok .below)) (omega (arith, ok .filled, short)) few)
+
+      Reads : ℕ → Entry → Type 0
+      Reads m e =
+          storedIn (viewOf (setOf b (length ss))) arena (cuts.replaced (cuts.padded ss) (a .starts)) (cuts.replaced (cuts.padded (cuts.lengthsOf (b .filled) ss)) (a .lengths)) m
+          ≡ some (storedOf e)
+
+      located : (e : Entry) → Stands x tape (places (k .list)) 0 e → ⊥
+      located e h = omega (arith, h .flat)
+
+      apart : (e : Entry) {l : ℕ} → Stands x tape (places (k .list)) l e → Every (λ c. (e .at < c → e .at + length (bytesOf x e) ≤ c) × (c ≤ length tape)) ss
+      apart e h =
+          subst (λ (m : List ℕ). Every (λ c. (e .at < c → e .at + length (bytesOf x e) ≤ c) × (c ≤ length tape)) m) (sym same)
+          (every-start (λ c. (e .at < c → e .at + length (bytesOf x e) ≤ c) × (c ≤ length tape)) target (k .list) (every-both (λ v p q. (p, omega (arith, q))) (h .apart) (ok .below)) (length tape)
+          (λ (z : e .at < 0). omega arith, omega arith))
+
+      moves : (l : ℕ) (e : Entry) → Stands x tape (places (k .list)) (l + 1) e → (cuts.segmented ss l + 1 < 2 ^ 40) × Reads (cuts.segmented ss l + 1) e
+      moves l e h =
+          let at : l ≡ e .at = omega (arith, h .flat) in
+          rw (at, ok .expiry, ok .filled)
+          (split-reads x tape arena (a .starts) (a .lengths) memory short (asked .starts-hold) (asked .lengths-hold) 0 _ (rw (ok .filled) at few) e (h .written) (omega arith) (rw (ok .filled) at (every-tail (apart e h))))

@@ -1,0 +1,90 @@
+-- What else the lists of calls keep: no lookup in a finished set is refused, and segments and tape are the book's. Assumes nothing.
+use mathlib.Core.Path.{_≡_, refl, ap₂}
+use mathlib.Core.Bool.{Bool, true, false}
+use mathlib.Core.List.{List, [], _∷_, _++_, map, Forall₂, Forall₂·nil, Forall₂·cons}
+use mathlib.Core.Option.{Option, none, some}
+use Prim.Native.Nat.{ℕ}
+use native.Mathlib.Omega.{arith}
+use lib.Dec.{eqb, ltb}
+use lib.ListN.{length, take, getElem?}
+use Rattle.hash_parts.specs.Choice.{pick}
+use Rattle.hash_parts.specs.declared.setting.SegmentCacheConfig.{SegmentCacheConfig}
+use Rattle.hash_parts.specs.declared.setting.SegmentExpiry.{SegmentExpiry}
+use Rattle.book.specs.Book.{Entry, ListedSet, Book, blank, heard, bookAfter, firstOf, ruled, replyFrom, replied, replies}
+use Rattle.book.specs.Calls.{Call, push, finish, lookup, clear, bare, value, nothing, refused}
+use Rattle.book.specs.Premise.{EqualHashes, Hashes64}
+use Rattle.book.specs.World.{Areas, FinishedSet, World, step, opened, worldAfter, told, answers}
+use Rattle.book.proofs.Hashing.{AllHashed, hashed}
+use Rattle.book.proofs.Relation.{SetHolds, Holds}
+use Rattle.book.proofs.Standing.{Every, every-nil, every-cons}
+use Rattle.book.proofs.Steps.{step-holds, open-holds}
+use Rattle.book.proofs.Theorem.{answers-by-the-book}
+
+-- ---- refusals
+
+-- the book's rule never says `refused`
+never-ruled : (tick : ℕ) (o : Option Entry) → ruled tick o ≡ refused → ⊥
+never-ruled tick none e = let z : _≡_ {A = ℕ} 0 1 = cc in omega arith
+never-ruled tick (some d) e = go (eqb (d .deadline) 65535) (ltb tick (d .deadline)) e
+  where
+    go : (never before : Bool) → pick never (value (d .value)) (pick before (value (d .value)) nothing) ≡ refused → ⊥
+    go true before f = let z : _≡_ {A = ℕ} 0 1 = cc in omega arith
+    go false true f = let z : _≡_ {A = ℕ} 0 1 = cc in omega arith
+    go false false f = let z : _≡_ {A = ℕ} 0 1 = cc in omega arith
+
+never-replied : (k : Book) (c : Call (Unit {0})) → Every (λ y. y ≡ refused → ⊥) (replied k c)
+never-replied k (push key v h lifetime) = every-nil
+never-replied k (finish target scratch) = every-nil
+never-replied k (clear set key h) = every-nil
+never-replied k (lookup set key h tick) = every-cons (go (getElem? (k .sets) set)) every-nil
+  where
+    go : (o : Option ListedSet) → replyFrom o key tick ≡ refused → ⊥
+    go none e = let z : _≡_ {A = ℕ} 0 1 = cc in omega arith
+    go (some l) e = never-ruled tick (firstOf key (l .list)) e
+
+every-append : {A : Type 0} {P : A → Type 0} {l m : List A} → Every P l → Every P m → Every P (l ++ m)
+every-append every-nil s = s
+every-append (every-cons x r) s = every-cons x (every-append r s)
+
+never-in : (k : Book) (ts : List (Call (Unit {0}) × Bool)) → Every (λ y. y ≡ refused → ⊥) (replies k ts)
+never-in k [] = every-nil
+never-in k (t ∷ ts) = every-append (never-replied k (t .0)) (never-in (heard k t) ts)
+
+-- no lookup in a finished set is refused
+pub no-lookup-refused : (config : SegmentCacheConfig) (records : ℕ) (arena : List ℕ) (areas : Areas) (calls : List (Call (List ℕ))) → EqualHashes calls → Hashes64 calls
+    → Every (λ y. y ≡ refused → ⊥) (answers (opened config records arena areas) calls)
+no-lookup-refused config records arena areas calls equal small =
+    rw (answers-by-the-book config records arena areas calls equal small) (never-in (blank config) (told (opened config records arena areas) calls))
+
+-- ---- segments and tape
+
+module _ (H : List ℕ → ℕ) where
+  at-end : (cs : List (Call (List ℕ))) (w : World) (k : Book) → Holds H w k → AllHashed H cs → Holds H (worldAfter w cs) (bookAfter k (told w cs))
+  at-end [] w k m hs = m
+  at-end (c ∷ cs) w k m hs = at-end cs (step w c .after) (heard k (bare c, step w c .accepted)) (step-holds H w k m c (hs .0)) (hs .1)
+
+-- the starts of a set's segments, and its filled bytes
+abbrev pub segmentsOf : FinishedSet → List ℕ × ℕ
+segmentsOf s = (take (s .cache .segments) (s .areas .starts), s .cache .filled)
+
+abbrev pub segmentsIn : ListedSet → List ℕ × ℕ
+segmentsIn l = (l .starts, l .filled)
+
+same-segments : {H : List ℕ → ℕ} {x : SegmentExpiry} {arena : List ℕ} {top : ℕ} {ss : List FinishedSet} {ls : List ListedSet} → Forall₂ (SetHolds H x arena top) ss ls → map segmentsOf ss ≡ map segmentsIn ls
+same-segments Forall₂·nil = refl
+same-segments (Forall₂·cons y r) =
+    ap₂ (λ (p : List ℕ × ℕ) (l : List (List ℕ × ℕ)). p ∷ l) (ap₂ (λ (starts : List ℕ) (filled : ℕ). (starts, filled)) (y .starts) (y .filled)) (same-segments r)
+
+pub segments-by-the-book : (config : SegmentCacheConfig) (records : ℕ) (arena : List ℕ) (areas : Areas) (calls : List (Call (List ℕ))) → EqualHashes calls → Hashes64 calls
+    → map segmentsOf (worldAfter (opened config records arena areas) calls .sets) ≡ map segmentsIn (bookAfter (blank config) (told (opened config records arena areas) calls) .sets)
+segments-by-the-book config records arena areas calls equal small =
+    let h = hashed calls equal small in
+    same-segments (at-end (h .0) calls (opened config records arena areas) (blank config) (open-holds (h .0) config records arena areas) (h .1) .sets)
+
+-- and the tape is what the arena begins with
+pub tape-in-arena : (config : SegmentCacheConfig) (records : ℕ) (arena : List ℕ) (areas : Areas) (calls : List (Call (List ℕ))) → EqualHashes calls → Hashes64 calls
+    → take (length (bookAfter (blank config) (told (opened config records arena areas) calls) .tape)) (worldAfter (opened config records arena areas) calls .arena)
+    ≡ bookAfter (blank config) (told (opened config records arena areas) calls) .tape
+tape-in-arena config records arena areas calls equal small =
+    let h = hashed calls equal small in
+    at-end (h .0) calls (opened config records arena areas) (blank config) (open-holds (h .0) config records arena areas) (h .1) .memory

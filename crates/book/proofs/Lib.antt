@@ -1,0 +1,14 @@
+pub mod Asking
+pub mod Closing
+pub mod Consequences
+pub mod Cutting
+pub mod Finishing
+pub mod Hashing
+pub mod Keys
+pub mod Pushing
+pub mod Reading
+pub mod Relation
+pub mod Standing
+pub mod Steps
+pub mod Theorem
+pub mod Trial

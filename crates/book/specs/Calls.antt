@@ -1,0 +1,31 @@
+-- The calls that a list is made of, and what a lookup answers.
+-- Assumes nothing.
+use mathlib.Core.List.{List}
+use Prim.Native.Nat.{ℕ}
+use Rattle.hash_parts.specs.declared.duration.Lifetime.{Lifetime}
+
+-- A call by its arguments, and the areas that are lent afresh with it, of any content; sets are numbered from 0, the oldest first. `Area` is what is known of
+-- an area: its content in the world, nothing in the book, whose calls have the type of one element there.
+pub data Call (Area : Type 0) : Type 0 where
+  -- key, value, hash, lifetime
+  push : List ℕ → List ℕ → ℕ → Lifetime → Call Area
+  -- target, scratch
+  finish : ℕ → Area → Call Area
+  -- set, key, hash, tick
+  lookup : ℕ → List ℕ → ℕ → ℕ → Call Area
+  -- the access mark is cleared: set, key, hash
+  clear : ℕ → List ℕ → ℕ → Call Area
+
+-- a call without its areas
+abbrev pub bare : {Area : Type 0} → Call Area → Call (Unit {0})
+bare (push key value hash lifetime) = push key value hash lifetime
+bare (finish target scratch) = finish target tt
+bare (lookup set key hash tick) = lookup set key hash tick
+bare (clear set key hash) = clear set key hash
+
+-- what a lookup answers: "the value's bytes or nothing"; or it is refused, or there is no such set
+pub data Answer : Type 0 where
+  value : List ℕ → Answer
+  nothing : Answer
+  refused : Answer
+  absent : Answer

@@ -1,0 +1,23 @@
+-- The premise of the claim on lists of calls: equal keys carry equal hashes, in pushes, lookups and clearings, and hashes are numbers of 64 bits.
+-- Assumes nothing.
+use mathlib.Core.Path.{_≡_}
+use mathlib.Core.List.{List, [], _∷_, _++_, List·Memᴰ}
+use Prim.Native.Nat.{ℕ, _^_, _<_}
+use Rattle.book.specs.Calls.{Call, push, finish, lookup, clear}
+
+-- the key of a call, with the hash that it carries
+abbrev pub carriedBy : {Area : Type 0} → Call Area → List (List ℕ × ℕ)
+carriedBy (push key v hash lifetime) = (key, hash) ∷ []
+carriedBy (finish target scratch) = []
+carriedBy (lookup set key hash tick) = (key, hash) ∷ []
+carriedBy (clear set key hash) = (key, hash) ∷ []
+
+abbrev pub carried : {Area : Type 0} → List (Call Area) → List (List ℕ × ℕ)
+carried [] = []
+carried (c ∷ cs) = carriedBy c ++ carried cs
+
+abbrev pub EqualHashes : {Area : Type 0} → List (Call Area) → Type 0
+EqualHashes cs = (key : List ℕ) (h g : ℕ) → List·Memᴰ (key, h) (carried cs) → List·Memᴰ (key, g) (carried cs) → h ≡ g
+
+abbrev pub Hashes64 : {Area : Type 0} → List (Call Area) → Type 0
+Hashes64 cs = (key : List ℕ) (h : ℕ) → List·Memᴰ (key, h) (carried cs) → h < 2 ^ 64

@@ -1,0 +1,184 @@
+-- The world that a list of calls goes through: states and areas as the calls leave them. Each call is the very definition that its contract
+-- cites (afterOpen, afterPush, afterFinish, afterGet, afterTake), and the world after it holds what that definition says is left, refused calls
+-- included. States and areas are carried over from call to call, nothing else writes to them, and no area is shared.
+-- Assumes nothing.
+use mathlib.Core.Bool.{Bool, true, false}
+use mathlib.Core.List.{List, [], _∷_, _++_}
+use mathlib.Core.Option.{Option, none, some}
+use Prim.Native.Nat.{ℕ}
+use lib.ListN.{set, getElem?}
+use Rattle.hash_parts.specs.declared.duration.Lifetime.{Lifetime}
+use Rattle.hash_parts.specs.declared.setting.SegmentCacheConfig.{SegmentCacheConfig}
+use Rattle.records.specs.Area.{spanned}
+use Rattle.records.specs.declared.record.Span.{Span}
+use Rattle.sets.specs.Answers.{Reply, accept, refuse, Placed}
+use Rattle.sets.specs.Build.{Opened, afterOpen, Pushed, afterPush, Finished, afterFinish}
+use Rattle.sets.specs.Lookup.{Got, afterGet, Taken, afterTake}
+use Rattle.sets.specs.declared.builder.SegmentCacheBuilder.{SegmentCacheBuilder}
+use Rattle.sets.specs.declared.cache.FrozenSegmentCache.{FrozenSegmentCache}
+use Rattle.book.specs.Calls.{Call, push, finish, lookup, clear, bare, Answer, value, nothing, refused, absent}
+
+-- ---- states with their areas
+
+-- the areas of a builder, and then of its set
+pub record Areas : Type 0 where
+  pub index : List ℕ
+  pub filter : List ℕ
+  pub starts : List ℕ
+  pub lengths : List ℕ
+
+-- at most one builder is open
+pub data Current : Type 0 where
+  idle : Current
+  building : SegmentCacheBuilder → Areas → Current
+
+pub record FinishedSet : Type 0 where
+  pub cache : FrozenSegmentCache
+  pub areas : Areas
+
+-- the arena, and the finished sets in it, the oldest first
+pub record World : Type 0 where
+  pub arena : List ℕ
+  pub current : Current
+  pub sets : List FinishedSet
+
+-- what a call leaves: the world, and whether it was accepted
+pub record Step : Type 0 where
+  pub after : World
+  pub accepted : Bool
+
+abbrev pub isAccepted : {A B : Type 0} → Reply A B → Bool
+isAccepted (accept a) = true
+isAccepted (refuse n b) = false
+
+-- a call out of turn
+abbrev pub outOfTurn : World → Step
+outOfTurn w = record { after = w; accepted = false }
+
+-- ---- open
+
+abbrev pub openedAs : Reply SegmentCacheBuilder (Unit {0}) → Areas → Current
+openedAs (accept b) areas = building b areas
+openedAs (refuse n u) areas = idle
+
+abbrev pub openLeaves : List ℕ → Areas → Opened → World
+openLeaves arena a o =
+    record {
+      arena = arena;
+      current = openedAs (o .answer) (record { index = o .index; filter = o .filter; starts = a .starts; lengths = a .lengths });
+      sets = [];
+    }
+
+-- the world after open
+abbrev pub opened : SegmentCacheConfig → ℕ → List ℕ → Areas → World
+opened config records arena a = openLeaves arena a (afterOpen config records (a .index) (a .filter) (a .starts) (a .lengths) arena)
+
+-- ---- push
+
+-- the builder that a push hands back
+abbrev pub builderIn : Reply Placed SegmentCacheBuilder → SegmentCacheBuilder
+builderIn (accept p) = p .builder
+builderIn (refuse n b) = b
+
+abbrev pub pushLeaves : World → Areas → Pushed → Step
+pushLeaves w a p =
+    record {
+      after =
+          record {
+            arena = p .arena;
+            current = building (builderIn (p .answer)) (record { index = p .index; filter = p .filter; starts = a .starts; lengths = a .lengths });
+            sets = w .sets;
+          };
+      accepted = isAccepted (p .answer);
+    }
+
+abbrev pub pushStep : World → Current → List ℕ → List ℕ → ℕ → Lifetime → Step
+pushStep w idle key v h ttl = outOfTurn w
+pushStep w (building b a) key v h ttl = pushLeaves w a (afterPush b h key v ttl (a .index) (a .filter) (w .arena))
+
+-- ---- finish
+
+-- the set joins the others; a builder that is refused stays open
+abbrev pub closedAs : World → Areas → Reply FrozenSegmentCache SegmentCacheBuilder → World
+closedAs w areas (accept s) = record { arena = w .arena; current = idle; sets = w .sets ++ (record { cache = s; areas = areas } ∷ []) }
+closedAs w areas (refuse n b) = record { arena = w .arena; current = building b areas; sets = w .sets }
+
+abbrev pub finishLeaves : World → Areas → Finished → Step
+finishLeaves w a f =
+    record {
+      after = closedAs w (record { index = f .index; filter = a .filter; starts = f .starts; lengths = f .lengths }) (f .answer);
+      accepted = isAccepted (f .answer);
+    }
+
+abbrev pub finishStep : World → Current → ℕ → List ℕ → Step
+finishStep w idle target scratch = outOfTurn w
+finishStep w (building b a) target scratch =
+    finishLeaves w a (afterFinish b target (a .index) (a .starts) (a .lengths) scratch (w .arena))
+
+-- ---- lookup and mark clearing: of a set only its index changes
+
+abbrev pub withIndex : FinishedSet → List ℕ → FinishedSet
+withIndex s index =
+    record {
+      cache = s .cache;
+      areas = record { index = index; filter = s .areas .filter; starts = s .areas .starts; lengths = s .areas .lengths };
+    }
+
+abbrev pub setLeaves : World → ℕ → FinishedSet → List ℕ → Bool → Step
+setLeaves w j s index accepted =
+    record { after = record { arena = w .arena; current = w .current; sets = set (w .sets) j (withIndex s index) }; accepted = accepted }
+
+abbrev pub getFrom : World → FinishedSet → List ℕ → ℕ → ℕ → Got
+getFrom w s key h tick =
+    afterGet (s .cache) h key tick (s .areas .index) (s .areas .filter) (s .areas .starts) (s .areas .lengths) (w .arena)
+
+abbrev pub takeFrom : World → FinishedSet → List ℕ → ℕ → Taken
+takeFrom w s key h = afterTake (s .cache) h key (s .areas .index) (s .areas .filter) (s .areas .starts) (s .areas .lengths) (w .arena)
+
+abbrev pub lookupStep : World → ℕ → Option FinishedSet → List ℕ → ℕ → ℕ → Step
+lookupStep w j none key h tick = outOfTurn w
+lookupStep w j (some s) key h tick = setLeaves w j s (getFrom w s key h tick .index) (isAccepted (getFrom w s key h tick .answer))
+
+abbrev pub clearStep : World → ℕ → Option FinishedSet → List ℕ → ℕ → Step
+clearStep w j none key h = outOfTurn w
+clearStep w j (some s) key h = setLeaves w j s (takeFrom w s key h .index) (isAccepted (takeFrom w s key h .answer))
+
+-- ---- a list of calls
+
+abbrev pub step : World → Call (List ℕ) → Step
+step w (push key v h ttl) = pushStep w (w .current) key v h ttl
+step w (finish target scratch) = finishStep w (w .current) target scratch
+step w (lookup j key h tick) = lookupStep w j (getElem? (w .sets) j) key h tick
+step w (clear j key h) = clearStep w j (getElem? (w .sets) j) key h
+
+-- the world after a list of calls
+abbrev pub worldAfter : World → List (Call (List ℕ)) → World
+worldAfter w [] = w
+worldAfter w (c ∷ cs) = worldAfter (step w c .after) cs
+
+-- the calls, without their areas, each with whether it was accepted: all that the book is fed
+abbrev pub told : World → List (Call (List ℕ)) → List (Call (Unit {0}) × Bool)
+told w [] = []
+told w (c ∷ cs) = (bare c, step w c .accepted) ∷ told (step w c .after) cs
+
+-- the bytes of a value are those that `value_slice` hands out of the arena as it is at that moment
+abbrev pub answerOf : List ℕ → Reply (Option Span) (Unit {0}) → Answer
+answerOf arena (accept none) = nothing
+answerOf arena (accept (some span)) = value (spanned arena span)
+answerOf arena (refuse n u) = refused
+
+abbrev pub answerFrom : World → Option FinishedSet → List ℕ → ℕ → ℕ → Answer
+answerFrom w none key h tick = absent
+answerFrom w (some s) key h tick = answerOf (w .arena) (getFrom w s key h tick .answer)
+
+-- a lookup answers, other calls do not
+abbrev pub answered : World → Call (List ℕ) → List Answer
+answered w (push key v h ttl) = []
+answered w (finish target scratch) = []
+answered w (lookup j key h tick) = answerFrom w (getElem? (w .sets) j) key h tick ∷ []
+answered w (clear j key h) = []
+
+-- the answers of the lookups in a list of calls
+abbrev pub answers : World → List (Call (List ℕ)) → List Answer
+answers w [] = []
+answers w (c ∷ cs) = answered w c ++ answers (step w c .after) cs

@@ -1,0 +1,103 @@
+-- The find of a finished set, and what the calls make of it. Assumes nothing.
+use mathlib.Core.Path.{_≡_, refl, sym, ap, _∙_}
+use mathlib.Core.Bool.{Bool, true, false}
+use mathlib.Core.List.{List, [], _∷_}
+use mathlib.Core.Option.{Option}
+use Prim.Native.Nat.{ℕ, _+_, _-_, _*_, _/_, _^_, _≤_, _<_, max}
+use native.Mathlib.Nat.{div-le-self, mul-le-mul-left}
+use native.Mathlib.Omega.{arith}
+use lib.Dec.{leb}
+use lib.ListN.{length}
+use borrow.Author.Tests.{leb-true}
+use Rattle.hash_parts.specs.Choice.{pick}
+use Rattle.hash_parts.specs.declared.error.SegmentCacheBuildError.the-variants.{InvalidState}
+use Rattle.hash_parts.specs.declared.setting.SegmentCacheConfig.{SegmentCacheConfig}
+use Rattle.records.specs.declared.record.Span.{Span}
+use Rattle.index.specs.Build.{bucketsFor}
+use Rattle.index.specs.declared.find.FindAnswer.{FindAnswer}
+use Rattle.index.specs.declared.find.FindAnswer.the-variants as find
+use Rattle.index.specs.declared.find.FoundRecord.{FoundRecord}
+use Rattle.index.proofs.FoundSlots.{find-slot}
+use Rattle.sets.specs.Answers.{Reply}
+use Rattle.sets.specs.Lookup.{Got, Taken, areasHoldSet, findOf, lookupIn, lookupOf, setFits, viewOf}
+use Rattle.sets.specs.Questions.{all, countsFit}
+use Rattle.sets.specs.Stats.{statsOf}
+use Rattle.sets.specs.declared.cache.FrozenSegmentCache.{FrozenSegmentCache}
+use Rattle.sets.specs.declared.cache.Lookup.{Lookup}
+use Rattle.sets.specs.declared.cache.Lookup.the-variants.{Found, Nothing, Refused}
+use Rattle.sets.specs.declared.stats.SegmentCacheStats.{SegmentCacheStats}
+use Rattle.sets.proofs.Counts.{both, counts-buckets, counts-records, counts-setting, counts-words, setting-occupied}
+
+-- ---- question 1
+
+pub set-index : (s : FrozenSegmentCache) (index starts lengths arena : ℕ) → areasHoldSet s index starts lengths arena ≡ true → 8 * s .buckets ≤ index
+unfolding areasHoldSet
+set-index s index starts lengths arena e =
+    let t = both (setFits s) _ e in
+    leb-true _ _ (both (leb (8 * s .buckets) index) _ (t .1) .0)
+
+pub set-counts : (s : FrozenSegmentCache) → setFits s ≡ true → countsFit (s .config) (s .entries) (s .buckets) (s .«filter_words») ≡ true
+unfolding setFits
+set-counts s e = both (countsFit (s .config) (s .entries) (s .buckets) (s .«filter_words»)) _ e .0
+
+-- buckets and filter words are few
+module _ (c : SegmentCacheConfig) (records buckets words : ℕ) (fits : countsFit c records buckets words ≡ true) where
+  pub few-buckets : buckets ≤ 1048582
+  unfolding bucketsFor
+  few-buckets =
+      let o = setting-occupied c (counts-setting c records buckets words fits) in
+      let n : ℕ = records + (c .«target_occupied_slots» - 1) in
+      omega (arith, o .1, counts-buckets c records buckets words fits, counts-records c records buckets words fits, div-le-self n (c .«target_occupied_slots»))
+
+  pub few-words : c .«negative_filter_bits_per_entry» < 256 → words ≤ 4194304
+  few-words small =
+      let p : records * c .«negative_filter_bits_per_entry» ≤ records * 255 = mul-le-mul-left records (omega arith) in
+      omega (arith, p, counts-words c records buckets words fits, counts-records c records buckets words fits)
+
+-- ---- the slot of a record that was found
+
+pub lookup-slot : (s : FrozenSegmentCache) (h : ℕ) (key index filter starts lengths arena : List ℕ) (y : FoundRecord) → h < 2 ^ 64
+    → lookupIn s h key index filter starts lengths arena ≡ Found y → y .slot < length index
+unfolding lookupIn
+lookup-slot s h key index filter starts lengths arena y bound e =
+    asked (areasHoldSet s (length index) (length starts) (length lengths) (length arena)) (leb (s .«filter_words») (length filter)) refl e
+  where
+    found : (a : FindAnswer) → lookupOf a ≡ Found y → a ≡ find.Found y
+    found (find.Found x) q = ap find.Found (cc)
+    found find.Nothing q = absurd (let z : _≡_ {A = ℕ} 0 1 = cc in omega arith)
+
+    asked : (b f : Bool) → areasHoldSet s (length index) (length starts) (length lengths) (length arena) ≡ b
+        → pick (all (b ∷ f ∷ [])) (lookupOf (findOf s h key index filter starts lengths arena)) (Refused InvalidState) ≡ Found y → y .slot < length index
+    asked false f p q = absurd (let z : _≡_ {A = ℕ} 0 1 = cc in omega arith)
+    asked true false p q = absurd (let z : _≡_ {A = ℕ} 0 1 = cc in omega arith)
+    asked true true p q =
+        let t = find-slot (viewOf s) (s .config .«packed_bucket_index») index (s .buckets) filter (s .«filter_words») starts lengths arena key h y bound
+        (found (findOf s h key index filter starts lengths arena) q) in
+        omega (arith, t .1, set-index s (length index) (length starts) (length lengths) (length arena) p)
+
+-- ---- two parts of what a call leaves
+
+pub got : {x y : Reply (Option Span) (Unit {0})} {i j : List ℕ} → x ≡ y → i ≡ j → _≡_ {A = Got} (record { answer = x; index = i }) (record { answer = y; index = j })
+got p q = rw (p, q)
+
+pub taken : {x y : Reply Bool (Unit {0})} {i j : List ℕ} → x ≡ y → i ≡ j → _≡_ {A = Taken} (record { answer = x; index = i }) (record { answer = y; index = j })
+taken p q = rw (p, q)
+
+-- the statistics as they are worked out
+pub stats-made : (s : FrozenSegmentCache)
+    → _≡_ {A = SegmentCacheStats}
+    (record {
+      entries = s .entries;
+      buckets = s .buckets;
+      «index_slots» = s .buckets * 8;
+      «index_bytes» = s .buckets * 64 + s .«filter_words» * 8;
+      «record_bytes» = s .«record_bytes»;
+      «logical_key_bytes» = s .«logical_key_bytes»;
+      «logical_value_bytes» = s .«logical_value_bytes»;
+      «record_header_bytes» = s .«record_header_bytes»;
+    })
+    (statsOf s)
+stats-made s =
+    let e : s .buckets * 8 ≡ 8 * s .buckets = omega arith in
+    let f : s .buckets * 64 + s .«filter_words» * 8 ≡ 64 * s .buckets + 8 * s .«filter_words» = omega arith in
+    rw (e, f)

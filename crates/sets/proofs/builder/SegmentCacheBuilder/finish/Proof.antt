@@ -1,0 +1,137 @@
+-- `finish` meets its contract. Assumes nothing.
+use mathlib.Core.Path.{_≡_, refl, sym, ap, _∙_}
+use borrow.Author.Tests.{lt-ltb, le-ltb, le-leb, lt-leb, eq-eqb, ne-eqb, not-true, not-false}
+use lib.ListN.{length}
+use Rattle.index.specs.Segments.{splitResult}
+use Rattle.index.specs.declared.segments.SplitAnswer.{SplitAnswer}
+use Rattle.sets.specs.Build.{afterFinish}
+use Rattle.sets.specs.Questions.{checkNumber}
+use Rattle.sets.proofs.Decides.{decided-refused}
+use Rattle.sets.proofs.Counts.{builder-numbers, builder-sound}
+use Rattle.sets.proofs.Plans.{finish-asked}
+use Rattle.sets.proofs.Splitting.{split-made, split-refused}
+use borrow.Author.Needs.{needs}
+use Rattle.sets.proofs.builder.SegmentCacheBuilder.finish.Statement.{statement}
+use Rattle.sets.proofs.builder.SegmentCacheBuilder.finish.Tie as tie
+use Rattle.sets.proofs.builder.SegmentCacheBuilder.finish.Reads as reads
+use Rattle.sets.proofs.builder.SegmentCacheBuilder.finish.Lts as lts
+use Rattle.index.proofs.segments.split_record_segments.Reads as split-record-segments-reads
+use Rattle.sets.proofs.builder.SegmentCacheBuilder.check_finish.Reads as check-finish-reads
+use Rattle.sets.proofs.builder.SegmentCacheBuilder.into_cache.Reads as into-cache-reads
+use Rattle.sets.proofs.builder.pack_index.Reads as pack-index-reads
+
+-- src/builder.rt:165:42
+check-finish-requires : tie.Need-check-finish-requires
+check-finish-requires c κs = search needs
+
+-- src/builder.rt:165:31
+enum-known-refusal : tie.Need-enum-known-refusal
+enum-known-refusal c = search needs
+
+-- src/builder.rt:173:13
+same-length : tie.Need-same-length
+same-length c = search needs
+
+-- src/builder.rt:173:13
+returns : tie.Need-returns
+unfolding afterFinish
+returns c = rw (sym (c .before .before .before .check-finish .ensures) ∙ ap checkNumber (c .before .refusal .given .1)) (sym (decided-refused (c .before .refusal .given .0 .0) _ _))
+
+enum-told : tie.Need-enum-told
+enum-told c = search needs
+
+-- src/builder.rt:178:15
+split-record-segments-requires : tie.Need-split-record-segments-requires
+split-record-segments-requires c κs = search needs
+
+-- src/builder.rt:186:34
+enum-known-refusal-2 : tie.Need-enum-known-refusal-2
+enum-known-refusal-2 c = search needs
+
+-- src/builder.rt:190:35
+enum-known-segments : tie.Need-enum-known-segments
+enum-known-segments c = search needs
+
+-- src/builder.rt:192:17
+pack-index-requires : tie.Need-pack-index-requires
+pack-index-requires c κs = search needs
+
+-- src/builder.rt:193:40
+into-cache-requires : tie.Need-into-cache-requires
+into-cache-requires c κs =
+    let a = c .before .before .before .before .before .before .before .before .before .before .before .before .before .before .before .before .before .before .before .before .before .before .before .before .before .before .before .before .before .args in
+    let q = finish-asked (a .self) (a .target) (a .index .now) (length (a .starts .now)) (length (a .lengths .now)) (length (a .scratch .now)) (length (a .arena .now)) (sym (c .before .before .before .before .before .before .before .before .before .before .before .before .before .before .before .before .before .before .before .before .before .before .check-finish .ensures) ∙ ap checkNumber (c .before .before .before .before .before .before .before .before .before .before .before .before .before .before .before .before .before .before .before .before .enum-told .given .1)) in
+    builder-numbers (a .self) (builder-sound (a .self) (length (a .index .now)) (length (a .arena .now)) (q .holds)) .both-filled
+
+-- src/builder.rt:154:5
+same-length-2 : tie.Need-same-length-2
+same-length-2 c = search needs
+
+-- src/builder.rt:154:5
+same-length-3 : tie.Need-same-length-3
+same-length-3 c = search needs
+
+-- src/builder.rt:154:5
+same-length-4 : tie.Need-same-length-4
+same-length-4 c = search needs
+
+-- src/builder.rt:154:5
+returns-2 : tie.Need-returns-2
+unfolding afterFinish
+returns-2 c =
+    let a = c .before .before .before .before .before .before .before .before .before .before .before .before .before .before .before .before .before .before .before .before .before .before .args in
+    let w = c .before .before .before .before .before .before .before .before .before .split-record-segments in
+    let told = c .before .refusal2 .given in
+    let q = ap (λ (r : SplitAnswer). splitResult r (w .last .0) (w .last .1 .1 .1 .1 .0) (w .last .1 .1 .1 .1 .1 .0)) (sym (told .1)) ∙ w .ensures in
+    rw (sym (c .before .before .before .before .before .before .before .before .before .before .before .before .before .before .before .check-finish .ensures) ∙ ap checkNumber (c .before .before .before .before .before .before .before .before .before .before .before .before .before .enum-told .given .1)) (split-refused (a .self) (a .scratch .now) (w .last .0) (w .last .1 .1 .1 .1 .0) (w .last .1 .1 .1 .1 .1 .0) _ (told .0 .0) q)
+
+-- src/builder.rt:154:5
+same-length-5 : tie.Need-same-length-5
+same-length-5 c = search needs
+
+-- src/builder.rt:154:5
+same-length-6 : tie.Need-same-length-6
+same-length-6 c = search needs
+
+-- src/builder.rt:154:5
+same-length-7 : tie.Need-same-length-7
+same-length-7 c = search needs
+
+-- src/builder.rt:154:5
+same-length-8 : tie.Need-same-length-8
+same-length-8 c = search needs
+
+-- src/builder.rt:154:5
+returns-3 : tie.Need-returns-3
+unfolding afterFinish
+returns-3 c =
+    let a = c .before .before .before .before .before .before .before .before .before .before .before .before .before .before .before .before .before .before .before .before .before .before .before .before .before .before .before .before .before .before .args in
+    let w = c .before .before .before .before .before .before .before .before .before .before .before .before .before .before .before .before .before .split-record-segments in
+    let told = c .before .before .before .before .before .before .before .before .before .segments .given in
+    let q = ap (λ (r : SplitAnswer). splitResult r (w .last .0) (w .last .1 .1 .1 .1 .0) (w .last .1 .1 .1 .1 .1 .0)) (sym (told .1)) ∙ w .ensures in
+    let p = c .before .before .before .before .before .pack-index in
+    rw (sym (c .before .before .before .before .before .before .before .before .before .before .before .before .before .before .before .before .before .before .before .before .before .before .before .check-finish .ensures) ∙ ap checkNumber (c .before .before .before .before .before .before .before .before .before .before .before .before .before .before .before .before .before .before .before .before .before .enum-told .given .1)) (split-made (a .self) (a .scratch .now) (w .last .0) (w .last .1 .1 .1 .1 .0) (w .last .1 .1 .1 .1 .1 .0) _ (told .0 .0) (c .into-cache .result) _ _ q (c .into-cache .ensures) (p .ensures .0) (p .ensures .1))
+
+pub finish-spec : {M : Type 1} → statement M
+finish-spec =
+    tie.close
+    (tie.spec
+    check-finish-requires
+    enum-known-refusal
+    same-length
+    returns
+    enum-told
+    split-record-segments-requires
+    enum-known-refusal-2
+    enum-known-segments
+    pack-index-requires
+    into-cache-requires
+    same-length-2
+    same-length-3
+    same-length-4
+    returns-2
+    same-length-5
+    same-length-6
+    same-length-7
+    same-length-8
+    returns-3)

@@ -1,0 +1,103 @@
+-- `push` meets its contract. Assumes nothing.
+use mathlib.Core.Path.{_≡_, refl, sym, ap, _∙_}
+use borrow.Author.Tests.{lt-ltb, le-ltb, le-leb, lt-leb, eq-eqb, ne-eqb, not-true, not-false}
+use Prim.Native.Nat.{ℕ, _+_, _-_, _*_, _/_, _^_, _≤_, _<_}
+use native.Mathlib.Omega.{arith}
+use lib.ListN.{length}
+use Rattle.hash_parts.specs.Error.{errorNumber}
+use Rattle.index.specs.declared.build.BuildSlot.the-variants.{Empty}
+use Rattle.sets.specs.Build.{afterPush, planned}
+use Rattle.sets.proofs.Decides.{decided-refused}
+use Rattle.sets.proofs.Counts.{builder-arena, builder-index, builder-numbers, builder-sound, counts-records}
+use Rattle.sets.proofs.EmptySlots.{found-below}
+use Rattle.sets.proofs.Plans.{plan-placed, plan-refused, push-asked}
+use borrow.Author.Needs.{needs}
+use Rattle.sets.proofs.builder.SegmentCacheBuilder.push.Statement.{statement}
+use Rattle.sets.proofs.builder.SegmentCacheBuilder.push.Tie as tie
+use Rattle.sets.proofs.builder.SegmentCacheBuilder.push.Reads as reads
+use Rattle.sets.proofs.builder.SegmentCacheBuilder.push.Lts as lts
+use Rattle.sets.proofs.builder.SegmentCacheBuilder.plan_push.Reads as plan-push-reads
+use Rattle.sets.proofs.builder.SegmentCacheBuilder.push_at.Reads as push-at-reads
+
+-- src/builder.rt:141:15
+plan-push-requires : tie.Need-plan-push-requires
+plan-push-requires c κs = search needs
+
+-- src/builder.rt:142:31
+enum-known-refusal : tie.Need-enum-known-refusal
+enum-known-refusal c = search needs
+
+-- src/builder.rt:146:29
+enum-known-slot : tie.Need-enum-known-slot
+enum-known-slot c = search needs
+
+-- src/builder.rt:147:17
+push-at-requires : tie.Need-push-at-requires
+push-at-requires c κs =
+    let a = c .before .before .before .before .before .before .before .before .before .before .before .before .before .before .args in
+    let plan = c .before .before .before .before .before .before .plan-push in
+    let told = c .before .before .before .before .slot .given in
+    let p = plan-placed (a .self) (a .hash) (a .key .now) (a .ttl) (a .index .now) (length (a .filter .now)) (a .arena .now) (told .0 .0) (told .0 .1 .0) (sym (plan .ensures) ∙ ap planned (told .1)) in
+    let q = push-asked (a .self) (a .hash) (a .key .now) (a .ttl) (a .index .now) (length (a .filter .now)) (a .arena .now) (p .0) in
+    let n = builder-numbers (a .self) (builder-sound (a .self) (length (a .index .now)) (length (a .arena .now)) (q .holds)) in
+    let r = counts-records (a .self .config) (a .self .«expected_entries») (a .self .«bucket_count») (a .self .«filter_words») (n .counts) in
+    let x = builder-arena (a .self) (length (a .index .now)) (length (a .arena .now)) (q .holds) in
+    let i = builder-index (a .self) (length (a .index .now)) (length (a .arena .now)) (q .holds) in
+    let s = found-below _ (a .index .now) (a .self .«bucket_count») (a .hash) (told .0 .0) (c .before .before .before .before .before .before .before .before .before .before .before .before .before .before .fits .hash .fits) (q .slot ∙ ap Empty (p .1)) in
+    (x .0, x .1, omega (arith, i, s), q .room, omega (arith, n .keys, n .inserted, r), omega (arith, n .values, n .inserted, r))
+
+-- src/builder.rt:129:5
+same-length : tie.Need-same-length
+same-length c = search needs
+
+-- src/builder.rt:129:5
+same-length-2 : tie.Need-same-length-2
+same-length-2 c = search needs
+
+-- src/builder.rt:129:5
+returns : tie.Need-returns
+unfolding afterPush
+returns c =
+    let a = c .before .before .before .before .before .before .before .before .before .before .before .args in
+    let plan = c .before .before .before .plan-push in
+    let told = c .before .refusal .given in
+    let p = plan-refused (a .self) (a .hash) (a .key .now) (a .ttl) (a .index .now) (length (a .filter .now)) (a .arena .now) (errorNumber (told .0 .0)) (sym (plan .ensures) ∙ ap planned (told .1)) in
+    rw p (sym (decided-refused (told .0 .0) _ _))
+
+-- src/builder.rt:129:5
+same-length-3 : tie.Need-same-length-3
+same-length-3 c = search needs
+
+-- src/builder.rt:129:5
+same-length-4 : tie.Need-same-length-4
+same-length-4 c = search needs
+
+-- src/builder.rt:129:5
+same-length-5 : tie.Need-same-length-5
+same-length-5 c = search needs
+
+-- src/builder.rt:129:5
+returns-2 : tie.Need-returns-2
+unfolding afterPush
+returns-2 c =
+    let a = c .before .before .before .before .before .before .before .before .before .before .before .before .before .before .before .before .before .before .before .before .before .args in
+    let plan = c .before .before .before .before .before .before .before .before .before .before .before .before .before .plan-push in
+    let told = c .before .before .before .before .before .before .before .before .before .before .before .slot .given in
+    let p = plan-placed (a .self) (a .hash) (a .key .now) (a .ttl) (a .index .now) (length (a .filter .now)) (a .arena .now) (told .0 .0) (told .0 .1 .0) (sym (plan .ensures) ∙ ap planned (told .1)) in
+    rw (p .0, p .1, p .2) (c .before .before .before .before .before .before .push-at .ensures)
+
+pub push-spec : {M : Type 1} → statement M
+push-spec =
+    tie.close
+    (tie.spec
+    plan-push-requires
+    enum-known-refusal
+    enum-known-slot
+    push-at-requires
+    same-length
+    same-length-2
+    returns
+    same-length-3
+    same-length-4
+    same-length-5
+    returns-2)
