@@ -1,0 +1,56 @@
+-- `find_byte` meets its contract: the byte stands where it stands in what is left. Assumes nothing.
+use mathlib.Core.Path.{_≡_, refl, _∙_}
+use Prim.Native.Nat.{_-_, _≤_}
+use native.Mathlib.Omega.{arith}
+use lib.ListN.{length}
+use Rattle.passage_lines.specs.Bytes.{firstFrom}
+use Rattle.passage_lines.proofs.Search.{first-here, first-later, first-none}
+use Rattle.passage_lines.proofs.bytes.find_byte.Statement.{statement}
+use Rattle.passage_lines.proofs.bytes.find_byte.Tie as tie
+
+abbrev Inv-loop : tie.InvT-loop
+Inv-loop bytes from byte i₀ i = (firstFrom byte bytes i ≡ firstFrom byte bytes from) × (from ≤ i) × (i ≤ length bytes)
+
+abbrev μ-loop : tie.MeasureT-loop
+μ-loop bytes from byte i₀ i = length bytes - i
+
+loop-holds : tie.Need-loop-holds Inv-loop μ-loop
+loop-holds c = (refl, omega arith, omega arith)
+
+shared-slice-read-if1 : tie.Need-shared-slice-read-if1 Inv-loop μ-loop
+shared-slice-read-if1 c = omega arith
+
+returns : tie.Need-returns Inv-loop μ-loop
+returns c = let l = c .before .before .before .loop in
+    let a = c .before .before .before .before .args in
+    (first-here (a .byte) (a .bytes .now) (l .i) (c .before .before .loop-test .taken) (c .if1 .taken) ∙ l .inv .0, omega arith, omega arith)
+
+add-i : tie.Need-add-i Inv-loop μ-loop
+add-i c = omega arith
+
+loop-less : tie.Need-loop-less Inv-loop μ-loop
+loop-less c = omega arith
+
+loop-again : tie.Need-loop-again Inv-loop μ-loop
+loop-again c = let l = c .before .before .before .loop in
+    let a = c .before .before .before .before .args in
+    (first-later (a .byte) (a .bytes .now) (l .i) (c .before .before .loop-test .taken) (c .if1 .left) ∙ l .inv .0, omega arith, omega arith)
+
+returns-2 : tie.Need-returns-2 Inv-loop μ-loop
+returns-2 c = let l = c .before .loop in
+    let a = c .before .before .args in
+    (first-none (a .byte) (a .bytes .now) (l .i) (c .loop-test .left) ∙ l .inv .0, omega arith, omega arith)
+
+pub find-byte-spec : {M : Type 1} → statement M
+find-byte-spec =
+    tie.close
+    (tie.spec
+    Inv-loop
+    μ-loop
+    loop-holds
+    shared-slice-read-if1
+    returns
+    add-i
+    loop-less
+    loop-again
+    returns-2)

@@ -1,0 +1,62 @@
+-- `number_field` meets its contract: the field is read up to its end. Assumes nothing.
+use mathlib.Core.Path.{sym, ap, _∙_}
+use Prim.Native.Nat.{_+_}
+use Rattle.passage_lines.specs.Fields.{gotBefore, number}
+use Rattle.passage_lines.specs.Text.{numberGiven}
+use Rattle.passage_lines.proofs.Forms.{field-none, field-is}
+use borrow.Author.Needs.{needs}
+use Rattle.passage_lines.proofs.fields.number_field.Statement.{statement}
+use Rattle.passage_lines.proofs.fields.number_field.Tie as tie
+
+returns : tie.Need-returns
+returns c = let a = c .before .before .args in sym (field-none (number (a .base) (a .max)) (a .line .now) (a .at) (c .if1 .taken))
+
+find-byte-requires : tie.Need-find-byte-requires
+find-byte-requires c κs = search needs
+
+sub-parse-number : tie.Need-sub-parse-number
+sub-parse-number c = search needs
+
+part-parse-number-start : tie.Need-part-parse-number-start
+part-parse-number-start c = search needs
+
+part-parse-number-end : tie.Need-part-parse-number-end
+part-parse-number-end c = search needs
+
+parse-number-requires : tie.Need-parse-number-requires
+parse-number-requires c κs = search needs
+
+enum-known-value : tie.Need-enum-known-value
+enum-known-value c = search needs
+
+enum-told : tie.Need-enum-told
+enum-told c = search needs
+
+returns-2 : tie.Need-returns-2
+returns-2 c = let a = c .before .before .before .before .before .before .before .args in
+    let e = c .before .before .before .before .find-byte in
+    sym (field-is (number (a .base) (a .max)) (a .line .now) (a .at) (e .result) (c .before .before .before .before .before .if1 .left) (e .ensures .0) ∙ ap (gotBefore (e .result + 1)) (sym (c .before .before .parse-number .ensures) ∙ ap numberGiven (c .enum-told .given .1)))
+
+add-t7 : tie.Need-add-t7
+add-t7 c = search needs
+
+returns-3 : tie.Need-returns-3
+returns-3 c = let a = c .before .before .before .before .before .before .before .before .args in
+    let e = c .before .before .before .before .before .find-byte in
+    sym (field-is (number (a .base) (a .max)) (a .line .now) (a .at) (e .result) (c .before .before .before .before .before .before .if1 .left) (e .ensures .0) ∙ ap (gotBefore (e .result + 1)) (sym (c .before .before .before .parse-number .ensures) ∙ ap numberGiven (c .before .value .given .1)))
+
+pub number-field-spec : {M : Type 1} → statement M
+number-field-spec =
+    tie.close
+    (tie.spec
+    returns
+    find-byte-requires
+    sub-parse-number
+    part-parse-number-start
+    part-parse-number-end
+    parse-number-requires
+    enum-known-value
+    enum-told
+    returns-2
+    add-t7
+    returns-3)

@@ -1,0 +1,36 @@
+-- `decode_hex` meets its contract: the text spells half as many bytes as it has characters. Assumes nothing.
+use mathlib.Core.Path.{_≡_, refl, sym, _∙_}
+use mathlib.Core.Bool.{true, false}
+use native.Mathlib.Omega.{arith}
+use borrow.Author.Tests.{not-true, not-false}
+use Rattle.passage_lines.specs.Hex.{isHex}
+use Rattle.passage_lines.proofs.Digits.{bytes-length, decoded-in, decoded-short, decoded-bad}
+use borrow.Author.Needs.{needs}
+use Rattle.passage_lines.proofs.hex.decode_hex.Statement.{statement}
+use Rattle.passage_lines.proofs.hex.decode_hex.Tie as tie
+
+hex-of : (c : tie.Else1) → isHex (c .before .before .before .before .args .text .now) ≡ true
+hex-of c = sym (c .before .is-hex .ensures) ∙ not-false (c .before .is-hex .result) (c .if1 .left)
+
+is-hex-requires : tie.Need-is-hex-requires
+is-hex-requires c κs = search needs
+
+returns : tie.Need-returns
+returns c = decoded-bad (c .before .before .before .before .args .text .now) (c .before .before .before .before .args .out .now) (sym (c .before .is-hex .ensures) ∙ not-true (c .before .is-hex .result) (c .if1 .taken))
+
+returns-2 : tie.Need-returns-2
+returns-2 c = decoded-short (c .before .before .before .before .before .args .text .now) (hex-of (c .before)) (c .before .before .before .before .before .args .out .now) (c .if2 .taken)
+
+write-bytes-requires : tie.Need-write-bytes-requires
+write-bytes-requires c κs = (hex-of (c .before .before), omega (arith, bytes-length (c .before .before .before .before .before .before .args .text .now) (hex-of (c .before .before))))
+
+same-length : tie.Need-same-length
+same-length c = search needs
+
+returns-3 : tie.Need-returns-3
+returns-3 c = let a = c .before .before .before .before .before .before .before .before .before .args in decoded-in (a .text .now) (hex-of (c .before .before .before .before .before)) (a .out .now) (c .before .before .write-bytes .last .0) _ refl (omega arith) (c .before .before .write-bytes .ensures)
+
+pub decode-hex-spec : {M : Type 1} → statement M
+decode-hex-spec =
+    tie.close
+    (tie.spec is-hex-requires returns returns-2 write-bytes-requires same-length returns-3)

@@ -1,0 +1,118 @@
+-- `write_bytes` meets its contract: what is written and what is left to write are the bytes of the text. Assumes nothing.
+use mathlib.Core.Path.{_≡_, ap}
+use mathlib.Core.Bool.{true}
+use mathlib.Core.List.{_∷_}
+use Prim.Native.Nat.{_+_, _*_, _-_, _^_, _≤_, _<_}
+use native.Mathlib.Omega.{arith}
+use lib.ListN.{length, drop}
+use Rattle.records.proofs.Area.{Writing, begin, room, next-byte, complete}
+use Rattle.passage_lines.specs.Hex.{hexBytes, isHex}
+use Rattle.passage_lines.proofs.Digits.{two-left, high-digit, low-digit, rest-hex, bytes-next, bytes-end, bytes-length}
+use Rattle.passage_lines.proofs.hex.write_bytes.Statement.{statement}
+use Rattle.passage_lines.proofs.hex.write_bytes.Tie as tie
+
+abbrev Inv-loop : tie.InvT-loop
+Inv-loop out₀ text at₀ i₀ out at i = Writing (hexBytes text) (hexBytes (drop i text)) out₀ out at × (isHex (drop i text) ≡ true)
+
+abbrev μ-loop : tie.MeasureT-loop
+μ-loop out₀ text at₀ i₀ out at i = length text - i
+
+-- two characters more, since there is one
+two-of : (c : tie.In-loop Inv-loop μ-loop) → c .before .loop .i + 2 ≤ length (c .before .before .before .before .args .text .now)
+two-of c = two-left (c .before .before .before .before .args .text .now) (c .before .loop .i) (c .before .loop .inv .1) (c .loop-test .taken)
+
+digits-of : (c : tie.After-digit2 Inv-loop μ-loop) → (c .before .before .digit .result < 16) × (c .digit2 .result < 16)
+digits-of c =
+    let l = c .before .before .before .before .before .loop in
+    let t = c .before .before .before .before .before .before .before .before .args .text .now in (
+      high-digit t (l .i) (c .before .before .digit .result) (c .digit2 .result) (two-of (c .before .before .before .before)) (c .before .before .digit .ensures .0) (c .digit2 .ensures .0) (l .inv .1),
+      low-digit t (l .i) (c .before .before .digit .result) (c .digit2 .result) (two-of (c .before .before .before .before)) (c .before .before .digit .ensures .0) (c .digit2 .ensures .0) (l .inv .1),
+    )
+
+bytes-of : (c : tie.After-digit2 Inv-loop μ-loop)
+    → let l = c .before .before .before .before .before .loop in
+    let t = c .before .before .before .before .before .before .before .before .args .text .now in
+    hexBytes (drop (l .i) t) ≡ (c .before .before .digit .result * 16 + c .digit2 .result) ∷ hexBytes (drop (l .i + 2) t)
+bytes-of c =
+    let l = c .before .before .before .before .before .loop in
+    bytes-next (c .before .before .before .before .before .before .before .before .args .text .now) (l .i) (c .before .before .digit .result) (c .digit2 .result) (two-of (c .before .before .before .before)) (c .before .before .digit .ensures .0) (c .digit2 .ensures .0) (l .inv .1)
+
+room-of : (c : tie.After-digit2 Inv-loop μ-loop) → (c .before .before .before .before .before .loop .at < length (c .before .before .before .before .before .loop .out)) × (length (c .before .before .before .before .before .loop .out) < 2 ^ 63)
+room-of c = omega (arith, room (c .before .before .before .before .before .loop .inv .0), ap length (bytes-of c))
+
+loop-holds : tie.Need-loop-holds Inv-loop μ-loop
+loop-holds c = let a = c .before .before .args in (begin (hexBytes (a .text .now)) (a .out .now) (omega (arith, bytes-length (a .text .now) (c .before .before .pre .0))), c .before .before .pre .0)
+
+shared-slice-read-digit : tie.Need-shared-slice-read-digit Inv-loop μ-loop
+shared-slice-read-digit c = omega arith
+
+digit-requires : tie.Need-digit-requires Inv-loop μ-loop
+digit-requires c κs = tt
+
+add-digit : tie.Need-add-digit Inv-loop μ-loop
+add-digit c = omega (arith, two-of (c .before .before))
+
+shared-slice-read-digit-2 : tie.Need-shared-slice-read-digit-2 Inv-loop μ-loop
+shared-slice-read-digit-2 c = omega (arith, two-of (c .before .before .before))
+
+digit-requires-2 : tie.Need-digit-requires-2 Inv-loop μ-loop
+digit-requires-2 c κs = tt
+
+mul-out : tie.Need-mul-out Inv-loop μ-loop
+mul-out c = omega (arith, digits-of c)
+
+add-out : tie.Need-add-out Inv-loop μ-loop
+add-out c = omega (arith, digits-of c)
+
+cast-out : tie.Need-cast-out Inv-loop μ-loop
+cast-out c = omega (arith, digits-of c)
+
+slice-write-out : tie.Need-slice-write-out Inv-loop μ-loop
+slice-write-out c = omega (arith, room-of c)
+
+add-at : tie.Need-add-at Inv-loop μ-loop
+add-at c = omega (arith, room-of c)
+
+add-i : tie.Need-add-i Inv-loop μ-loop
+add-i c = omega (arith, two-of (c .before .before .before .before))
+
+loop-less : tie.Need-loop-less Inv-loop μ-loop
+loop-less c = omega (arith, two-of (c .before .before .before .before))
+
+loop-again : tie.Need-loop-again Inv-loop μ-loop
+loop-again c = let l = c .before .before .before .before .before .loop in
+    let t = c .before .before .before .before .before .before .before .before .args .text .now in
+    let h = c .before .before .digit in
+    let d = c .digit2 in (
+      next-byte (h .result * 16 + d .result) (hexBytes (drop (l .i + 2) t)) (l .inv .0) (bytes-of c),
+      rest-hex t (l .i) (h .result) (d .result) (two-of (c .before .before .before .before)) (h .ensures .0) (d .ensures .0) (l .inv .1),
+    )
+
+same-length : tie.Need-same-length Inv-loop μ-loop
+same-length c = room (c .before .loop .inv .0) .1
+
+returns : tie.Need-returns Inv-loop μ-loop
+returns c = complete (c .before .loop .inv .0) (bytes-end (c .before .before .before .before .args .text .now) (c .before .loop .i) (c .loop-test .left)) .1
+
+pub write-bytes-spec : {M : Type 1} → statement M
+write-bytes-spec =
+    tie.close
+    (tie.spec
+    Inv-loop
+    μ-loop
+    loop-holds
+    shared-slice-read-digit
+    digit-requires
+    add-digit
+    shared-slice-read-digit-2
+    digit-requires-2
+    mul-out
+    add-out
+    cast-out
+    slice-write-out
+    add-at
+    add-i
+    loop-less
+    loop-again
+    same-length
+    returns)

@@ -1,0 +1,51 @@
+-- `write_value` meets its contract: the pieces are written one after the other. Assumes nothing.
+use mathlib.Core.Path.{refl}
+use mathlib.Core.List.{[], _++_}
+use Rattle.records.proofs.Area.{begin, complete}
+use Rattle.passage_lines.specs.Ascii.{ascii}
+use Rattle.passage_lines.specs.Output.{bytesText}
+use Rattle.passage_lines.specs.Reply.{lineFeed, valueText}
+use Rattle.passage_lines.proofs.Replies.{next-text}
+use borrow.Author.Needs.{needs}
+use Rattle.passage_lines.proofs.reply.write_value.Statement.{statement}
+use Rattle.passage_lines.proofs.reply.write_value.Tie as tie
+
+slice-aggregate-put-text : tie.Need-slice-aggregate-put-text
+slice-aggregate-put-text c = search needs
+
+put-text-requires : tie.Need-put-text-requires
+put-text-requires c κs = search needs
+
+put-hex-requires : tie.Need-put-hex-requires
+put-hex-requires c κs = search needs
+
+slice-aggregate-put-text-2 : tie.Need-slice-aggregate-put-text-2
+slice-aggregate-put-text-2 c = search needs
+
+put-text-requires-2 : tie.Need-put-text-requires-2
+put-text-requires-2 c κs = search needs
+
+same-length : tie.Need-same-length
+same-length c = search needs
+
+returns : tie.Need-returns
+unfolding valueText
+returns c = let a = c .before .before .before .before .before .before .before .before .before .before .before .before .before .before .before .before .args in
+    let b = bytesText (a .value .now) in
+    let g = c .before .before .before .before .before .before .before .before .before .before .before .put-text in
+    let h = c .before .before .before .before .before .before .before .put-hex in
+    let t = c .before .before .put-text2 in
+    let w = next-text (ascii "get 0 ") (b ++ lineFeed) (g .last .0) (g .result) (begin (valueText (a .value .now)) (a .line .now) (c .before .before .before .before .before .before .before .before .before .before .before .before .before .before .before .before .pre)) refl (g .ensures) in
+    complete (next-text lineFeed [] (t .last .0) (t .result) (next-text b lineFeed (h .last .0) (h .result) w refl (h .ensures)) refl (t .ensures)) refl
+
+pub write-value-spec : {M : Type 1} → statement M
+write-value-spec =
+    tie.close
+    (tie.spec
+    slice-aggregate-put-text
+    put-text-requires
+    put-hex-requires
+    slice-aggregate-put-text-2
+    put-text-requires-2
+    same-length
+    returns)

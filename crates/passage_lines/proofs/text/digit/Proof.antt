@@ -1,0 +1,45 @@
+-- `digit` meets its contract: the tests of its definition, in its order. Assumes nothing.
+use native.Mathlib.Omega.{arith}
+use borrow.Author.Tests.{lt-ltb, le-ltb, le-leb, lt-leb}
+use Rattle.passage_lines.specs.Text.{digitOf}
+use borrow.Author.Needs.{needs}
+use Rattle.passage_lines.proofs.text.digit.Statement.{statement}
+use Rattle.passage_lines.proofs.text.digit.Tie as tie
+
+returns : tie.Need-returns
+unfolding digitOf
+returns c = (rw (lt-ltb (c .before .args .character) 48 (c .if1 .taken)), omega arith)
+
+cast-result : tie.Need-cast-result
+cast-result c = search needs
+
+returns-2 : tie.Need-returns-2
+unfolding digitOf
+returns-2 c = let x = c .before .before .args .character in (rw (le-ltb x 48 (c .before .if1 .left), le-leb x 57 (c .if2 .taken)), omega arith)
+
+returns-3 : tie.Need-returns-3
+unfolding digitOf
+returns-3 c = let x = c .before .before .before .args .character in (rw (le-ltb x 48 (c .before .before .if1 .left), lt-leb x 57 (c .before .if2 .left), lt-ltb x 97 (c .if3 .taken)), omega arith)
+
+sub-result : tie.Need-sub-result
+sub-result c = search needs
+
+cast-result-2 : tie.Need-cast-result-2
+cast-result-2 c = search needs
+
+returns-4 : tie.Need-returns-4
+unfolding digitOf
+returns-4 c =
+    let x = c .before .before .before .before .args .character in
+    (rw (le-ltb x 48 (c .before .before .before .if1 .left), lt-leb x 57 (c .before .before .if2 .left), le-ltb x 97 (c .before .if3 .left), le-leb x 102 (c .if4 .taken)), omega arith)
+
+returns-5 : tie.Need-returns-5
+unfolding digitOf
+returns-5 c =
+    let x = c .before .before .before .before .args .character in
+    (rw (le-ltb x 48 (c .before .before .before .if1 .left), lt-leb x 57 (c .before .before .if2 .left), le-ltb x 97 (c .before .if3 .left), lt-leb x 102 (c .if4 .left)), omega arith)
+
+pub digit-spec : {M : Type 1} → statement M
+digit-spec =
+    tie.close
+    (tie.spec returns cast-result returns-2 returns-3 sub-result cast-result-2 returns-4 returns-5)

@@ -1,0 +1,101 @@
+-- `parse_number` meets its contract: the digits left, after the value read so far, spell the number that was asked. Assumes nothing.
+use mathlib.Core.Path.{_≡_, refl, sym, ap, _∙_}
+use mathlib.Core.List.{List}
+use Prim.Native.Nat.{ℕ, _+_, _*_, _-_, _≤_, _<_}
+use native.Mathlib.Omega.{arith}
+use lib.ListN.{length, getD, drop}
+use Rattle.passage_lines.specs.Text.{spelled, atMost, numberIn}
+use Rattle.passage_lines.proofs.Numbers.{spelled-next, spelled-bad, spelled-end, past, in-limit, step-in, step-out, number-start, number-none}
+use Rattle.passage_lines.proofs.text.parse_number.Statement.{statement}
+use Rattle.passage_lines.proofs.text.parse_number.Tie as tie
+
+abbrev Inv-loop : tie.InvT-loop
+Inv-loop text base max value₀ i₀ value i = (numberIn base max text ≡ atMost max (spelled base value (drop i text))) × (value ≤ max)
+
+abbrev μ-loop : tie.MeasureT-loop
+μ-loop text base max value₀ i₀ value i = length text - i
+
+-- one digit more is at most the limit
+fits-of : (c : tie.Else3 Inv-loop μ-loop)
+    → let l = c .before .before .before .before .before .loop in
+    let a = c .before .before .before .before .before .before .before .before .args in
+    l .value * a .base + c .before .before .digit .result ≤ a .max
+fits-of c =
+    let l = c .before .before .before .before .before .loop in
+    let s = c .before .before .before .before .before .before .before .before in
+    step-in (s .args .base) (s .args .max) (l .value) (c .before .before .digit .result) (s .pre .0) (omega arith) (c .if3 .left)
+
+returns : tie.Need-returns Inv-loop μ-loop
+returns c = let a = c .before .before .args in sym (number-none (a .base) (a .max) (a .text .now) (c .if1 .taken))
+
+loop-holds : tie.Need-loop-holds Inv-loop μ-loop
+loop-holds c = let a = c .before .before .args in (number-start (a .base) (a .max) (a .text .now) (omega arith), omega arith)
+
+shared-slice-read-digit : tie.Need-shared-slice-read-digit Inv-loop μ-loop
+shared-slice-read-digit c = omega arith
+
+digit-requires : tie.Need-digit-requires Inv-loop μ-loop
+digit-requires c κs = tt
+
+returns-2 : tie.Need-returns-2 Inv-loop μ-loop
+returns-2 c = let l = c .before .before .before .before .loop in
+    let a = c .before .before .before .before .before .before .before .args in
+    sym (l .inv .0 ∙ ap (atMost (a .max)) (spelled-bad (a .base) (l .value) (a .text .now) (l .i) (c .before .digit .result) (c .before .before .before .loop-test .taken) (c .before .digit .ensures .0) (c .if2 .taken)))
+
+sub-if3 : tie.Need-sub-if3 Inv-loop μ-loop
+sub-if3 c = omega arith
+
+div-if3 : tie.Need-div-if3 Inv-loop μ-loop
+div-if3 c = omega arith
+
+returns-3 : tie.Need-returns-3 Inv-loop μ-loop
+returns-3 c = let l = c .before .before .before .before .before .loop in
+    let s = c .before .before .before .before .before .before .before .before in
+    let a = s .args in
+    let d = c .before .before .digit in
+    sym (l .inv .0 ∙ ap (atMost (a .max)) (spelled-next (a .base) (l .value) (a .text .now) (l .i) (d .result) (c .before .before .before .before .loop-test .taken) (d .ensures .0) (c .before .if2 .left))
+    ∙ past (a .base) (a .max) (l .value * a .base + d .result) (drop (l .i + 1) (a .text .now)) (s .pre .0) (step-out (a .base) (a .max) (l .value) (d .result) (s .pre .0) (c .if3 .taken)))
+
+mul-value : tie.Need-mul-value Inv-loop μ-loop
+mul-value c = omega (arith, fits-of c)
+
+add-value : tie.Need-add-value Inv-loop μ-loop
+add-value c = omega (arith, fits-of c)
+
+add-i : tie.Need-add-i Inv-loop μ-loop
+add-i c = omega arith
+
+loop-less : tie.Need-loop-less Inv-loop μ-loop
+loop-less c = omega arith
+
+loop-again : tie.Need-loop-again Inv-loop μ-loop
+loop-again c = let l = c .before .before .before .before .before .loop in
+    let a = c .before .before .before .before .before .before .before .before .args in
+    let d = c .before .before .digit in
+    (l .inv .0 ∙ ap (atMost (a .max)) (spelled-next (a .base) (l .value) (a .text .now) (l .i) (d .result) (c .before .before .before .before .loop-test .taken) (d .ensures .0) (c .before .if2 .left)), fits-of c)
+
+returns-4 : tie.Need-returns-4 Inv-loop μ-loop
+returns-4 c = let l = c .before .loop in
+    let a = c .before .before .before .before .args in
+    sym (l .inv .0 ∙ ap (atMost (a .max)) (spelled-end (a .base) (l .value) (a .text .now) (l .i) (c .loop-test .left)) ∙ in-limit (a .max) (l .value) (l .inv .1))
+
+pub parse-number-spec : {M : Type 1} → statement M
+parse-number-spec =
+    tie.close
+    (tie.spec
+    Inv-loop
+    μ-loop
+    returns
+    loop-holds
+    shared-slice-read-digit
+    digit-requires
+    returns-2
+    sub-if3
+    div-if3
+    returns-3
+    mul-value
+    add-value
+    add-i
+    loop-less
+    loop-again
+    returns-4)

@@ -1,0 +1,46 @@
+-- `parse_tick_length` meets its contract. Assumes nothing.
+use mathlib.Core.Path.{sym, ap, _∙_}
+use Rattle.passage_lines.specs.Text.{tickLengthOf, durationGiven}
+use borrow.Author.Needs.{needs}
+use Rattle.passage_lines.proofs.text.parse_tick_length.Statement.{statement}
+use Rattle.passage_lines.proofs.text.parse_tick_length.Tie as tie
+
+slice-aggregate-same-bytes : tie.Need-slice-aggregate-same-bytes
+slice-aggregate-same-bytes c = search needs
+
+same-bytes-requires : tie.Need-same-bytes-requires
+same-bytes-requires c κs = search needs
+
+returns : tie.Need-returns
+unfolding tickLengthOf
+returns c = rw (sym (c .before .same-bytes .ensures) ∙ c .if1 .taken)
+
+parse-duration-requires : tie.Need-parse-duration-requires
+parse-duration-requires c κs = search needs
+
+enum-known-tick : tie.Need-enum-known-tick
+enum-known-tick c = search needs
+
+enum-told : tie.Need-enum-told
+enum-told c = search needs
+
+returns-2 : tie.Need-returns-2
+unfolding tickLengthOf
+returns-2 c = rw (sym (c .before .before .before .before .same-bytes .ensures) ∙ c .before .before .before .if1 .left, sym (c .before .before .parse-duration .ensures) ∙ ap durationGiven (c .enum-told .given .1))
+
+returns-3 : tie.Need-returns-3
+unfolding tickLengthOf
+returns-3 c = rw (sym (c .before .before .before .before .before .same-bytes .ensures) ∙ c .before .before .before .before .if1 .left, sym (c .before .before .before .parse-duration .ensures) ∙ ap durationGiven (c .before .tick .given .1))
+
+pub parse-tick-length-spec : {M : Type 1} → statement M
+parse-tick-length-spec =
+    tie.close
+    (tie.spec
+    slice-aggregate-same-bytes
+    same-bytes-requires
+    returns
+    parse-duration-requires
+    enum-known-tick
+    enum-told
+    returns-2
+    returns-3)

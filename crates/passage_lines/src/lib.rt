@@ -1,0 +1,10 @@
+// The lines of the program passage: reading them from blocks of input, taking them apart, and
+// writing the lines of its output.
+mod bytes;
+pub mod command;
+pub mod fields;
+pub mod hex;
+pub mod input;
+pub mod output;
+pub mod reply;
+pub mod text;
