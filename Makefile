@@ -15,6 +15,7 @@ soak:
 	tests/wrong_answers/run hash_parts
 	tests/wrong_answers/run records
 	tests/wrong_answers/run index
+	tests/wrong_answers/run sets
 
 # Speed beside the Rust, as ratios.
 bench:
