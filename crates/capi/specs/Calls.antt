@@ -16,7 +16,7 @@ use Rattle.records.specs.Record.{encodedSize}
 use Rattle.records.specs.declared.record.Span.{Span}
 use Rattle.sets.specs.Answers.{Reply, accept, refuse, Placed}
 use Rattle.sets.specs.Build.{Opened, Pushed, Finished, afterOpen, afterPush, afterFinish}
-use Rattle.sets.specs.Lookup.{Got, Taken, afterGet, afterTake, peekAnswer, probeAnswer, statsAnswer, walkAnswer}
+use Rattle.sets.specs.Lookup.{afterGet, afterTake, peekAnswer, probeAnswer, statsAnswer, walkAnswer}
 use Rattle.sets.specs.Questions.{all}
 use Rattle.sets.specs.Stats.{loadOf}
 use Rattle.sets.specs.declared.builder.SegmentCacheBuilder.{SegmentCacheBuilder}
@@ -128,8 +128,8 @@ exportedPush old h key value ttl index filter arena place =
     pick (all (eqb (length old) 13 ∷ eqb (length place) 2 ∷ []))
     (onBuilder (builderIn old)
     (λ b.
-      onLifetime (lifetimeIn ttl) (λ l. pushLeft (afterPush b h key value l index filter arena) old place)
-      (pushWords 11 old index filter arena place))
+    onLifetime (lifetimeIn ttl) (λ l. pushLeft (afterPush b h key value l index filter arena) old place)
+    (pushWords 11 old index filter arena place))
     (pushWords 11 old index filter arena place))
     (pushWords 11 old index filter arena place)
 

@@ -1,5 +1,5 @@
 -- Settings, states, lifetimes and statistics as words. Assumes nothing.
-use mathlib.Core.Bool.{Bool, true, false}
+use mathlib.Core.Bool.{Bool}
 use mathlib.Core.List.{List, [], _∷_}
 use Prim.Native.Nat.{ℕ, _-_, _^_, min}
 use lib.Dec.{eqb, leb}

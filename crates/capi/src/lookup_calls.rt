@@ -150,16 +150,7 @@ pub extern "C" fn segment_cache_probe(
     let LoadedSet::Is(state) = load_set(set) else {
         return MALFORMED;
     };
-    let answer = state.probe_hashed_at_tick(
-        hash,
-        key,
-        tick,
-        index,
-        filter,
-        starts,
-        lengths,
-        arena,
-    );
+    let answer = state.probe_hashed_at_tick(hash, key, tick, index, filter, starts, lengths, arena);
     tell_probe(answer, record)
 }
 

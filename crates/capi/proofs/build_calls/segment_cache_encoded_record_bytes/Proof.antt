@@ -1,46 +1,37 @@
 -- `segment_cache_encoded_record_bytes` meets its contract: the form of the words, then the call and what it hands back. Assumes nothing.
 use Rattle.capi.specs.Calls.{exportedSize}
-use borrow.Author.Tests.{le-leb, lt-leb, eq-eqb, ne-eqb}
-use mathlib.Core.Path.{_≡_, refl, sym, ap, _∙_}
+use borrow.Author.Tests.{eq-eqb, ne-eqb}
+use mathlib.Core.Path.{sym, _∙_}
 use borrow.Author.Needs.{needs}
 use Rattle.capi.proofs.build_calls.segment_cache_encoded_record_bytes.Statement.{statement}
 use Rattle.capi.proofs.build_calls.segment_cache_encoded_record_bytes.Tie as tie
 
--- src/build_calls.rt:185:9
 returns : tie.Need-returns
 unfolding exportedSize
 returns c = rw (ne-eqb _ _ (c .if1 .taken))
 
--- src/build_calls.rt:187:37
 load-setting-requires : tie.Need-load-setting-requires
 load-setting-requires c κs = search needs
 
--- src/build_calls.rt:187:27
 enum-known-config : tie.Need-enum-known-config
 enum-known-config c = search needs
 
--- src/build_calls.rt:188:9
 enum-told : tie.Need-enum-told
 enum-told c = search needs
 
--- src/build_calls.rt:188:9
 returns-2 : tie.Need-returns-2
 unfolding exportedSize
 returns-2 c = rw (eq-eqb _ _ (c .before .before .before .if1 .left), sym (c .before .before .load-setting .ensures) ∙ c .enum-told .given .1)
 
--- src/build_calls.rt:190:9
 encoded-record-bytes-requires : tie.Need-encoded-record-bytes-requires
 encoded-record-bytes-requires c κs = search needs
 
--- src/build_calls.rt:191:5
 tell-size-requires : tie.Need-tell-size-requires
 tell-size-requires c κs = search needs
 
--- src/build_calls.rt:175:1
 same-length : tie.Need-same-length
 same-length c = search needs
 
--- src/build_calls.rt:175:1
 returns-3 : tie.Need-returns-3
 unfolding exportedSize
 returns-3 c = rw (eq-eqb _ _ (c .before .before .before .before .before .before .before .before .before .if1 .left), sym (c .before .before .before .before .before .before .before .before .load-setting .ensures) ∙ c .before .before .before .before .before .before .config .given .1, sym (c .before .before .before .before .encoded-record-bytes .ensures), sym (c .before .before .tell-size .ensures))

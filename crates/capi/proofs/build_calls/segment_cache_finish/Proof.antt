@@ -1,62 +1,49 @@
 -- `segment_cache_finish` meets its contract: the form of the words, then the call and what it hands back. Assumes nothing.
 use Rattle.capi.specs.Calls.{exportedFinish}
-use borrow.Author.Tests.{le-leb, lt-leb, eq-eqb, ne-eqb}
-use mathlib.Core.Path.{_≡_, refl, sym, ap, _∙_}
+use borrow.Author.Tests.{eq-eqb, ne-eqb}
+use mathlib.Core.Path.{sym, _∙_}
 use borrow.Author.Needs.{needs}
 use Rattle.capi.proofs.build_calls.segment_cache_finish.Statement.{statement}
 use Rattle.capi.proofs.build_calls.segment_cache_finish.Tie as tie
 
--- src/build_calls.rt:149:9
 returns : tie.Need-returns
 unfolding exportedFinish
 returns c = rw (ne-eqb _ _ (c .if1 .taken))
 
--- src/build_calls.rt:151:36
 load-builder-requires : tie.Need-load-builder-requires
 load-builder-requires c κs = search needs
 
--- src/build_calls.rt:151:27
 enum-known-state : tie.Need-enum-known-state
 enum-known-state c = search needs
 
--- src/build_calls.rt:152:9
 enum-told : tie.Need-enum-told
 enum-told c = search needs
 
--- src/build_calls.rt:152:9
 returns-2 : tie.Need-returns-2
 unfolding exportedFinish
 returns-2 c = rw (eq-eqb _ _ (c .before .before .before .if1 .left), sym (c .before .before .load-builder .ensures) ∙ c .enum-told .given .1)
 
--- src/build_calls.rt:154:9
 finish-requires : tie.Need-finish-requires
 finish-requires c κs = search needs
 
--- src/build_calls.rt:155:5
 tell-finish-requires : tie.Need-tell-finish-requires
 tell-finish-requires c κs = search needs
 
--- src/build_calls.rt:135:1
 same-length : tie.Need-same-length
 same-length c = search needs
 
--- src/build_calls.rt:135:1
 same-length-2 : tie.Need-same-length-2
 same-length-2 c = search needs
 
--- src/build_calls.rt:135:1
 same-length-3 : tie.Need-same-length-3
 same-length-3 c = search needs
 
--- src/build_calls.rt:135:1
 same-length-4 : tie.Need-same-length-4
 same-length-4 c = search needs
 
--- src/build_calls.rt:135:1
 same-length-5 : tie.Need-same-length-5
 same-length-5 c = search needs
 
--- src/build_calls.rt:135:1
 returns-3 : tie.Need-returns-3
 unfolding exportedFinish
 returns-3 c = rw (eq-eqb _ _ (c .before .before .before .before .before .before .before .before .before .before .before .before .before .before .before .before .before .before .before .before .before .if1 .left), sym (c .before .before .before .before .before .before .before .before .before .before .before .before .before .before .before .before .before .before .before .before .load-builder .ensures) ∙ c .before .before .before .before .before .before .before .before .before .before .before .before .before .before .before .before .before .before .state .given .1, sym (c .before .before .before .before .before .before .before .before .before .before .before .before .finish .ensures), sym (c .before .before .tell-finish .ensures))

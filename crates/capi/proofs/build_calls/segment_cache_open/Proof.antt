@@ -1,54 +1,43 @@
 -- `segment_cache_open` meets its contract: the form of the words, then the call and what it hands back. Assumes nothing.
 use Rattle.capi.specs.Calls.{exportedOpen}
-use borrow.Author.Tests.{le-leb, lt-leb, eq-eqb, ne-eqb}
-use mathlib.Core.Path.{_≡_, refl, sym, ap, _∙_}
+use borrow.Author.Tests.{eq-eqb, ne-eqb}
+use mathlib.Core.Path.{sym, _∙_}
 use borrow.Author.Needs.{needs}
 use Rattle.capi.proofs.build_calls.segment_cache_open.Statement.{statement}
 use Rattle.capi.proofs.build_calls.segment_cache_open.Tie as tie
 
--- src/build_calls.rt:53:9
 returns : tie.Need-returns
 unfolding exportedOpen
 returns c = rw (ne-eqb _ _ (c .if1 .taken))
 
--- src/build_calls.rt:55:37
 load-setting-requires : tie.Need-load-setting-requires
 load-setting-requires c κs = search needs
 
--- src/build_calls.rt:55:27
 enum-known-config : tie.Need-enum-known-config
 enum-known-config c = search needs
 
--- src/build_calls.rt:56:9
 enum-told : tie.Need-enum-told
 enum-told c = search needs
 
--- src/build_calls.rt:56:9
 returns-2 : tie.Need-returns-2
 unfolding exportedOpen
 returns-2 c = rw (eq-eqb _ _ (c .before .before .before .if1 .left), sym (c .before .before .load-setting .ensures) ∙ c .enum-told .given .1)
 
--- src/build_calls.rt:58:9
 try-new-requires : tie.Need-try-new-requires
 try-new-requires c κs = search needs
 
--- src/build_calls.rt:67:5
 tell-open-requires : tie.Need-tell-open-requires
 tell-open-requires c κs = search needs
 
--- src/build_calls.rt:39:1
 same-length : tie.Need-same-length
 same-length c = search needs
 
--- src/build_calls.rt:39:1
 same-length-2 : tie.Need-same-length-2
 same-length-2 c = search needs
 
--- src/build_calls.rt:39:1
 same-length-3 : tie.Need-same-length-3
 same-length-3 c = search needs
 
--- src/build_calls.rt:39:1
 returns-3 : tie.Need-returns-3
 unfolding exportedOpen
 returns-3 c = rw (eq-eqb _ _ (c .before .before .before .before .before .before .before .before .before .before .before .before .before .before .before .if1 .left), sym (c .before .before .before .before .before .before .before .before .before .before .before .before .before .before .load-setting .ensures) ∙ c .before .before .before .before .before .before .before .before .before .before .before .before .config .given .1, sym (c .before .before .before .before .before .before .before .before .try-new .ensures), sym (c .before .before .tell-open .ensures))

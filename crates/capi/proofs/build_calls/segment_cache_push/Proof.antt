@@ -1,92 +1,72 @@
 -- `segment_cache_push` meets its contract: the form of the words, then the call and what it hands back. Assumes nothing.
 use Rattle.capi.specs.Calls.{exportedPush}
-use borrow.Author.Tests.{le-leb, lt-leb, eq-eqb, ne-eqb}
-use mathlib.Core.Path.{_≡_, refl, sym, ap, _∙_}
+use borrow.Author.Tests.{eq-eqb, ne-eqb}
+use mathlib.Core.Path.{sym, _∙_}
 use borrow.Author.Needs.{needs}
 use Rattle.capi.proofs.build_calls.segment_cache_push.Statement.{statement}
 use Rattle.capi.proofs.build_calls.segment_cache_push.Tie as tie
 
--- src/build_calls.rt:99:9
 returns : tie.Need-returns
 unfolding exportedPush
 returns c = rw (ne-eqb _ _ (c .if1 .taken))
 
--- src/build_calls.rt:102:9
 returns-2 : tie.Need-returns-2
 unfolding exportedPush
 returns-2 c = rw (eq-eqb _ _ (c .before .if1 .left), ne-eqb _ _ (c .if2 .taken))
 
--- src/build_calls.rt:104:36
 load-builder-requires : tie.Need-load-builder-requires
 load-builder-requires c κs = search needs
 
--- src/build_calls.rt:104:27
 enum-known-state : tie.Need-enum-known-state
 enum-known-state c = search needs
 
--- src/build_calls.rt:105:9
 enum-told : tie.Need-enum-told
 enum-told c = search needs
 
--- src/build_calls.rt:105:9
 same-length : tie.Need-same-length
 same-length c = search needs
 
--- src/build_calls.rt:105:9
 returns-3 : tie.Need-returns-3
 unfolding exportedPush
 returns-3 c = rw (eq-eqb _ _ (c .before .before .before .before .before .if1 .left), eq-eqb _ _ (c .before .before .before .before .if2 .left), sym (c .before .before .load-builder .ensures) ∙ c .enum-told .given .1)
 
--- src/build_calls.rt:107:35
 load-lifetime-requires : tie.Need-load-lifetime-requires
 load-lifetime-requires c κs = search needs
 
--- src/build_calls.rt:107:28
 enum-known-ttl : tie.Need-enum-known-ttl
 enum-known-ttl c = search needs
 
--- src/build_calls.rt:108:9
 enum-told-2 : tie.Need-enum-told-2
 enum-told-2 c = search needs
 
--- src/build_calls.rt:108:9
 same-length-2 : tie.Need-same-length-2
 same-length-2 c = search needs
 
--- src/build_calls.rt:108:9
 returns-4 : tie.Need-returns-4
 unfolding exportedPush
 returns-4 c = rw (eq-eqb _ _ (c .before .before .before .before .before .before .before .before .before .if1 .left), eq-eqb _ _ (c .before .before .before .before .before .before .before .before .if2 .left), sym (c .before .before .before .before .before .before .load-builder .ensures) ∙ c .before .before .before .before .state .given .1, sym (c .before .before .load-lifetime .ensures) ∙ c .enum-told2 .given .1)
 
--- src/build_calls.rt:110:9
 push-requires : tie.Need-push-requires
 push-requires c κs = search needs
 
--- src/build_calls.rt:111:5
 tell-push-requires : tie.Need-tell-push-requires
 tell-push-requires c κs = search needs
 
--- src/build_calls.rt:84:1
 same-length-3 : tie.Need-same-length-3
 same-length-3 c = search needs
 
--- src/build_calls.rt:84:1
 same-length-4 : tie.Need-same-length-4
 same-length-4 c = search needs
 
--- src/build_calls.rt:84:1
 same-length-5 : tie.Need-same-length-5
 same-length-5 c = search needs
 
--- src/build_calls.rt:84:1
 same-length-6 : tie.Need-same-length-6
 same-length-6 c = search needs
 
--- src/build_calls.rt:84:1
 same-length-7 : tie.Need-same-length-7
 same-length-7 c = search needs
 
--- src/build_calls.rt:84:1
 returns-5 : tie.Need-returns-5
 unfolding exportedPush
 returns-5 c = rw (eq-eqb _ _ (c .before .before .before .before .before .before .before .before .before .before .before .before .before .before .before .before .before .before .before .before .before .before .before .before .before .before .before .if1 .left), eq-eqb _ _ (c .before .before .before .before .before .before .before .before .before .before .before .before .before .before .before .before .before .before .before .before .before .before .before .before .before .before .if2 .left), sym (c .before .before .before .before .before .before .before .before .before .before .before .before .before .before .before .before .before .before .before .before .before .before .before .before .load-builder .ensures) ∙ c .before .before .before .before .before .before .before .before .before .before .before .before .before .before .before .before .before .before .before .before .before .before .state .given .1, sym (c .before .before .before .before .before .before .before .before .before .before .before .before .before .before .before .before .before .before .before .before .load-lifetime .ensures) ∙ c .before .before .before .before .before .before .before .before .before .before .before .before .before .before .before .before .before .before .ttl .given .1, sym (c .before .before .before .before .before .before .before .before .before .before .before .before .before .push .ensures), sym (c .before .before .before .before .tell-push .ensures))

@@ -5,35 +5,27 @@ use borrow.Author.Needs.{needs}
 use Rattle.capi.proofs.build_calls.tell_finish.Statement.{statement}
 use Rattle.capi.proofs.build_calls.tell_finish.Tie as tie
 
--- src/build_calls.rt:163:32
 enum-known-answer : tie.Need-enum-known-answer
 enum-known-answer c = search needs
 
--- src/build_calls.rt:164:13
 store-set-requires : tie.Need-store-set-requires
 store-set-requires c κs = search needs
 
--- src/build_calls.rt:168:13
 enum-known-answer-2 : tie.Need-enum-known-answer-2
 enum-known-answer-2 c = search needs
 
--- src/build_calls.rt:170:14
 number-requires : tie.Need-number-requires
 number-requires c κs = search needs
 
--- src/build_calls.rt:170:14
 cast-result : tie.Need-cast-result
 cast-result c = search needs
 
--- src/build_calls.rt:158:1
 same-length : tie.Need-same-length
 same-length c = search needs
 
--- src/build_calls.rt:158:1
 returns : tie.Need-returns
 returns c = rw (c .before .before .before .before .before .answer .given .1) (ap (told 0) (c .before .before .store-set .ensures))
 
--- src/build_calls.rt:158:1
 returns-2 : tie.Need-returns-2
 returns-2 c = rw (c .before .before .answer2 .given .1, c .number .ensures)
 

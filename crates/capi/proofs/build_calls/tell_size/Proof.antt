@@ -6,39 +6,30 @@ use borrow.Author.Needs.{needs}
 use Rattle.capi.proofs.build_calls.tell_size.Statement.{statement}
 use Rattle.capi.proofs.build_calls.tell_size.Tie as tie
 
--- src/build_calls.rt:199:27
 enum-known-answer : tie.Need-enum-known-answer
 enum-known-answer c = search needs
 
--- src/build_calls.rt:200:30
 slice-aggregate-copy-words : tie.Need-slice-aggregate-copy-words
 slice-aggregate-copy-words c = search needs
 
--- src/build_calls.rt:200:13
 copy-words-requires : tie.Need-copy-words-requires
 copy-words-requires c κs = search needs
 
--- src/build_calls.rt:203:29
 enum-known-answer-2 : tie.Need-enum-known-answer-2
 enum-known-answer-2 c = search needs
 
--- src/build_calls.rt:203:41
 number-requires : tie.Need-number-requires
 number-requires c κs = search needs
 
--- src/build_calls.rt:203:41
 cast-result : tie.Need-cast-result
 cast-result c = search needs
 
--- src/build_calls.rt:194:1
 same-length : tie.Need-same-length
 same-length c = search needs
 
--- src/build_calls.rt:194:1
 returns : tie.Need-returns
 returns c = rw (c .before .before .before .before .before .before .answer .given .1) (ap (told 0) (c .before .before .copy-words .ensures))
 
--- src/build_calls.rt:194:1
 returns-2 : tie.Need-returns-2
 returns-2 c = rw (c .before .before .answer2 .given .1, c .number .ensures) (size-refused (c .before .before .answer2 .given .0 .0) (c .before .before .before .before .before .args .size .now))
 

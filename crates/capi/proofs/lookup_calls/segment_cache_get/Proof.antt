@@ -1,50 +1,40 @@
 -- `segment_cache_get` meets its contract: the form of the words, then the call and what it hands back. Assumes nothing.
 use Rattle.capi.specs.Calls.{exportedGet}
-use borrow.Author.Tests.{le-leb, lt-leb, eq-eqb, ne-eqb}
-use mathlib.Core.Path.{_≡_, refl, sym, ap, _∙_}
+use borrow.Author.Tests.{eq-eqb, ne-eqb}
+use mathlib.Core.Path.{sym, _∙_}
 use borrow.Author.Needs.{needs}
 use Rattle.capi.proofs.lookup_calls.segment_cache_get.Statement.{statement}
 use Rattle.capi.proofs.lookup_calls.segment_cache_get.Tie as tie
 
--- src/lookup_calls.rt:39:9
 returns : tie.Need-returns
 unfolding exportedGet
 returns c = rw (ne-eqb _ _ (c .if1 .taken))
 
--- src/lookup_calls.rt:41:32
 load-set-requires : tie.Need-load-set-requires
 load-set-requires c κs = search needs
 
--- src/lookup_calls.rt:41:23
 enum-known-state : tie.Need-enum-known-state
 enum-known-state c = search needs
 
--- src/lookup_calls.rt:42:9
 enum-told : tie.Need-enum-told
 enum-told c = search needs
 
--- src/lookup_calls.rt:42:9
 returns-2 : tie.Need-returns-2
 unfolding exportedGet
 returns-2 c = rw (eq-eqb _ _ (c .before .before .before .if1 .left), sym (c .before .before .load-set .ensures) ∙ c .enum-told .given .1)
 
--- src/lookup_calls.rt:44:9
 get-at-tick-requires : tie.Need-get-at-tick-requires
 get-at-tick-requires c κs = search needs
 
--- src/lookup_calls.rt:45:5
 tell-get-requires : tie.Need-tell-get-requires
 tell-get-requires c κs = search needs
 
--- src/lookup_calls.rt:23:1
 same-length : tie.Need-same-length
 same-length c = search needs
 
--- src/lookup_calls.rt:23:1
 same-length-2 : tie.Need-same-length-2
 same-length-2 c = search needs
 
--- src/lookup_calls.rt:23:1
 returns-3 : tie.Need-returns-3
 unfolding exportedGet
 returns-3 c = rw (eq-eqb _ _ (c .before .before .before .before .before .before .before .before .before .before .before .before .if1 .left), sym (c .before .before .before .before .before .before .before .before .before .before .before .load-set .ensures) ∙ c .before .before .before .before .before .before .before .before .before .state .given .1, sym (c .before .before .before .before .before .before .get-at-tick .ensures), sym (c .before .before .tell-get .ensures))

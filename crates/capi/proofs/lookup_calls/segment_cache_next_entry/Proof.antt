@@ -1,46 +1,37 @@
 -- `segment_cache_next_entry` meets its contract: the form of the words, then the call and what it hands back. Assumes nothing.
 use Rattle.capi.specs.Calls.{exportedWalk}
-use borrow.Author.Tests.{le-leb, lt-leb, eq-eqb, ne-eqb}
-use mathlib.Core.Path.{_≡_, refl, sym, ap, _∙_}
+use borrow.Author.Tests.{eq-eqb, ne-eqb}
+use mathlib.Core.Path.{sym, _∙_}
 use borrow.Author.Needs.{needs}
 use Rattle.capi.proofs.lookup_calls.segment_cache_next_entry.Statement.{statement}
 use Rattle.capi.proofs.lookup_calls.segment_cache_next_entry.Tie as tie
 
--- src/lookup_calls.rt:198:9
 returns : tie.Need-returns
 unfolding exportedWalk
 returns c = rw (ne-eqb _ _ (c .if1 .taken))
 
--- src/lookup_calls.rt:200:32
 load-set-requires : tie.Need-load-set-requires
 load-set-requires c κs = search needs
 
--- src/lookup_calls.rt:200:23
 enum-known-state : tie.Need-enum-known-state
 enum-known-state c = search needs
 
--- src/lookup_calls.rt:201:9
 enum-told : tie.Need-enum-told
 enum-told c = search needs
 
--- src/lookup_calls.rt:201:9
 returns-2 : tie.Need-returns-2
 unfolding exportedWalk
 returns-2 c = rw (eq-eqb _ _ (c .before .before .before .if1 .left), sym (c .before .before .load-set .ensures) ∙ c .enum-told .given .1)
 
--- src/lookup_calls.rt:203:9
 next-physical-entry-at-tick-requires : tie.Need-next-physical-entry-at-tick-requires
 next-physical-entry-at-tick-requires c κs = search needs
 
--- src/lookup_calls.rt:204:5
 tell-walk-requires : tie.Need-tell-walk-requires
 tell-walk-requires c κs = search needs
 
--- src/lookup_calls.rt:184:1
 same-length : tie.Need-same-length
 same-length c = search needs
 
--- src/lookup_calls.rt:184:1
 returns-3 : tie.Need-returns-3
 unfolding exportedWalk
 returns-3 c = rw (eq-eqb _ _ (c .before .before .before .before .before .before .before .before .before .if1 .left), sym (c .before .before .before .before .before .before .before .before .load-set .ensures) ∙ c .before .before .before .before .before .before .state .given .1, sym (c .before .before .before .before .next-physical-entry-at-tick .ensures), sym (c .before .before .tell-walk .ensures))

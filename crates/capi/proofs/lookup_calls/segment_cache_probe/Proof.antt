@@ -1,46 +1,37 @@
 -- `segment_cache_probe` meets its contract: the form of the words, then the call and what it hands back. Assumes nothing.
 use Rattle.capi.specs.Calls.{exportedProbe}
-use borrow.Author.Tests.{le-leb, lt-leb, eq-eqb, ne-eqb}
-use mathlib.Core.Path.{_≡_, refl, sym, ap, _∙_}
+use borrow.Author.Tests.{eq-eqb, ne-eqb}
+use mathlib.Core.Path.{sym, _∙_}
 use borrow.Author.Needs.{needs}
 use Rattle.capi.proofs.lookup_calls.segment_cache_probe.Statement.{statement}
 use Rattle.capi.proofs.lookup_calls.segment_cache_probe.Tie as tie
 
--- src/lookup_calls.rt:148:9
 returns : tie.Need-returns
 unfolding exportedProbe
 returns c = rw (ne-eqb _ _ (c .if1 .taken))
 
--- src/lookup_calls.rt:150:32
 load-set-requires : tie.Need-load-set-requires
 load-set-requires c κs = search needs
 
--- src/lookup_calls.rt:150:23
 enum-known-state : tie.Need-enum-known-state
 enum-known-state c = search needs
 
--- src/lookup_calls.rt:151:9
 enum-told : tie.Need-enum-told
 enum-told c = search needs
 
--- src/lookup_calls.rt:151:9
 returns-2 : tie.Need-returns-2
 unfolding exportedProbe
 returns-2 c = rw (eq-eqb _ _ (c .before .before .before .if1 .left), sym (c .before .before .load-set .ensures) ∙ c .enum-told .given .1)
 
--- src/lookup_calls.rt:153:9
 probe-hashed-at-tick-requires : tie.Need-probe-hashed-at-tick-requires
 probe-hashed-at-tick-requires c κs = search needs
 
--- src/lookup_calls.rt:163:5
 tell-probe-requires : tie.Need-tell-probe-requires
 tell-probe-requires c κs = search needs
 
--- src/lookup_calls.rt:132:1
 same-length : tie.Need-same-length
 same-length c = search needs
 
--- src/lookup_calls.rt:132:1
 returns-3 : tie.Need-returns-3
 unfolding exportedProbe
 returns-3 c = rw (eq-eqb _ _ (c .before .before .before .before .before .before .before .before .before .if1 .left), sym (c .before .before .before .before .before .before .before .before .load-set .ensures) ∙ c .before .before .before .before .before .before .state .given .1, sym (c .before .before .before .before .probe-hashed-at-tick .ensures), sym (c .before .before .tell-probe .ensures))

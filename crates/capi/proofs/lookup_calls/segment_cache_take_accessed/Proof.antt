@@ -1,50 +1,40 @@
 -- `segment_cache_take_accessed` meets its contract: the form of the words, then the call and what it hands back. Assumes nothing.
 use Rattle.capi.specs.Calls.{exportedTake}
-use borrow.Author.Tests.{le-leb, lt-leb, eq-eqb, ne-eqb}
-use mathlib.Core.Path.{_≡_, refl, sym, ap, _∙_}
+use borrow.Author.Tests.{eq-eqb, ne-eqb}
+use mathlib.Core.Path.{sym, _∙_}
 use borrow.Author.Needs.{needs}
 use Rattle.capi.proofs.lookup_calls.segment_cache_take_accessed.Statement.{statement}
 use Rattle.capi.proofs.lookup_calls.segment_cache_take_accessed.Tie as tie
 
--- src/lookup_calls.rt:107:9
 returns : tie.Need-returns
 unfolding exportedTake
 returns c = rw (ne-eqb _ _ (c .if1 .taken))
 
--- src/lookup_calls.rt:109:32
 load-set-requires : tie.Need-load-set-requires
 load-set-requires c κs = search needs
 
--- src/lookup_calls.rt:109:23
 enum-known-state : tie.Need-enum-known-state
 enum-known-state c = search needs
 
--- src/lookup_calls.rt:110:9
 enum-told : tie.Need-enum-told
 enum-told c = search needs
 
--- src/lookup_calls.rt:110:9
 returns-2 : tie.Need-returns-2
 unfolding exportedTake
 returns-2 c = rw (eq-eqb _ _ (c .before .before .before .if1 .left), sym (c .before .before .load-set .ensures) ∙ c .enum-told .given .1)
 
--- src/lookup_calls.rt:112:9
 take-accessed-requires : tie.Need-take-accessed-requires
 take-accessed-requires c κs = search needs
 
--- src/lookup_calls.rt:113:5
 tell-take-requires : tie.Need-tell-take-requires
 tell-take-requires c κs = search needs
 
--- src/lookup_calls.rt:92:1
 same-length : tie.Need-same-length
 same-length c = search needs
 
--- src/lookup_calls.rt:92:1
 same-length-2 : tie.Need-same-length-2
 same-length-2 c = search needs
 
--- src/lookup_calls.rt:92:1
 returns-3 : tie.Need-returns-3
 unfolding exportedTake
 returns-3 c = rw (eq-eqb _ _ (c .before .before .before .before .before .before .before .before .before .before .before .before .if1 .left), sym (c .before .before .before .before .before .before .before .before .before .before .before .load-set .ensures) ∙ c .before .before .before .before .before .before .before .before .before .state .given .1, sym (c .before .before .before .before .before .before .take-accessed .ensures), sym (c .before .before .tell-take .ensures))

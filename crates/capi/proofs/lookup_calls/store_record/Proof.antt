@@ -1,34 +1,27 @@
 -- `store_record` meets its contract by what it calls. Assumes nothing.
-use mathlib.Core.Path.{_≡_, refl, sym, ap, _∙_}
+use mathlib.Core.Path.{sym}
 use borrow.Author.Needs.{needs}
 use Rattle.capi.proofs.lookup_calls.store_record.Statement.{statement}
 use Rattle.capi.proofs.lookup_calls.store_record.Tie as tie
 
--- src/lookup_calls.rt:231:9
 left-kind-requires : tie.Need-left-kind-requires
 left-kind-requires c κs = search needs
 
--- src/lookup_calls.rt:232:9
 left-secs-requires : tie.Need-left-secs-requires
 left-secs-requires c κs = search needs
 
--- src/lookup_calls.rt:233:9
 left-nanos-requires : tie.Need-left-nanos-requires
 left-nanos-requires c κs = search needs
 
--- src/lookup_calls.rt:236:9
 slice-aggregate-copy-words : tie.Need-slice-aggregate-copy-words
 slice-aggregate-copy-words c = search needs
 
--- src/lookup_calls.rt:234:5
 copy-words-requires : tie.Need-copy-words-requires
 copy-words-requires c κs = search needs
 
--- src/lookup_calls.rt:224:1
 same-length : tie.Need-same-length
 same-length c = search needs
 
--- src/lookup_calls.rt:224:1
 returns : tie.Need-returns
 returns c = rw (sym (c .before .before .before .before .before .before .before .left-kind .ensures), sym (c .before .before .before .before .before .before .left-secs .ensures), sym (c .before .before .before .before .before .left-nanos .ensures)) (c .before .before .copy-words .ensures)
 

@@ -5,43 +5,33 @@ use borrow.Author.Needs.{needs}
 use Rattle.capi.proofs.lookup_calls.tell_take.Statement.{statement}
 use Rattle.capi.proofs.lookup_calls.tell_take.Tie as tie
 
--- src/lookup_calls.rt:121:30
 enum-known-answer : tie.Need-enum-known-answer
 enum-known-answer c = search needs
 
--- src/lookup_calls.rt:122:17
 flag-of-requires : tie.Need-flag-of-requires
 flag-of-requires c κs = search needs
 
--- src/lookup_calls.rt:123:34
 slice-aggregate-copy-words : tie.Need-slice-aggregate-copy-words
 slice-aggregate-copy-words c = search needs
 
--- src/lookup_calls.rt:123:13
 copy-words-requires : tie.Need-copy-words-requires
 copy-words-requires c κs = search needs
 
--- src/lookup_calls.rt:126:29
 enum-known-answer-2 : tie.Need-enum-known-answer-2
 enum-known-answer-2 c = search needs
 
--- src/lookup_calls.rt:126:41
 number-requires : tie.Need-number-requires
 number-requires c κs = search needs
 
--- src/lookup_calls.rt:126:41
 cast-result : tie.Need-cast-result
 cast-result c = search needs
 
--- src/lookup_calls.rt:116:1
 same-length : tie.Need-same-length
 same-length c = search needs
 
--- src/lookup_calls.rt:116:1
 returns : tie.Need-returns
 returns c = rw (c .before .before .before .before .before .before .before .answer .given .1, sym (c .before .before .before .before .before .flag-of .ensures)) (ap (told 0) (c .before .before .copy-words .ensures))
 
--- src/lookup_calls.rt:116:1
 returns-2 : tie.Need-returns-2
 returns-2 c = rw (c .before .before .answer2 .given .1, c .number .ensures)
 

@@ -5,55 +5,42 @@ use borrow.Author.Needs.{needs}
 use Rattle.capi.proofs.lookup_calls.tell_walk.Statement.{statement}
 use Rattle.capi.proofs.lookup_calls.tell_walk.Tie as tie
 
--- src/lookup_calls.rt:212:27
 enum-known-answer : tie.Need-enum-known-answer
 enum-known-answer c = search needs
 
--- src/lookup_calls.rt:213:13
 store-record-requires : tie.Need-store-record-requires
 store-record-requires c κs = search needs
 
--- src/lookup_calls.rt:217:24
 enum-told : tie.Need-enum-told
 enum-told c = search needs
 
--- src/lookup_calls.rt:217:29
 slice-aggregate-copy-words : tie.Need-slice-aggregate-copy-words
 slice-aggregate-copy-words c = search needs
 
--- src/lookup_calls.rt:217:13
 copy-words-requires : tie.Need-copy-words-requires
 copy-words-requires c κs = search needs
 
--- src/lookup_calls.rt:220:29
 enum-known-answer-2 : tie.Need-enum-known-answer-2
 enum-known-answer-2 c = search needs
 
--- src/lookup_calls.rt:220:41
 number-requires : tie.Need-number-requires
 number-requires c κs = search needs
 
--- src/lookup_calls.rt:220:41
 cast-result : tie.Need-cast-result
 cast-result c = search needs
 
--- src/lookup_calls.rt:207:1
 same-length : tie.Need-same-length
 same-length c = search needs
 
--- src/lookup_calls.rt:207:1
 returns : tie.Need-returns
 returns c = rw (c .before .before .before .before .before .answer .given .1) (ap (told 0) (c .before .before .store-record .ensures))
 
--- src/lookup_calls.rt:207:1
 same-length-2 : tie.Need-same-length-2
 same-length-2 c = search needs
 
--- src/lookup_calls.rt:207:1
 returns-2 : tie.Need-returns-2
 returns-2 c = search needs
 
--- src/lookup_calls.rt:207:1
 returns-3 : tie.Need-returns-3
 returns-3 c = rw (c .before .before .answer2 .given .1, c .number .ensures)
 

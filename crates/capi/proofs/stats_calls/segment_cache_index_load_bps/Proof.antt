@@ -1,56 +1,45 @@
 -- `segment_cache_index_load_bps` meets its contract: the form of the words, then the number. Assumes nothing.
 use Rattle.capi.specs.Calls.{exportedNumber, told}
 use Prim.Native.Nat.{ℕ}
-use mathlib.Core.List.{List, [], _∷_}
-use borrow.Author.Tests.{le-leb, lt-leb, eq-eqb, ne-eqb}
-use mathlib.Core.Path.{_≡_, refl, sym, ap, _∙_}
+use mathlib.Core.List.{[], _∷_}
+use borrow.Author.Tests.{eq-eqb, ne-eqb}
+use mathlib.Core.Path.{sym, ap, _∙_}
 use borrow.Author.Needs.{needs}
 use Rattle.capi.proofs.stats_calls.segment_cache_index_load_bps.Statement.{statement}
 use Rattle.capi.proofs.stats_calls.segment_cache_index_load_bps.Tie as tie
 
--- src/stats_calls.rt:89:9
 returns : tie.Need-returns
 unfolding exportedNumber
 returns c = rw (ne-eqb _ _ (c .if1 .taken))
 
--- src/stats_calls.rt:91:34
 load-stats-requires : tie.Need-load-stats-requires
 load-stats-requires c κs = search needs
 
--- src/stats_calls.rt:91:25
 enum-known-state : tie.Need-enum-known-state
 enum-known-state c = search needs
 
--- src/stats_calls.rt:92:9
 enum-told : tie.Need-enum-told
 enum-told c = search needs
 
--- src/stats_calls.rt:92:9
 returns-2 : tie.Need-returns-2
 unfolding exportedNumber
 returns-2 c = rw (eq-eqb _ _ (c .before .before .before .if1 .left), sym (c .before .before .load-stats .ensures) ∙ c .enum-told .given .1)
 
--- src/stats_calls.rt:94:9
 index-load-bps-requires : tie.Need-index-load-bps-requires
 index-load-bps-requires c κs = search needs
 
--- src/stats_calls.rt:95:23
 cast-t12 : tie.Need-cast-t12
 cast-t12 c = search needs
 
--- src/stats_calls.rt:95:21
 slice-aggregate-copy-words : tie.Need-slice-aggregate-copy-words
 slice-aggregate-copy-words c = search needs
 
--- src/stats_calls.rt:95:5
 copy-words-requires : tie.Need-copy-words-requires
 copy-words-requires c κs = search needs
 
--- src/stats_calls.rt:84:1
 same-length : tie.Need-same-length
 same-length c = search needs
 
--- src/stats_calls.rt:84:1
 returns-3 : tie.Need-returns-3
 unfolding exportedNumber
 returns-3 c = rw (eq-eqb _ _ (c .before .before .before .before .before .before .before .before .before .before .if1 .left), sym (c .before .before .before .before .before .before .before .before .before .load-stats .ensures) ∙ c .before .before .before .before .before .before .before .state .given .1) (ap (told 0) (c .before .before .copy-words .ensures ∙ ap (λ (n : ℕ). n ∷ []) (c .before .before .before .before .before .index-load-bps .ensures)))

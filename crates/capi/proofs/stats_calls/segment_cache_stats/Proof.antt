@@ -1,46 +1,37 @@
 -- `segment_cache_stats` meets its contract: the form of the words, then the call and what it hands back. Assumes nothing.
 use Rattle.capi.specs.Calls.{exportedStats}
-use borrow.Author.Tests.{le-leb, lt-leb, eq-eqb, ne-eqb}
-use mathlib.Core.Path.{_≡_, refl, sym, ap, _∙_}
+use borrow.Author.Tests.{eq-eqb, ne-eqb}
+use mathlib.Core.Path.{sym, _∙_}
 use borrow.Author.Needs.{needs}
 use Rattle.capi.proofs.stats_calls.segment_cache_stats.Statement.{statement}
 use Rattle.capi.proofs.stats_calls.segment_cache_stats.Tie as tie
 
--- src/stats_calls.rt:20:9
 returns : tie.Need-returns
 unfolding exportedStats
 returns c = rw (ne-eqb _ _ (c .if1 .taken))
 
--- src/stats_calls.rt:22:32
 load-set-requires : tie.Need-load-set-requires
 load-set-requires c κs = search needs
 
--- src/stats_calls.rt:22:23
 enum-known-state : tie.Need-enum-known-state
 enum-known-state c = search needs
 
--- src/stats_calls.rt:23:9
 enum-told : tie.Need-enum-told
 enum-told c = search needs
 
--- src/stats_calls.rt:23:9
 returns-2 : tie.Need-returns-2
 unfolding exportedStats
 returns-2 c = rw (eq-eqb _ _ (c .before .before .before .if1 .left), sym (c .before .before .load-set .ensures) ∙ c .enum-told .given .1)
 
--- src/stats_calls.rt:25:9
 stats-requires : tie.Need-stats-requires
 stats-requires c κs = search needs
 
--- src/stats_calls.rt:26:5
 tell-stats-requires : tie.Need-tell-stats-requires
 tell-stats-requires c κs = search needs
 
--- src/stats_calls.rt:15:1
 same-length : tie.Need-same-length
 same-length c = search needs
 
--- src/stats_calls.rt:15:1
 returns-3 : tie.Need-returns-3
 unfolding exportedStats
 returns-3 c = rw (eq-eqb _ _ (c .before .before .before .before .before .before .before .before .before .if1 .left), sym (c .before .before .before .before .before .before .before .before .load-set .ensures) ∙ c .before .before .before .before .before .before .state .given .1, sym (c .before .before .before .before .stats .ensures), sym (c .before .before .tell-stats .ensures))

@@ -17,35 +17,27 @@ Inv-loop out₀ words i₀ out i = Writing words (drop i words) out₀ out i
 abbrev μ-loop : tie.MeasureT-loop
 μ-loop out₀ words i₀ out i = length words - i
 
--- src/words.rt:194:5
 loop-holds : tie.Need-loop-holds Inv-loop μ-loop
 loop-holds c = begin (c .args .words .now) (c .args .out .now) (le-of-eq (c .pre))
 
--- src/words.rt:195:18
 mul-out : tie.Need-mul-out Inv-loop μ-loop
 mul-out c = omega arith
 
--- src/words.rt:195:18
 shared-slice-read-out : tie.Need-shared-slice-read-out Inv-loop μ-loop
 shared-slice-read-out c = omega arith
 
--- src/words.rt:195:9
 mul-out-2 : tie.Need-mul-out-2 Inv-loop μ-loop
 mul-out-2 c = omega (arith, room (c .before .before .loop .inv))
 
--- src/words.rt:195:9
 slice-write-out : tie.Need-slice-write-out Inv-loop μ-loop
 slice-write-out c = omega (arith, room (c .before .before .loop .inv))
 
--- src/words.rt:196:9
 add-i : tie.Need-add-i Inv-loop μ-loop
 add-i c = omega arith
 
--- src/words.rt:194:5
 loop-less : tie.Need-loop-less Inv-loop μ-loop
 loop-less c = omega arith
 
--- src/words.rt:194:5
 loop-again : tie.Need-loop-again Inv-loop μ-loop
 loop-again c =
     let l = c .before .before .loop in
@@ -53,11 +45,9 @@ loop-again c =
     let e : drop (l .i) words ≡ getD words (l .i) 0 ∷ drop (l .i + 1) words = rw (add-one (l .i)) (drop-cons words (l .i) 0 (c .before .loop-test .taken)) in
     next-byte (getD words (l .i) 0) (drop (l .i + 1) words) (l .inv) e
 
--- src/words.rt:189:1
 same-length : tie.Need-same-length Inv-loop μ-loop
 same-length c = room (c .before .loop .inv) .1
 
--- src/words.rt:189:1
 returns : tie.Need-returns Inv-loop μ-loop
 returns c =
     let a = c .before .before .args in

@@ -1,13 +1,11 @@
 -- `expiry_of` meets its contract by its tests. Assumes nothing.
-use borrow.Author.Tests.{le-leb, lt-leb, eq-eqb, ne-eqb}
+use borrow.Author.Tests.{eq-eqb, ne-eqb}
 use Rattle.capi.proofs.words.expiry_of.Statement.{statement}
 use Rattle.capi.proofs.words.expiry_of.Tie as tie
 
--- src/words.rt:87:9
 returns : tie.Need-returns
 returns c = rw (eq-eqb _ _ (c .if1 .taken))
 
--- src/words.rt:82:1
 returns-2 : tie.Need-returns-2
 returns-2 c = rw (ne-eqb _ _ (c .if1 .left))
 

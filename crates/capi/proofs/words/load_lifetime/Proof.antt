@@ -1,34 +1,28 @@
 -- `load_lifetime` meets its contract by its tests. Assumes nothing.
 use Rattle.capi.specs.Words.{lifetimeIn}
-use borrow.Author.Tests.{le-leb, lt-leb, eq-eqb, ne-eqb}
-use mathlib.Core.Path.{_≡_, refl, sym, ap, _∙_}
+use borrow.Author.Tests.{eq-eqb, ne-eqb}
+use mathlib.Core.Path.{sym}
 use borrow.Author.Needs.{needs}
 use Rattle.capi.proofs.words.load_lifetime.Statement.{statement}
 use Rattle.capi.proofs.words.load_lifetime.Tie as tie
 
--- src/words.rt:151:9
 returns : tie.Need-returns
 unfolding lifetimeIn
 returns c = rw (eq-eqb _ _ (c .if1 .taken))
 
--- src/words.rt:154:9
 returns-2 : tie.Need-returns-2
 unfolding lifetimeIn
 returns-2 c = rw (ne-eqb _ _ (c .before .if1 .left), ne-eqb _ _ (c .if2 .taken))
 
--- src/words.rt:156:16
 shared-slice-read-secs : tie.Need-shared-slice-read-secs
 shared-slice-read-secs c = search needs
 
--- src/words.rt:157:30
 shared-slice-read-capped-nanos : tie.Need-shared-slice-read-capped-nanos
 shared-slice-read-capped-nanos c = search needs
 
--- src/words.rt:157:9
 capped-nanos-requires : tie.Need-capped-nanos-requires
 capped-nanos-requires c κs = search needs
 
--- src/words.rt:147:1
 returns-3 : tie.Need-returns-3
 unfolding lifetimeIn
 returns-3 c = rw (ne-eqb _ _ (c .before .before .before .before .if1 .left), eq-eqb _ _ (c .before .before .before .if2 .left), sym (c .capped-nanos .ensures))

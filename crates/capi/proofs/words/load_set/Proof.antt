@@ -1,70 +1,55 @@
 -- `load_set` meets its contract by its tests. Assumes nothing.
 use Rattle.capi.specs.Words.{setIn}
-use borrow.Author.Tests.{le-leb, lt-leb, eq-eqb, ne-eqb}
-use mathlib.Core.Path.{_≡_, refl, sym, ap, _∙_}
+use borrow.Author.Tests.{eq-eqb, ne-eqb}
+use mathlib.Core.Path.{sym, _∙_}
 use borrow.Author.Needs.{needs}
 use Rattle.capi.proofs.words.load_set.Statement.{statement}
 use Rattle.capi.proofs.words.load_set.Tie as tie
 
--- src/words.rt:127:9
 returns : tie.Need-returns
 unfolding setIn
 returns c = rw (ne-eqb _ _ (c .if1 .taken))
 
--- src/words.rt:129:37
 front-setting-requires : tie.Need-front-setting-requires
 front-setting-requires c κs = search needs
 
--- src/words.rt:129:27
 enum-known-config : tie.Need-enum-known-config
 enum-known-config c = search needs
 
--- src/words.rt:130:9
 enum-told : tie.Need-enum-told
 enum-told c = search needs
 
--- src/words.rt:130:9
 returns-2 : tie.Need-returns-2
 unfolding setIn
 returns-2 c = rw (eq-eqb _ _ (c .before .before .before .if1 .left), sym (c .before .before .front-setting .ensures) ∙ c .enum-told .given .1)
 
--- src/words.rt:134:18
 shared-slice-read-t7 : tie.Need-shared-slice-read-t7
 shared-slice-read-t7 c = search needs
 
--- src/words.rt:135:18
 shared-slice-read-t9 : tie.Need-shared-slice-read-t9
 shared-slice-read-t9 c = search needs
 
--- src/words.rt:136:23
 shared-slice-read-t12 : tie.Need-shared-slice-read-t12
 shared-slice-read-t12 c = search needs
 
--- src/words.rt:137:19
 shared-slice-read-t15 : tie.Need-shared-slice-read-t15
 shared-slice-read-t15 c = search needs
 
--- src/words.rt:138:17
 shared-slice-read-t18 : tie.Need-shared-slice-read-t18
 shared-slice-read-t18 c = search needs
 
--- src/words.rt:139:23
 shared-slice-read-t21 : tie.Need-shared-slice-read-t21
 shared-slice-read-t21 c = search needs
 
--- src/words.rt:140:28
 shared-slice-read-t24 : tie.Need-shared-slice-read-t24
 shared-slice-read-t24 c = search needs
 
--- src/words.rt:141:30
 shared-slice-read-t27 : tie.Need-shared-slice-read-t27
 shared-slice-read-t27 c = search needs
 
--- src/words.rt:142:30
 shared-slice-read-t30 : tie.Need-shared-slice-read-t30
 shared-slice-read-t30 c = search needs
 
--- src/words.rt:123:1
 returns-3 : tie.Need-returns-3
 unfolding setIn
 returns-3 c = rw (eq-eqb _ _ (c .before .before .before .before .before .before .before .before .before .before .before .before .before .if1 .left), sym (c .before .before .before .before .before .before .before .before .before .before .before .before .front-setting .ensures) ∙ c .before .before .before .before .before .before .before .before .before .before .config .given .1)

@@ -1,21 +1,17 @@
 -- `load_setting` meets its contract by its tests. Assumes nothing.
 use Rattle.capi.specs.Words.{settingAlone}
-use borrow.Author.Tests.{le-leb, lt-leb, eq-eqb, ne-eqb}
-use mathlib.Core.Path.{_≡_, refl, sym, ap, _∙_}
+use borrow.Author.Tests.{eq-eqb, ne-eqb}
 use borrow.Author.Needs.{needs}
 use Rattle.capi.proofs.words.load_setting.Statement.{statement}
 use Rattle.capi.proofs.words.load_setting.Tie as tie
 
--- src/words.rt:97:9
 returns : tie.Need-returns
 unfolding settingAlone
 returns c = rw (ne-eqb _ _ (c .if1 .taken))
 
--- src/words.rt:99:5
 front-setting-requires : tie.Need-front-setting-requires
 front-setting-requires c κs = search needs
 
--- src/words.rt:93:1
 returns-2 : tie.Need-returns-2
 unfolding settingAlone
 returns-2 c = rw (eq-eqb _ _ (c .before .if1 .left)) (c .front-setting .ensures)

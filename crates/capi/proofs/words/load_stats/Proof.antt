@@ -1,49 +1,38 @@
 -- `load_stats` meets its contract by its tests. Assumes nothing.
 use Rattle.capi.specs.Words.{statsIn}
-use borrow.Author.Tests.{le-leb, lt-leb, eq-eqb, ne-eqb}
-use mathlib.Core.Path.{_≡_, refl, sym, ap, _∙_}
+use borrow.Author.Tests.{eq-eqb, ne-eqb}
 use borrow.Author.Needs.{needs}
 use Rattle.capi.proofs.words.load_stats.Statement.{statement}
 use Rattle.capi.proofs.words.load_stats.Tie as tie
 
--- src/words.rt:174:9
 returns : tie.Need-returns
 unfolding statsIn
 returns c = rw (ne-eqb _ _ (c .if1 .taken))
 
--- src/words.rt:177:18
 shared-slice-read-t5 : tie.Need-shared-slice-read-t5
 shared-slice-read-t5 c = search needs
 
--- src/words.rt:178:18
 shared-slice-read-t7 : tie.Need-shared-slice-read-t7
 shared-slice-read-t7 c = search needs
 
--- src/words.rt:179:22
 shared-slice-read-t10 : tie.Need-shared-slice-read-t10
 shared-slice-read-t10 c = search needs
 
--- src/words.rt:180:22
 shared-slice-read-t13 : tie.Need-shared-slice-read-t13
 shared-slice-read-t13 c = search needs
 
--- src/words.rt:181:23
 shared-slice-read-t16 : tie.Need-shared-slice-read-t16
 shared-slice-read-t16 c = search needs
 
--- src/words.rt:182:28
 shared-slice-read-t19 : tie.Need-shared-slice-read-t19
 shared-slice-read-t19 c = search needs
 
--- src/words.rt:183:30
 shared-slice-read-t22 : tie.Need-shared-slice-read-t22
 shared-slice-read-t22 c = search needs
 
--- src/words.rt:184:30
 shared-slice-read-t25 : tie.Need-shared-slice-read-t25
 shared-slice-read-t25 c = search needs
 
--- src/words.rt:170:1
 returns-2 : tie.Need-returns-2
 unfolding statsIn
 returns-2 c = rw (eq-eqb _ _ (c .before .before .before .before .before .before .before .before .if1 .left))
