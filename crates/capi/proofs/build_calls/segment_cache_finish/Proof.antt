@@ -1,0 +1,67 @@
+-- `segment_cache_finish` meets its contract: the form of the words, then the call and what it hands back. Assumes nothing.
+use Rattle.capi.specs.Calls.{exportedFinish}
+use borrow.Author.Tests.{eq-eqb, ne-eqb}
+use mathlib.Core.Path.{sym, _∙_}
+use borrow.Author.Needs.{needs}
+use Rattle.capi.proofs.build_calls.segment_cache_finish.Statement.{statement}
+use Rattle.capi.proofs.build_calls.segment_cache_finish.Tie as tie
+
+returns : tie.Need-returns
+unfolding exportedFinish
+returns c = rw (ne-eqb _ _ (c .if1 .taken))
+
+load-builder-requires : tie.Need-load-builder-requires
+load-builder-requires c κs = search needs
+
+enum-known-state : tie.Need-enum-known-state
+enum-known-state c = search needs
+
+enum-told : tie.Need-enum-told
+enum-told c = search needs
+
+returns-2 : tie.Need-returns-2
+unfolding exportedFinish
+returns-2 c = rw (eq-eqb _ _ (c .before .before .before .if1 .left), sym (c .before .before .load-builder .ensures) ∙ c .enum-told .given .1)
+
+finish-requires : tie.Need-finish-requires
+finish-requires c κs = search needs
+
+tell-finish-requires : tie.Need-tell-finish-requires
+tell-finish-requires c κs = search needs
+
+same-length : tie.Need-same-length
+same-length c = search needs
+
+same-length-2 : tie.Need-same-length-2
+same-length-2 c = search needs
+
+same-length-3 : tie.Need-same-length-3
+same-length-3 c = search needs
+
+same-length-4 : tie.Need-same-length-4
+same-length-4 c = search needs
+
+same-length-5 : tie.Need-same-length-5
+same-length-5 c = search needs
+
+returns-3 : tie.Need-returns-3
+unfolding exportedFinish
+returns-3 c = rw (eq-eqb _ _ (c .before .before .before .before .before .before .before .before .before .before .before .before .before .before .before .before .before .before .before .before .before .if1 .left), sym (c .before .before .before .before .before .before .before .before .before .before .before .before .before .before .before .before .before .before .before .before .load-builder .ensures) ∙ c .before .before .before .before .before .before .before .before .before .before .before .before .before .before .before .before .before .before .state .given .1, sym (c .before .before .before .before .before .before .before .before .before .before .before .before .finish .ensures), sym (c .before .before .tell-finish .ensures))
+
+pub segment-cache-finish-spec : {M : Type 1} → statement M
+segment-cache-finish-spec =
+    tie.close
+    (tie.spec
+    returns
+    load-builder-requires
+    enum-known-state
+    enum-told
+    returns-2
+    finish-requires
+    tell-finish-requires
+    same-length
+    same-length-2
+    same-length-3
+    same-length-4
+    same-length-5
+    returns-3)

@@ -1,0 +1,51 @@
+-- `segment_cache_stats` meets its contract: the form of the words, then the call and what it hands back. Assumes nothing.
+use Rattle.capi.specs.Calls.{exportedStats}
+use borrow.Author.Tests.{eq-eqb, ne-eqb}
+use mathlib.Core.Path.{sym, _∙_}
+use borrow.Author.Needs.{needs}
+use Rattle.capi.proofs.stats_calls.segment_cache_stats.Statement.{statement}
+use Rattle.capi.proofs.stats_calls.segment_cache_stats.Tie as tie
+
+returns : tie.Need-returns
+unfolding exportedStats
+returns c = rw (ne-eqb _ _ (c .if1 .taken))
+
+load-set-requires : tie.Need-load-set-requires
+load-set-requires c κs = search needs
+
+enum-known-state : tie.Need-enum-known-state
+enum-known-state c = search needs
+
+enum-told : tie.Need-enum-told
+enum-told c = search needs
+
+returns-2 : tie.Need-returns-2
+unfolding exportedStats
+returns-2 c = rw (eq-eqb _ _ (c .before .before .before .if1 .left), sym (c .before .before .load-set .ensures) ∙ c .enum-told .given .1)
+
+stats-requires : tie.Need-stats-requires
+stats-requires c κs = search needs
+
+tell-stats-requires : tie.Need-tell-stats-requires
+tell-stats-requires c κs = search needs
+
+same-length : tie.Need-same-length
+same-length c = search needs
+
+returns-3 : tie.Need-returns-3
+unfolding exportedStats
+returns-3 c = rw (eq-eqb _ _ (c .before .before .before .before .before .before .before .before .before .if1 .left), sym (c .before .before .before .before .before .before .before .before .load-set .ensures) ∙ c .before .before .before .before .before .before .state .given .1, sym (c .before .before .before .before .stats .ensures), sym (c .before .before .tell-stats .ensures))
+
+pub segment-cache-stats-spec : {M : Type 1} → statement M
+segment-cache-stats-spec =
+    tie.close
+    (tie.spec
+    returns
+    load-set-requires
+    enum-known-state
+    enum-told
+    returns-2
+    stats-requires
+    tell-stats-requires
+    same-length
+    returns-3)

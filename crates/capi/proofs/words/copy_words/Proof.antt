@@ -1,0 +1,74 @@
+-- `copy_words` meets its contract: what is written and what is left to copy are the words. Assumes nothing.
+use Rattle.records.proofs.Area.{Writing, begin, room, next-byte, complete}
+use lib.Seq.{drop-cons}
+use lib.ListN.{length, getD, drop, drop-of-length-le}
+use native.Mathlib.Omega.{arith}
+use native.Mathlib.Numerals.{add-one}
+use native.Mathlib.Nat.{le-of-eq}
+use Prim.Native.Nat.{ℕ, _+_, _-_}
+use mathlib.Core.List.{List, _∷_, _++_, append-nil}
+use mathlib.Core.Path.{_≡_, sym, ap, _∙_}
+use Rattle.capi.proofs.words.copy_words.Statement.{statement}
+use Rattle.capi.proofs.words.copy_words.Tie as tie
+
+abbrev Inv-loop : tie.InvT-loop
+Inv-loop out₀ words i₀ out i = Writing words (drop i words) out₀ out i
+
+abbrev μ-loop : tie.MeasureT-loop
+μ-loop out₀ words i₀ out i = length words - i
+
+loop-holds : tie.Need-loop-holds Inv-loop μ-loop
+loop-holds c = begin (c .args .words .now) (c .args .out .now) (le-of-eq (c .pre))
+
+mul-out : tie.Need-mul-out Inv-loop μ-loop
+mul-out c = omega arith
+
+shared-slice-read-out : tie.Need-shared-slice-read-out Inv-loop μ-loop
+shared-slice-read-out c = omega arith
+
+mul-out-2 : tie.Need-mul-out-2 Inv-loop μ-loop
+mul-out-2 c = omega (arith, room (c .before .before .loop .inv))
+
+slice-write-out : tie.Need-slice-write-out Inv-loop μ-loop
+slice-write-out c = omega (arith, room (c .before .before .loop .inv))
+
+add-i : tie.Need-add-i Inv-loop μ-loop
+add-i c = omega arith
+
+loop-less : tie.Need-loop-less Inv-loop μ-loop
+loop-less c = omega arith
+
+loop-again : tie.Need-loop-again Inv-loop μ-loop
+loop-again c =
+    let l = c .before .before .loop in
+    let words : List ℕ = c .before .before .before .args .words .now in
+    let e : drop (l .i) words ≡ getD words (l .i) 0 ∷ drop (l .i + 1) words = rw (add-one (l .i)) (drop-cons words (l .i) 0 (c .before .loop-test .taken)) in
+    next-byte (getD words (l .i) 0) (drop (l .i + 1) words) (l .inv) e
+
+same-length : tie.Need-same-length Inv-loop μ-loop
+same-length c = room (c .before .loop .inv) .1
+
+returns : tie.Need-returns Inv-loop μ-loop
+returns c =
+    let a = c .before .before .args in
+    let words : List ℕ = a .words .now in
+    complete (c .before .loop .inv) (drop-of-length-le words (c .loop-test .left)) .1
+    ∙ ap (λ (t : List ℕ). words ++ t) (drop-of-length-le (a .out .now) (le-of-eq (sym (c .before .before .pre))))
+    ∙ append-nil words
+
+pub copy-words-spec : {M : Type 1} → statement M
+copy-words-spec =
+    tie.close
+    (tie.spec
+    Inv-loop
+    μ-loop
+    loop-holds
+    mul-out
+    shared-slice-read-out
+    mul-out-2
+    slice-write-out
+    add-i
+    loop-less
+    loop-again
+    same-length
+    returns)

@@ -1,0 +1,205 @@
+// Opening, filling and finishing a set.
+use crate::words::BUILDER_WORDS;
+use crate::words::LoadedBuilder;
+use crate::words::LoadedLifetime;
+use crate::words::LoadedSetting;
+use crate::words::MALFORMED;
+use crate::words::SET_WORDS;
+use crate::words::copy_words;
+use crate::words::load_builder;
+use crate::words::load_lifetime;
+use crate::words::load_setting;
+use crate::words::store_builder;
+use crate::words::store_set;
+use records::record::SizeAnswer;
+use sets::builder::FinishAnswer;
+use sets::builder::OpenAnswer;
+use sets::builder::PushAnswer;
+use sets::builder::SegmentCacheBuilder;
+ghost use mathlib.Core.Path.{_≡_};
+ghost use lib.ListN.{length};
+ghost use Rattle.records.specs.Record.{sizeOutcome};
+ghost use Rattle.sets.specs.Answers.{finishReply, openReply, pushReply};
+ghost use Rattle.capi.specs.Calls.{exportedFinish, exportedOpen, exportedPush, exportedSize, finishWords, openWords, placeTold, pushTold, pushWords, setTold, sizeTold, stateTold, told};
+
+#[no_mangle]
+pub extern "C" fn segment_cache_builder_words() -> usize
+    ensures { λ r. ⌜ r ≡ 13 ⌝ }
+{
+    BUILDER_WORDS
+}
+
+#[no_mangle]
+pub extern "C" fn segment_cache_set_words() -> usize
+    ensures { λ r. ⌜ r ≡ 15 ⌝ }
+{
+    SET_WORDS
+}
+
+#[no_mangle]
+pub extern "C" fn segment_cache_open(
+    setting: &[u64],
+    records: usize,
+    builder: &mut [u64],
+    index: &mut [u64],
+    filter: &mut [u64],
+    starts: &[u64],
+    lengths: &[u64],
+    arena: &[u8],
+) -> u64
+    ensures { λ r. ⌜ openWords r (now (builder .exit)) (now (index .exit)) (now (filter .exit)) ≡ exportedOpen (now (setting .entry)) records (now (builder .entry)) (now (index .entry)) (now (filter .entry)) (now (starts .entry)) (now (lengths .entry)) (now (arena .entry)) ⌝ }
+{
+    if builder.len() != BUILDER_WORDS {
+        return MALFORMED;
+    }
+    let LoadedSetting::Is(config) = load_setting(setting) else {
+        return MALFORMED;
+    };
+    let answer = SegmentCacheBuilder::try_new(
+        config,
+        records,
+        index,
+        filter,
+        starts,
+        lengths,
+        arena,
+    );
+    tell_open(answer, builder)
+}
+
+fn tell_open(answer: OpenAnswer, builder: &mut [u64]) -> u64
+    requires { ⌜ length (now builder) ≡ 13 ⌝ }
+    ensures { λ r. ⌜ told r (now (builder .exit)) ≡ stateTold (openReply answer) (now (builder .entry)) ⌝ }
+{
+    match answer {
+        OpenAnswer::Opened(state) => {
+            store_builder(builder, state);
+            0
+        }
+        OpenAnswer::Refused(refusal) => refusal.number() as u64,
+    }
+}
+
+// The two words of the place: slot and location.
+#[no_mangle]
+pub extern "C" fn segment_cache_push(
+    builder: &mut [u64],
+    hash: u64,
+    key: &[u8],
+    value: &[u8],
+    lifetime: &[u64],
+    index: &mut [u64],
+    filter: &mut [u64],
+    arena: &mut [u8],
+    place: &mut [u64],
+) -> u64
+    ensures { λ r. ⌜ pushWords r (now (builder .exit)) (now (index .exit)) (now (filter .exit)) (now (arena .exit)) (now (place .exit)) ≡ exportedPush (now (builder .entry)) hash (now (key .entry)) (now (value .entry)) (now (lifetime .entry)) (now (index .entry)) (now (filter .entry)) (now (arena .entry)) (now (place .entry)) ⌝ }
+{
+    if builder.len() != BUILDER_WORDS {
+        return MALFORMED;
+    }
+    if place.len() != 2 {
+        return MALFORMED;
+    }
+    let LoadedBuilder::Is(state) = load_builder(&builder[..]) else {
+        return MALFORMED;
+    };
+    let LoadedLifetime::Is(ttl) = load_lifetime(lifetime) else {
+        return MALFORMED;
+    };
+    let answer = state.push(hash, key, value, ttl, index, filter, arena);
+    tell_push(answer, builder, place)
+}
+
+fn tell_push(answer: PushAnswer, builder: &mut [u64], place: &mut [u64]) -> u64
+    requires { ⌜ (length (now builder) ≡ 13) × (length (now place) ≡ 2) ⌝ }
+    ensures { λ r. ⌜ placeTold r (now (builder .exit)) (now (place .exit)) ≡ pushTold (pushReply answer) (now (builder .entry)) (now (place .entry)) ⌝ }
+{
+    match answer {
+        PushAnswer::Pushed {
+            builder: state,
+            slot,
+            location,
+        } => {
+            store_builder(builder, state);
+            copy_words(place, &[slot as u64, location as u64]);
+            0
+        }
+        PushAnswer::Refused {
+            refusal,
+            builder: _,
+        } => refusal.number() as u64,
+    }
+}
+
+#[no_mangle]
+pub extern "C" fn segment_cache_finish(
+    builder: &[u64],
+    target: usize,
+    index: &mut [u64],
+    starts: &mut [u64],
+    lengths: &mut [u64],
+    scratch: &mut [u64],
+    arena: &[u8],
+    set: &mut [u64],
+) -> u64
+    ensures { λ r. ⌜ finishWords r (now (index .exit)) (now (starts .exit)) (now (lengths .exit)) (now (scratch .exit)) (now (set .exit)) ≡ exportedFinish (now (builder .entry)) target (now (index .entry)) (now (starts .entry)) (now (lengths .entry)) (now (scratch .entry)) (now (arena .entry)) (now (set .entry)) ⌝ }
+{
+    if set.len() != SET_WORDS {
+        return MALFORMED;
+    }
+    let LoadedBuilder::Is(state) = load_builder(builder) else {
+        return MALFORMED;
+    };
+    let answer = state.finish(target, index, starts, lengths, scratch, arena);
+    tell_finish(answer, set)
+}
+
+fn tell_finish(answer: FinishAnswer, set: &mut [u64]) -> u64
+    requires { ⌜ length (now set) ≡ 15 ⌝ }
+    ensures { λ r. ⌜ told r (now (set .exit)) ≡ setTold (finishReply answer) (now (set .entry)) ⌝ }
+{
+    match answer {
+        FinishAnswer::Finished(state) => {
+            store_set(set, state);
+            0
+        }
+        FinishAnswer::Refused {
+            refusal,
+            builder: _,
+        } => refusal.number() as u64,
+    }
+}
+
+// How many bytes a record of these lengths takes.
+#[no_mangle]
+pub extern "C" fn segment_cache_encoded_record_bytes(
+    setting: &[u64],
+    key_bytes: usize,
+    value_bytes: usize,
+    size: &mut [u64],
+) -> u64
+    ensures { λ r. ⌜ told r (now (size .exit)) ≡ exportedSize (now (setting .entry)) «key_bytes» «value_bytes» (now (size .entry)) ⌝ }
+{
+    if size.len() != 1 {
+        return MALFORMED;
+    }
+    let LoadedSetting::Is(config) = load_setting(setting) else {
+        return MALFORMED;
+    };
+    let answer = SegmentCacheBuilder::encoded_record_bytes(config, key_bytes, value_bytes);
+    tell_size(answer, size)
+}
+
+fn tell_size(answer: SizeAnswer, size: &mut [u64]) -> u64
+    requires { ⌜ length (now size) ≡ 1 ⌝ }
+    ensures { λ r. ⌜ told r (now (size .exit)) ≡ sizeTold (sizeOutcome answer) (now (size .entry)) ⌝ }
+{
+    match answer {
+        SizeAnswer::Bytes(bytes) => {
+            copy_words(size, &[bytes as u64]);
+            0
+        }
+        SizeAnswer::Refused(refusal) => refusal.number() as u64,
+    }
+}

@@ -1,0 +1,7 @@
+// The calls on sets as C functions on numbers and slices. A state is a number of lent words; the
+// result is the refusal's number, 0 for accepted. What a call hands back goes to lent words, which
+// a refusal leaves as they were.
+mod build_calls;
+mod lookup_calls;
+mod stats_calls;
+mod words;

@@ -1,0 +1,301 @@
+// Settings, states, lifetimes and statistics as lent words. Words of a wrong number, or that no
+// setting has, give nothing.
+use hash_parts::duration::Duration;
+use hash_parts::duration::Lifetime;
+use hash_parts::setting::SegmentCacheConfig;
+use hash_parts::setting::SegmentExpiry;
+use sets::builder::SegmentCacheBuilder;
+use sets::cache::FrozenSegmentCache;
+use sets::stats::SegmentCacheStats;
+ghost use mathlib.Core.Path.{_≡_};
+ghost use Prim.Native.Nat.{_≤_, min, _-_, _^_};
+ghost use lib.ListN.{length};
+ghost use Rattle.capi.specs.Words.{builderIn, builderWords, expiryFlag, expiryOf, flagOf, lifetimeIn, setIn, setWords, settingAlone, settingIn, statsIn, tickNanos, tickSecs};
+
+pub(crate) const BUILDER_WORDS: usize = 13;
+
+pub(crate) const SET_WORDS: usize = 15;
+
+pub(crate) const STATS_WORDS: usize = 8;
+
+// What a call answers to words of another number or form: the number of an invalid state.
+pub(crate) const MALFORMED: u64 = 11;
+
+const SETTING_WORDS: usize = 6;
+
+const MAX_NANOS: u64 = 0xffff_ffff;
+
+pub(crate) enum LoadedSetting {
+    Is(SegmentCacheConfig),
+    Malformed,
+}
+
+pub(crate) enum LoadedBuilder {
+    Is(SegmentCacheBuilder),
+    Malformed,
+}
+
+pub(crate) enum LoadedSet {
+    Is(FrozenSegmentCache),
+    Malformed,
+}
+
+pub(crate) enum LoadedLifetime {
+    Is(Lifetime),
+    Malformed,
+}
+
+pub(crate) enum LoadedStats {
+    Is(SegmentCacheStats),
+    Malformed,
+}
+
+// The setting in the first six words.
+fn front_setting(words: &[u64]) -> LoadedSetting
+    requires { ⌜ 6 ≤ length (now words) ⌝ }
+    ensures { λ r. ⌜ r ≡ settingIn (now (words .entry)) ⌝ }
+{
+    let flag = words[0];
+    let nanos = words[2];
+    let occupied = words[3];
+    let packed = words[4];
+    let bits = words[5];
+    if flag > 1 {
+        return LoadedSetting::Malformed;
+    }
+    if nanos > MAX_NANOS {
+        return LoadedSetting::Malformed;
+    }
+    if occupied > 255 {
+        return LoadedSetting::Malformed;
+    }
+    if packed > 1 {
+        return LoadedSetting::Malformed;
+    }
+    if bits > 255 {
+        return LoadedSetting::Malformed;
+    }
+    let expiry = expiry_of(flag, words[1], nanos as u32);
+    LoadedSetting::Is(SegmentCacheConfig {
+        expiry,
+        target_occupied_slots: occupied as u8,
+        packed_bucket_index: packed == 1,
+        negative_filter_bits_per_entry: bits as u8,
+    })
+}
+
+fn expiry_of(flag: u64, secs: u64, nanos: u32) -> SegmentExpiry
+    ensures { λ r. ⌜ r ≡ expiryOf flag secs nanos ⌝ }
+{
+    if flag == 1 {
+        let tick = Duration { secs, nanos };
+        return SegmentExpiry::Relative16 { tick };
+    }
+    SegmentExpiry::None
+}
+
+// A setting that is lent by itself.
+pub(crate) fn load_setting(words: &[u64]) -> LoadedSetting
+    ensures { λ r. ⌜ r ≡ settingAlone (now (words .entry)) ⌝ }
+{
+    if words.len() != SETTING_WORDS {
+        return LoadedSetting::Malformed;
+    }
+    front_setting(words)
+}
+
+pub(crate) fn load_builder(words: &[u64]) -> LoadedBuilder
+    ensures { λ r. ⌜ r ≡ builderIn (now (words .entry)) ⌝ }
+{
+    if words.len() != BUILDER_WORDS {
+        return LoadedBuilder::Malformed;
+    }
+    let LoadedSetting::Is(config) = front_setting(words) else {
+        return LoadedBuilder::Malformed;
+    };
+    LoadedBuilder::Is(SegmentCacheBuilder {
+        config,
+        expected_entries: words[6] as usize,
+        inserted_entries: words[7] as usize,
+        bucket_count: words[8] as usize,
+        filter_words: words[9] as usize,
+        filled: words[10] as usize,
+        logical_key_bytes: words[11] as usize,
+        logical_value_bytes: words[12] as usize,
+    })
+}
+
+pub(crate) fn load_set(words: &[u64]) -> LoadedSet
+    ensures { λ r. ⌜ r ≡ setIn (now (words .entry)) ⌝ }
+{
+    if words.len() != SET_WORDS {
+        return LoadedSet::Malformed;
+    }
+    let LoadedSetting::Is(config) = front_setting(words) else {
+        return LoadedSet::Malformed;
+    };
+    LoadedSet::Is(FrozenSegmentCache {
+        config,
+        entries: words[6] as usize,
+        buckets: words[7] as usize,
+        filter_words: words[8] as usize,
+        segments: words[9] as usize,
+        filled: words[10] as usize,
+        record_bytes: words[11] as usize,
+        logical_key_bytes: words[12] as usize,
+        logical_value_bytes: words[13] as usize,
+        record_header_bytes: words[14] as usize,
+    })
+}
+
+// No words for never. Nanoseconds beyond 32 bits stay too many for a second.
+pub(crate) fn load_lifetime(words: &[u64]) -> LoadedLifetime
+    ensures { λ r. ⌜ r ≡ lifetimeIn (now (words .entry)) ⌝ }
+{
+    if words.len() == 0 {
+        return LoadedLifetime::Is(Lifetime::Never);
+    }
+    if words.len() != 2 {
+        return LoadedLifetime::Malformed;
+    }
+    let secs = words[0];
+    let nanos = capped_nanos(words[1]);
+    LoadedLifetime::Is(Lifetime::For(Duration { secs, nanos }))
+}
+
+fn capped_nanos(nanos: u64) -> u32
+    ensures { λ r. ⌜ r ≡ min nanos (2 ^ 32 - 1) ⌝ }
+{
+    if nanos > MAX_NANOS {
+        return 0xffff_ffff;
+    }
+    nanos as u32
+}
+
+pub(crate) fn load_stats(words: &[u64]) -> LoadedStats
+    ensures { λ r. ⌜ r ≡ statsIn (now (words .entry)) ⌝ }
+{
+    if words.len() != STATS_WORDS {
+        return LoadedStats::Malformed;
+    }
+    LoadedStats::Is(SegmentCacheStats {
+        entries: words[0] as usize,
+        buckets: words[1] as usize,
+        index_slots: words[2] as usize,
+        index_bytes: words[3] as usize,
+        record_bytes: words[4] as usize,
+        logical_key_bytes: words[5] as usize,
+        logical_value_bytes: words[6] as usize,
+        record_header_bytes: words[7] as usize,
+    })
+}
+
+// Writes words over lent ones of the same number.
+pub(crate) fn copy_words(out: &mut [u64], words: &[u64])
+    requires { ⌜ length (now words) ≡ length (now out) ⌝ }
+    ensures { λ r. ⌜ now (out .exit) ≡ now (words .entry) ⌝ }
+{
+    let mut i = 0;
+    while i < words.len() {
+        out[i] = words[i];
+        i += 1;
+    }
+}
+
+pub(crate) fn flag_of(on: bool) -> u64
+    ensures { λ r. ⌜ r ≡ flagOf on ⌝ }
+{
+    if on {
+        return 1;
+    }
+    0
+}
+
+fn expiry_flag(expiry: SegmentExpiry) -> u64
+    ensures { λ r. ⌜ r ≡ expiryFlag expiry ⌝ }
+{
+    match expiry {
+        SegmentExpiry::None => 0,
+        SegmentExpiry::Relative16 { tick: _ } => 1,
+    }
+}
+
+fn tick_secs(expiry: SegmentExpiry) -> u64
+    ensures { λ r. ⌜ r ≡ tickSecs expiry ⌝ }
+{
+    match expiry {
+        SegmentExpiry::None => 0,
+        SegmentExpiry::Relative16 { tick } => tick.secs,
+    }
+}
+
+fn tick_nanos(expiry: SegmentExpiry) -> u64
+    ensures { λ r. ⌜ r ≡ tickNanos expiry ⌝ }
+{
+    match expiry {
+        SegmentExpiry::None => 0,
+        SegmentExpiry::Relative16 { tick } => tick.nanos as u64,
+    }
+}
+
+pub(crate) fn store_builder(out: &mut [u64], builder: SegmentCacheBuilder)
+    requires { ⌜ length (now out) ≡ 13 ⌝ }
+    ensures { λ r. ⌜ now (out .exit) ≡ builderWords builder ⌝ }
+{
+    let config = builder.config;
+    let expiry = config.expiry;
+    let flag = expiry_flag(expiry);
+    let secs = tick_secs(expiry);
+    let nanos = tick_nanos(expiry);
+    let packed = flag_of(config.packed_bucket_index);
+    copy_words(
+        out,
+        &[
+            flag,
+            secs,
+            nanos,
+            config.target_occupied_slots as u64,
+            packed,
+            config.negative_filter_bits_per_entry as u64,
+            builder.expected_entries as u64,
+            builder.inserted_entries as u64,
+            builder.bucket_count as u64,
+            builder.filter_words as u64,
+            builder.filled as u64,
+            builder.logical_key_bytes as u64,
+            builder.logical_value_bytes as u64,
+        ],
+    );
+}
+
+pub(crate) fn store_set(out: &mut [u64], set: FrozenSegmentCache)
+    requires { ⌜ length (now out) ≡ 15 ⌝ }
+    ensures { λ r. ⌜ now (out .exit) ≡ setWords set ⌝ }
+{
+    let config = set.config;
+    let expiry = config.expiry;
+    let flag = expiry_flag(expiry);
+    let secs = tick_secs(expiry);
+    let nanos = tick_nanos(expiry);
+    let packed = flag_of(config.packed_bucket_index);
+    copy_words(
+        out,
+        &[
+            flag,
+            secs,
+            nanos,
+            config.target_occupied_slots as u64,
+            packed,
+            config.negative_filter_bits_per_entry as u64,
+            set.entries as u64,
+            set.buckets as u64,
+            set.filter_words as u64,
+            set.segments as u64,
+            set.filled as u64,
+            set.record_bytes as u64,
+            set.logical_key_bytes as u64,
+            set.logical_value_bytes as u64,
+            set.record_header_bytes as u64,
+        ],
+    );
+}
