@@ -15,7 +15,8 @@ use Rattle.sets.specs.Build.{setOf}
 use Rattle.sets.specs.Lookup.{viewOf}
 use Rattle.sets.specs.Questions.{scratchHolds}
 use Rattle.sets.specs.declared.builder.SegmentCacheBuilder.{SegmentCacheBuilder}
-use Rattle.sets.proofs.Accepted.{FinishAsked, startsMade, finishMade}
+use Rattle.sets.proofs.Accepted.{startsMade, finishMade}
+use Rattle.sets.proofs.Asked.{FinishAsked}
 use Rattle.sets.proofs.Closure.{setPasses}
 use Rattle.book.specs.Book.{Entry, Book, startsOf}
 use Rattle.book.specs.World.{Areas}
@@ -34,7 +35,7 @@ every-both f (every-cons x r) (every-cons y s) = every-cons (f _ x y) (every-bot
 
 module _ (H : List ℕ → ℕ) where
   pub builder-finish : (b : SegmentCacheBuilder) (a : Areas) (arena scratch : List ℕ) (target : ℕ) (k : Book) → BuilderHolds H b a (length arena) k
-      → FinishAsked b target (a .index) (a .starts) (a .lengths) scratch arena → length (startsMade b target (a .index) (a .starts) (a .lengths) scratch arena) ≤ 256
+      → FinishAsked b target (a .index) (length (a .starts)) (length (a .lengths)) (length scratch) (length arena) → length (startsMade b target (a .index) (a .starts) (a .lengths) scratch arena) ≤ 256
       → take (length (k .tape)) arena ≡ k .tape
       → setPasses (setOf b (length (startsMade b target (a .index) (a .starts) (a .lengths) scratch arena)))
       (length (finishMade b target (a .index) (a .starts) (a .lengths) scratch arena .index)) (length (a .filter))

@@ -29,14 +29,15 @@ use Rattle.index.proofs.Filters.{marked-length}
 use Rattle.index.proofs.PackedReads.{packed-length}
 use Rattle.index.proofs.Starts.{starts-first}
 use Rattle.sets.specs.Answers.{accept, Placed}
-use Rattle.sets.specs.Build.{areasHoldBuilder, builderOpened, builderGrown, deadlineFor, Opened, afterOpen, Pushed, afterPush, setOf, Finished, afterFinish}
+use Rattle.sets.specs.Build.{areasHoldBuilder, builderOpened, builderGrown, deadlineFor, Opened, afterOpen, Pushed, afterPush, setOf, slotFor, slotIn, Finished, afterFinish}
 use Rattle.sets.specs.Lookup.{setFits, areasHoldSet, findOf, lookupOf, lookupIn, slotMarked, slotCleared, liveMarked, gotten, afterGet, takenOf, afterTake}
 use Rattle.sets.specs.Questions.{all, arenaHolds, segmentAreasHold}
 use Rattle.sets.specs.declared.builder.SegmentCacheBuilder.{SegmentCacheBuilder}
 use Rattle.sets.specs.declared.cache.FrozenSegmentCache.{FrozenSegmentCache}
 use Rattle.sets.specs.declared.cache.Lookup.{Lookup}
 use Rattle.sets.specs.declared.cache.Lookup.the-variants.{Found, Nothing, Refused}
-use Rattle.sets.proofs.Accepted.{and-yes, BuilderFits, builder-areas-pass, OpenCase, open-made, open-refused, open-case, PushCase, push-made, push-refused, push-case, FinishCase, finish-made, finish-many, finish-refused, finish-case, startsMade}
+use Rattle.sets.proofs.Accepted.{OpenCase, open-made, open-refused, open-case, PushCase, push-made, push-refused, push-case, FinishCase, finish-made, finish-many, finish-refused, finish-case, startsMade}
+use Rattle.sets.proofs.Counts.{both, BuilderFits, builder-areas-pass, set-index}
 
 -- ---- question 1 with every area, by their lengths: index, filter, starts, lengths, arena
 
@@ -169,10 +170,10 @@ module _ (b : SegmentCacheBuilder) (h : ℕ) (key value : List ℕ) (ttl : Lifet
       go : {p : Pushed} → PushCase b h key value ttl index filter arena p
           → (length (p .index) ≡ length index) × (length (p .filter) ≡ length filter) × (length (p .arena) ≡ length arena)
       go (push-refused n) = (refl, refl, refl)
-      go (push-made slot a) = (
-        length-set index slot _,
-        displaced-length filter (b .«filter_words») h slot (b .«bucket_count»),
-        pasted-length (b .filled) bytes arena (rw (size-is (b .config .expiry) key value (deadlineFor (b .config) ttl .value)) (a .fits)),
+      go (push-made a fits) = (
+        length-set index _ _,
+        displaced-length filter (b .«filter_words») h _ (b .«bucket_count»),
+        pasted-length (b .filled) bytes arena (rw (size-is (b .config .expiry) key value (deadlineFor (b .config) ttl .value)) fits),
       )
 
   -- what an accepted push leaves passes question 1; starts and lengths are not lent to it
@@ -184,18 +185,18 @@ module _ (b : SegmentCacheBuilder) (h : ℕ) (key value : List ℕ) (ttl : Lifet
       go : {r : Pushed} → PushCase b h key value ttl index filter arena r → r .answer ≡ accept p
           → all (areasHoldBuilder (p .builder) (length index) (length arena) ∷ leb (p .builder .«filter_words») (length filter) ∷ segmentAreasHold starts lengths ∷ []) ≡ true
       go (push-refused n) e = cc
-      go (push-made slot a) e =
+      go (push-made a fits) e =
           let size : ℕ = recordSize (b .config .expiry) (length key) (length value) in
           let grown : SegmentCacheBuilder = builderGrown b size (length key) (length value) in
-          let made : record { builder = grown; slot = slot; location = b .filled } ≡ p = cc in
+          let made : record { builder = grown; slot = slotIn (slotFor b h key index arena); location = b .filled } ≡ p = cc in
           let same : grown ≡ p .builder = ap (λ (q : Placed). q .builder) made in
           rw (← same)
           (rw (
             builder-areas-pass grown (length index) (length arena)
                 record {
-                  numbers = grown-fits b (b .config .expiry) (length key) (length value) (length arena) (a .areas .numbers) (a .announced) (a .fits) (a .areas .arena-short);
+                  numbers = grown-fits b (b .config .expiry) (length key) (length value) (length arena) (a .areas .numbers) (a .announced) fits (a .areas .arena-short);
                   index-holds = a .areas .index-holds;
-                  filled-held = a .fits;
+                  filled-held = fits;
                   arena-short = a .areas .arena-short;
                 },
             le-leb _ _ (a .filter-holds),
@@ -276,25 +277,20 @@ module _ (s : FrozenSegmentCache) (h : ℕ) (key index filter starts lengths are
 
 -- ---- what question 1 tells
 
-pub builder-lengths : (b : SegmentCacheBuilder) (index filter starts lengths arena : ℕ) → builderPasses b index filter starts lengths arena ≡ true → segmentAreasHold starts lengths ≡ true
-unfolding builderPasses
-builder-lengths b index filter starts lengths arena e =
-    let a₁ = and-yes (areasHoldBuilder b index arena) _ e in
-    and-yes (leb (b .«filter_words») filter) _ (a₁ .1) .1
+module _ (b : SegmentCacheBuilder) (index filter starts lengths arena : ℕ) (e : builderPasses b index filter starts lengths arena ≡ true) where
+  past-areas : (leb (b .«filter_words») filter ≡ true) × (segmentAreasHold starts lengths ≡ true)
+  unfolding builderPasses
+  past-areas = both (leb (b .«filter_words») filter) _ (both (areasHoldBuilder b index arena) _ e .1)
+
+  pub builder-lengths : segmentAreasHold starts lengths ≡ true
+  builder-lengths = past-areas .1
+
+  pub builder-filter-holds : b .«filter_words» ≤ filter
+  builder-filter-holds = leb-true _ _ (past-areas .0)
 
 pub set-index-holds : (s : FrozenSegmentCache) (index filter starts lengths arena : ℕ) → setPasses s index filter starts lengths arena ≡ true → 8 * s .buckets ≤ index
-unfolding setPasses areasHoldSet
-set-index-holds s index filter starts lengths arena e =
-    let a₁ = and-yes (areasHoldSet s index starts lengths arena) _ e in
-    let a₂ = and-yes (setFits s) _ (a₁ .0) in
-    let a₃ = and-yes (leb (8 * s .buckets) index) _ (a₂ .1) in
-    leb-true _ _ (a₃ .0)
-
-pub builder-filter-holds : (b : SegmentCacheBuilder) (index filter starts lengths arena : ℕ) → builderPasses b index filter starts lengths arena ≡ true → b .«filter_words» ≤ filter
-unfolding builderPasses
-builder-filter-holds b index filter starts lengths arena e =
-    let a₁ = and-yes (areasHoldBuilder b index arena) _ e in
-    leb-true _ _ (and-yes (leb (b .«filter_words») filter) _ (a₁ .1) .0)
+unfolding setPasses
+set-index-holds s index filter starts lengths arena e = set-index s index starts lengths arena (both (areasHoldSet s index starts lengths arena) _ e .0)
 
 -- a lookup and a mark clearing go on to the find
 module _ (s : FrozenSegmentCache) (h : ℕ) (key index filter starts lengths arena : List ℕ)

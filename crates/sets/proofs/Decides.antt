@@ -1,14 +1,24 @@
 -- Where a call is refused, and where not. Assumes nothing.
-use mathlib.Core.Path.{_≡_, refl}
+use mathlib.Core.Path.{_≡_, refl, ap}
+use mathlib.Core.List.{List}
 use Prim.Native.Nat.{ℕ, zero, suc}
 use native.Mathlib.Omega.{arith}
 use lib.Dec.{eqb}
 use borrow.Author.Tests.{ne-eqb}
 use Rattle.hash_parts.specs.Choice.{pick}
 use Rattle.hash_parts.specs.Error.{errorNumber}
+use Rattle.hash_parts.specs.declared.duration.Lifetime.{Lifetime}
 use Rattle.hash_parts.specs.declared.error.SegmentCacheBuildError.{SegmentCacheBuildError}
 use Rattle.hash_parts.proofs.Refusals.{refusal-pos}
-use Rattle.sets.specs.Questions.{decided}
+use Rattle.sets.specs.Answers.{Reply, accept, refuse}
+use Rattle.sets.specs.Build.{askPush, deadlineFor, planPush, slotFor, slotIn}
+use Rattle.sets.specs.Questions.{decided, firstNo}
+use Rattle.sets.specs.declared.builder.SegmentCacheBuilder.{SegmentCacheBuilder}
+
+-- a question that is answered no just where its number is not 0
+pub own-number : (n : ℕ) → pick (eqb n 0) 0 n ≡ n
+own-number zero = refl
+own-number (suc n) = rw (ne-eqb (suc n) 0 (λ (z : suc n ≡ 0). omega arith))
 
 module _ {A : Type 0} where
   -- a number that is not 0 refuses
@@ -19,7 +29,28 @@ module _ {A : Type 0} where
   pub decided-refused : (e : SegmentCacheBuildError) (x : A) (f : ℕ → A) → decided (errorNumber e) x f ≡ f (errorNumber e)
   decided-refused e x f = decided-pos (errorNumber e) x f (λ (z : errorNumber e ≡ 0). omega (arith, refusal-pos e))
 
-  -- a question that is answered no just where its number is not 0
   pub decided-own : (n : ℕ) (x : A) (f : ℕ → A) → decided (pick (eqb n 0) 0 n) x f ≡ decided n x f
-  decided-own zero x f = refl
-  decided-own (suc n) x f = rw (ne-eqb (suc n) 0 (λ (z : suc n ≡ 0). omega arith))
+  decided-own n x f = ap (λ (m : ℕ). decided m x f) (own-number n)
+
+-- ---- a plan
+
+module _ {A : Type 0} where
+  planned-yes : (n : ℕ) (x y : A) → _≡_ {A = Reply A (Unit {0})} (decided n (accept x) (λ m. refuse m tt)) (accept y) → (n ≡ 0) × (x ≡ y)
+  planned-yes zero x y e = (refl, cc)
+  planned-yes (suc n) x y e = absurd (let z : _≡_ {A = ℕ} 0 1 = cc in omega arith)
+
+  planned-no : (n m : ℕ) (x : A) → _≡_ {A = Reply A (Unit {0})} (decided n (accept x) (λ k. refuse k tt)) (refuse m tt) → n ≡ m
+  planned-no zero m x e = absurd (let z : _≡_ {A = ℕ} 0 1 = cc in omega arith)
+  planned-no (suc n) m x e = cc
+
+module _ (b : SegmentCacheBuilder) (h : ℕ) (key : List ℕ) (ttl : Lifetime) (index : List ℕ) (filter : ℕ) (arena : List ℕ) where
+  pub plan-placed : (s d : ℕ) → planPush b h key ttl index filter arena ≡ accept (s, d)
+      → (firstNo (askPush b h key ttl index filter arena) ≡ 0) × (slotIn (slotFor b h key index arena) ≡ s) × (deadlineFor (b .config) ttl .value ≡ d)
+  unfolding planPush
+  plan-placed s d e =
+      let p = planned-yes (firstNo (askPush b h key ttl index filter arena)) _ (s, d) e in
+      (p .0, ap (λ (x : ℕ × ℕ). x .0) (p .1), ap (λ (x : ℕ × ℕ). x .1) (p .1))
+
+  pub plan-refused : (n : ℕ) → planPush b h key ttl index filter arena ≡ refuse n tt → firstNo (askPush b h key ttl index filter arena) ≡ n
+  unfolding planPush
+  plan-refused n e = planned-no (firstNo (askPush b h key ttl index filter arena)) n _ e

@@ -1,14 +1,13 @@
 -- The find of a finished set, and what the calls make of it. Assumes nothing.
-use mathlib.Core.Path.{_≡_, refl, sym, ap, _∙_}
+use mathlib.Core.Path.{_≡_, refl, ap}
 use mathlib.Core.Bool.{Bool, true, false}
 use mathlib.Core.List.{List, [], _∷_}
 use mathlib.Core.Option.{Option}
-use Prim.Native.Nat.{ℕ, _+_, _-_, _*_, _/_, _^_, _≤_, _<_, max}
+use Prim.Native.Nat.{ℕ, _+_, _-_, _*_, _^_, _≤_, _<_}
 use native.Mathlib.Nat.{div-le-self, mul-le-mul-left}
 use native.Mathlib.Omega.{arith}
 use lib.Dec.{leb}
 use lib.ListN.{length}
-use borrow.Author.Tests.{leb-true}
 use Rattle.hash_parts.specs.Choice.{pick}
 use Rattle.hash_parts.specs.declared.error.SegmentCacheBuildError.the-variants.{InvalidState}
 use Rattle.hash_parts.specs.declared.setting.SegmentCacheConfig.{SegmentCacheConfig}
@@ -19,26 +18,13 @@ use Rattle.index.specs.declared.find.FindAnswer.the-variants as find
 use Rattle.index.specs.declared.find.FoundRecord.{FoundRecord}
 use Rattle.index.proofs.FoundSlots.{find-slot}
 use Rattle.sets.specs.Answers.{Reply}
-use Rattle.sets.specs.Lookup.{Got, Taken, areasHoldSet, findOf, lookupIn, lookupOf, setFits, viewOf}
+use Rattle.sets.specs.Lookup.{Got, Taken, areasHoldSet, findOf, lookupIn, lookupOf, viewOf}
 use Rattle.sets.specs.Questions.{all, countsFit}
 use Rattle.sets.specs.Stats.{statsOf}
 use Rattle.sets.specs.declared.cache.FrozenSegmentCache.{FrozenSegmentCache}
-use Rattle.sets.specs.declared.cache.Lookup.{Lookup}
 use Rattle.sets.specs.declared.cache.Lookup.the-variants.{Found, Nothing, Refused}
 use Rattle.sets.specs.declared.stats.SegmentCacheStats.{SegmentCacheStats}
-use Rattle.sets.proofs.Counts.{both, counts-buckets, counts-records, counts-setting, counts-words, setting-occupied}
-
--- ---- question 1
-
-pub set-index : (s : FrozenSegmentCache) (index starts lengths arena : ℕ) → areasHoldSet s index starts lengths arena ≡ true → 8 * s .buckets ≤ index
-unfolding areasHoldSet
-set-index s index starts lengths arena e =
-    let t = both (setFits s) _ e in
-    leb-true _ _ (both (leb (8 * s .buckets) index) _ (t .1) .0)
-
-pub set-counts : (s : FrozenSegmentCache) → setFits s ≡ true → countsFit (s .config) (s .entries) (s .buckets) (s .«filter_words») ≡ true
-unfolding setFits
-set-counts s e = both (countsFit (s .config) (s .entries) (s .buckets) (s .«filter_words»)) _ e .0
+use Rattle.sets.proofs.Counts.{counts-buckets, counts-records, counts-setting, counts-words, set-index, setting-occupied}
 
 -- buckets and filter words are few
 module _ (c : SegmentCacheConfig) (records buckets words : ℕ) (fits : countsFit c records buckets words ≡ true) where

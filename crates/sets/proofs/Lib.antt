@@ -1,10 +1,10 @@
 pub mod Accepted
 pub mod Appends
+pub mod Asked
 pub mod Closure
 pub mod Counts
 pub mod Decides
 pub mod EmptySlots
 pub mod Finding
-pub mod Plans
 pub mod Splitting
 pub mod WalkSteps

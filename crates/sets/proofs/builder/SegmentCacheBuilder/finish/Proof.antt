@@ -7,8 +7,7 @@ use Rattle.index.specs.declared.segments.SplitAnswer.{SplitAnswer}
 use Rattle.sets.specs.Build.{afterFinish}
 use Rattle.sets.specs.Questions.{checkNumber}
 use Rattle.sets.proofs.Decides.{decided-refused}
-use Rattle.sets.proofs.Counts.{builder-numbers, builder-sound}
-use Rattle.sets.proofs.Plans.{finish-asked}
+use Rattle.sets.proofs.Asked.{finish-asked}
 use Rattle.sets.proofs.Splitting.{split-made, split-refused}
 use borrow.Author.Needs.{needs}
 use Rattle.sets.proofs.builder.SegmentCacheBuilder.finish.Statement.{statement}
@@ -60,8 +59,7 @@ pack-index-requires c κs = search needs
 into-cache-requires : tie.Need-into-cache-requires
 into-cache-requires c κs =
     let a = c .before .before .before .before .before .before .before .before .before .before .before .before .before .before .before .before .before .before .before .before .before .before .before .before .before .before .before .before .before .args in
-    let q = finish-asked (a .self) (a .target) (a .index .now) (length (a .starts .now)) (length (a .lengths .now)) (length (a .scratch .now)) (length (a .arena .now)) (sym (c .before .before .before .before .before .before .before .before .before .before .before .before .before .before .before .before .before .before .before .before .before .before .check-finish .ensures) ∙ ap checkNumber (c .before .before .before .before .before .before .before .before .before .before .before .before .before .before .before .before .before .before .before .before .enum-told .given .1)) in
-    builder-numbers (a .self) (builder-sound (a .self) (length (a .index .now)) (length (a .arena .now)) (q .holds)) .both-filled
+    finish-asked (a .self) (a .target) (a .index .now) (length (a .starts .now)) (length (a .lengths .now)) (length (a .scratch .now)) (length (a .arena .now)) (sym (c .before .before .before .before .before .before .before .before .before .before .before .before .before .before .before .before .before .before .before .before .before .before .check-finish .ensures) ∙ ap checkNumber (c .before .before .before .before .before .before .before .before .before .before .before .before .before .before .before .before .before .before .before .before .enum-told .given .1)) .areas .numbers .inside
 
 -- src/builder.rt:154:5
 same-length-2 : tie.Need-same-length-2

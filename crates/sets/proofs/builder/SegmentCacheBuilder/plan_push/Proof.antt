@@ -6,7 +6,7 @@ use mathlib.Core.Path.{_≡_, refl, sym, ap, _∙_}
 use borrow.Author.Tests.{lt-ltb, le-ltb, le-leb, lt-leb, eq-eqb, ne-eqb, not-true, not-false}
 use Rattle.sets.specs.Build.{planPush, askPush, planDeadline}
 use Rattle.sets.proofs.Decides.{decided-own}
-use Rattle.sets.proofs.Counts.{builder-arena}
+use Rattle.sets.proofs.Counts.{builder-areas-asked}
 use borrow.Author.Needs.{needs}
 use Rattle.sets.proofs.builder.SegmentCacheBuilder.plan_push.Statement.{statement}
 use Rattle.sets.proofs.builder.SegmentCacheBuilder.plan_push.Tie as tie
@@ -50,7 +50,7 @@ slice-aggregate-find-build-slot : tie.Need-slice-aggregate-find-build-slot
 slice-aggregate-find-build-slot c =
     let a = c .before .before .before .before .before .before .before .before .before .before .before .before .before .args in
     let holds = sym (c .before .before .before .before .before .before .before .before .before .areas-hold .ensures) ∙ not-false (c .before .before .before .before .before .before .before .before .before .areas-hold .result) (c .before .before .before .before .before .before .before .before .if1 .left) in
-    sym (length-take-le (a .self .filled) (a .arena .now) (builder-arena (a .self) (length (a .index .now)) (length (a .arena .now)) holds .0))
+    sym (length-take-le (a .self .filled) (a .arena .now) (builder-areas-asked (a .self) (length (a .index .now)) (length (a .arena .now)) holds .filled-held))
 
 -- src/builder.rt:271:15
 find-build-slot-requires : tie.Need-find-build-slot-requires

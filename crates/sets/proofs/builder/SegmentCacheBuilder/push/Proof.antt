@@ -7,10 +7,10 @@ use lib.ListN.{length}
 use Rattle.hash_parts.specs.Error.{errorNumber}
 use Rattle.index.specs.declared.build.BuildSlot.the-variants.{Empty}
 use Rattle.sets.specs.Build.{afterPush, planned}
-use Rattle.sets.proofs.Decides.{decided-refused}
-use Rattle.sets.proofs.Counts.{builder-arena, builder-index, builder-numbers, builder-sound, counts-records}
+use Rattle.sets.proofs.Decides.{decided-refused, plan-placed, plan-refused}
+use Rattle.sets.proofs.Counts.{counts-records}
 use Rattle.sets.proofs.EmptySlots.{found-below}
-use Rattle.sets.proofs.Plans.{plan-placed, plan-refused, push-asked}
+use Rattle.sets.proofs.Asked.{push-asked}
 use borrow.Author.Needs.{needs}
 use Rattle.sets.proofs.builder.SegmentCacheBuilder.push.Statement.{statement}
 use Rattle.sets.proofs.builder.SegmentCacheBuilder.push.Tie as tie
@@ -39,12 +39,10 @@ push-at-requires c κs =
     let told = c .before .before .before .before .slot .given in
     let p = plan-placed (a .self) (a .hash) (a .key .now) (a .ttl) (a .index .now) (length (a .filter .now)) (a .arena .now) (told .0 .0) (told .0 .1 .0) (sym (plan .ensures) ∙ ap planned (told .1)) in
     let q = push-asked (a .self) (a .hash) (a .key .now) (a .ttl) (a .index .now) (length (a .filter .now)) (a .arena .now) (p .0) in
-    let n = builder-numbers (a .self) (builder-sound (a .self) (length (a .index .now)) (length (a .arena .now)) (q .holds)) in
-    let r = counts-records (a .self .config) (a .self .«expected_entries») (a .self .«bucket_count») (a .self .«filter_words») (n .counts) in
-    let x = builder-arena (a .self) (length (a .index .now)) (length (a .arena .now)) (q .holds) in
-    let i = builder-index (a .self) (length (a .index .now)) (length (a .arena .now)) (q .holds) in
-    let s = found-below _ (a .index .now) (a .self .«bucket_count») (a .hash) (told .0 .0) (c .before .before .before .before .before .before .before .before .before .before .before .before .before .before .fits .hash .fits) (q .slot ∙ ap Empty (p .1)) in
-    (x .0, x .1, omega (arith, i, s), q .room, omega (arith, n .keys, n .inserted, r), omega (arith, n .values, n .inserted, r))
+    let n = q .areas .numbers in
+    let r = counts-records _ _ _ _ (n .counts) in
+    let s = found-below _ (a .index .now) (a .self .«bucket_count») (a .hash) (told .0 .0) (c .before .before .before .before .before .before .before .before .before .before .before .before .before .before .fits .hash .fits) (q .place ∙ ap Empty (p .1)) in
+    (q .areas .filled-held, q .areas .arena-short, omega (arith, q .areas .index-holds, s), q .announced, omega (arith, n .key-bytes, n .announced, r), omega (arith, n .value-bytes, n .announced, r))
 
 -- src/builder.rt:129:5
 same-length : tie.Need-same-length

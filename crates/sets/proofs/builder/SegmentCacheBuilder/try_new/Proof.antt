@@ -1,5 +1,4 @@
 -- `try_new` meets its contract. Assumes nothing.
-use Rattle.sets.proofs.Plans.{open-asked, open-made}
 use mathlib.Core.Path.{_≡_, refl, sym, ap, _∙_}
 use borrow.Author.Tests.{lt-ltb, le-ltb, le-leb, lt-leb, eq-eqb, ne-eqb, not-true, not-false}
 use native.Mathlib.Omega.{arith}
@@ -8,7 +7,8 @@ use lib.ListN.{length}
 use Rattle.sets.specs.Build.{afterOpen, builderOpened}
 use Rattle.sets.specs.Questions.{bucketsIn, checkNumber}
 use Rattle.sets.proofs.Decides.{decided-refused}
-use Rattle.sets.proofs.Plans.{open-asked}
+use Rattle.sets.proofs.Asked.{open-asked, open-left}
+use Rattle.sets.proofs.Counts.{counts-records}
 use Rattle.sets.specs.declared.builder.SegmentCacheBuilder.{SegmentCacheBuilder}
 use borrow.Author.Needs.{needs}
 use Rattle.sets.proofs.builder.SegmentCacheBuilder.try_new.Statement.{statement}
@@ -40,7 +40,7 @@ opened-builder-requires : tie.Need-opened-builder-requires
 opened-builder-requires c κs =
     let a = c .before .before .before .before .before .before .before .before .args in
     let q = open-asked (a .config) (a .entry-count) (length (a .index .now)) (length (a .filter .now)) (length (a .starts .now)) (length (a .lengths .now)) (length (a .arena .now)) (sym (c .before .before .check-open .ensures) ∙ ap checkNumber (c .enum-told .given .1)) in
-    q .few
+    counts-records _ _ _ _ (q .counts)
 
 -- src/builder.rt:111:28
 mul-clear-words : tie.Need-mul-clear-words
@@ -48,7 +48,7 @@ mul-clear-words c =
     let a = c .before .before .before .before .before .before .before .before .before .before .before .args in
     let q = open-asked (a .config) (a .entry-count) (length (a .index .now)) (length (a .filter .now)) (length (a .starts .now)) (length (a .lengths .now)) (length (a .arena .now)) (sym (c .before .before .before .before .before .check-open .ensures) ∙ ap checkNumber (c .before .before .before .enum-told .given .1)) in
     let n : c .before .before .opened-builder .result .«bucket_count» ≡ bucketsIn (a .config) (a .entry-count) = ap (λ (b : SegmentCacheBuilder). b .«bucket_count») (c .before .before .opened-builder .ensures) in
-    omega (arith, n, q .indexed, c .before .before .before .before .before .before .before .before .before .before .before .good .1 .1 .0 .1)
+    omega (arith, n, q .index-holds, c .before .before .before .before .before .before .before .before .before .before .before .good .1 .1 .0 .1)
 
 -- src/builder.rt:111:9
 clear-words-requires : tie.Need-clear-words-requires
@@ -71,7 +71,7 @@ returns-2 : tie.Need-returns-2
 unfolding afterOpen
 returns-2 c =
     let a = c .before .before .before .before .before .before .before .before .before .before .before .before .before .before .before .before .before .before .args in
-    rw (sym (c .before .before .before .before .before .before .before .before .before .before .before .before .check-open .ensures) ∙ ap checkNumber (c .before .before .before .before .before .before .before .before .before .before .enum-told .given .1)) (open-made (a .config) (a .entry-count) (a .index .now) (a .filter .now) _ _ _ (c .before .before .before .before .before .before .before .before .before .opened-builder .ensures) (c .before .before .before .before .before .before .clear-words .ensures) (c .before .before .clear-words2 .ensures))
+    rw (sym (c .before .before .before .before .before .before .before .before .before .before .before .before .check-open .ensures) ∙ ap checkNumber (c .before .before .before .before .before .before .before .before .before .before .enum-told .given .1)) (open-left (a .config) (a .entry-count) (a .index .now) (a .filter .now) _ _ _ (c .before .before .before .before .before .before .before .before .before .opened-builder .ensures) (c .before .before .before .before .before .before .clear-words .ensures) (c .before .before .clear-words2 .ensures))
 
 pub try-new-spec : {M : Type 1} → statement M
 try-new-spec =

@@ -3,7 +3,7 @@ use mathlib.Core.Path.{_≡_, refl, sym, ap, _∙_}
 use borrow.Author.Tests.{lt-ltb, le-ltb, le-leb, lt-leb, eq-eqb, ne-eqb, not-true, not-false}
 use lib.ListN.{length}
 use Rattle.sets.specs.Lookup.{walkAnswer, nextEntry}
-use Rattle.sets.proofs.Finding.{set-index}
+use Rattle.sets.proofs.Counts.{set-index}
 use Rattle.index.specs.View.{recordIn}
 use Rattle.index.specs.declared.view.SegmentView.{SegmentView}
 use borrow.Author.Needs.{needs}

@@ -1,13 +1,13 @@
 -- `stats` meets its contract. Assumes nothing.
 use Rattle.sets.specs.declared.stats.SegmentCacheStats.{SegmentCacheStats}
 use Rattle.sets.specs.Answers.{accept}
-use Rattle.sets.proofs.Finding.{few-buckets, few-words, set-counts, stats-made}
 use mathlib.Core.Path.{_≡_, refl, sym, ap, _∙_}
 use borrow.Author.Tests.{lt-ltb, le-ltb, le-leb, lt-leb, eq-eqb, ne-eqb, not-true, not-false}
 use Rattle.sets.specs.Lookup.{statsAnswer}
 use native.Mathlib.Omega.{arith}
 use Prim.Native.Nat.{ℕ, _+_, _-_, _*_, _/_, _^_, _≤_, _<_}
-use Rattle.sets.proofs.Finding.{few-buckets, few-words, set-counts}
+use Rattle.sets.proofs.Counts.{set-counts}
+use Rattle.sets.proofs.Finding.{few-buckets, few-words, stats-made}
 use borrow.Author.Needs.{needs}
 use Rattle.sets.proofs.cache.FrozenSegmentCache.stats.Statement.{statement}
 use Rattle.sets.proofs.cache.FrozenSegmentCache.stats.Tie as tie
