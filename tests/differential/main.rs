@@ -2,11 +2,14 @@
 mod areas;
 mod build_walks;
 mod call_lists;
+mod call_orders;
 mod durations;
 mod filter;
 mod finds;
 mod forged;
+mod forged_calls;
 mod forged_finds;
+mod forged_states;
 mod hash;
 mod index_words;
 mod large;
@@ -27,6 +30,7 @@ mod set_rules;
 mod set_world;
 mod small;
 mod spreads;
+mod stages;
 mod varints;
 
 use report::{Group, Run};
@@ -79,6 +83,9 @@ fn main() -> ExitCode {
     run.group("calls, small target", small::calls::calls);
     run.group("model of calls, large target", large::calls::model_of_calls);
     run.group("model of calls, small target", small::calls::model_of_calls);
+    run.group("orders of questions, lists of calls", call_orders::orders);
+    run.group("forged states and areas", forged_states::states);
+    run.group("forged words, records and segments", forged_calls::calls);
     if run.end() {
         ExitCode::SUCCESS
     } else {
