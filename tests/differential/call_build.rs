@@ -43,7 +43,8 @@ pub fn built(
     setting: Setting,
     list: &[Entry],
 ) -> Option<Finished> {
-    let mut build = Build::open(group, by, about, setting, list)?;
+    let arena = total(list, setting.tick.is_some());
+    let mut build = Build::open(group, by, about, setting, list, arena)?;
     let early = rng.index(list.len() + 1);
     for (i, entry) in list.iter().enumerate() {
         if i == early {
@@ -59,19 +60,64 @@ pub fn built(
     build.finish(group)
 }
 
+// A build whose index and records are damaged half way: a walk passes over what it can't read.
+pub fn damaged(
+    group: &mut Group,
+    rng: &mut Rng,
+    by: By,
+    about: &str,
+    setting: Setting,
+    list: &[Entry],
+) {
+    // Records may go in twice, since the first may not be found again.
+    let arena = 2 * total(list, true);
+    let Some(mut build) = Build::open(group, by, about, setting, list, arena) else {
+        return;
+    };
+    for (i, entry) in list.iter().enumerate() {
+        if i == list.len() / 2 {
+            build = build.damage(rng);
+        }
+        build.push(group, entry.pushed());
+        if i > 0 && rng.one_in(2) {
+            build.push(group, list[rng.index(i)].pushed());
+        }
+    }
+}
+
 impl Build {
+    // Some bits turned over on both sides, and a word with no location.
+    fn damage(mut self, rng: &mut Rng) -> Build {
+        let mut index = self.builder.index().to_vec();
+        let mut records = self.builder.records().to_vec();
+        for _ in 0..rng.below(4) {
+            let place = rng.index(index.len());
+            index[place] ^= 1 << rng.below(64);
+            if !records.is_empty() {
+                let place = rng.index(records.len());
+                records[place] ^= 1 << rng.below(8);
+            }
+        }
+        let place = rng.index(index.len());
+        index[place] = rng.pick(&[index[place], 1 << 63, index[place] >> 40 << 40, 1]);
+        self.world.index[..index.len()].copy_from_slice(&index);
+        self.world.arena[..records.len()].copy_from_slice(&records);
+        self.builder = self.builder.damaged(&index, &records);
+        self
+    }
+
     fn open(
         group: &mut Group,
         by: By,
         about: &str,
         setting: Setting,
         list: &[Entry],
+        arena: usize,
     ) -> Option<Build> {
         let rust = Builder::open(setting, list.len());
         let filter = |builder: &Builder| builder.filter().map_or(0, <[u64]>::len);
         let counts = rust.as_ref().map(|rust| (rust.buckets(), filter(rust)));
         let (buckets, words) = counts.unwrap_or((1, 0));
-        let arena = total(list, setting.tick.is_some());
         let sizes = Sizes::for_counts(buckets, words, arena);
         let plain = World::new(&setting_words(setting), sizes);
         let mut world = plain.clone();

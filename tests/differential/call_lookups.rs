@@ -103,7 +103,7 @@ impl Finished {
             self.stored(group, rng, entry, list.len());
         }
         // A miss in a crowded set sees all records.
-        let step = if list.len() > 300 { 16 } else { 1 };
+        let step = if list.len() > 100 { 16 } else { 1 };
         for entry in list.iter().step_by(step) {
             let changed = crate::finds::changed(rng, &entry.key);
             let tick = rng.below(65_540);

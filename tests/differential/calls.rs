@@ -1,6 +1,6 @@
 // Sets of all sizes, settings and spreads through the public calls. This file is a module twice,
 // once for each build of the Rust.
-use super::call_build::built;
+use super::call_build::{built, damaged};
 use super::oracle::access::SEGMENT_TARGET;
 use super::oracle::access_index::Setting;
 use crate::call_lists::{Entry, entries};
@@ -60,9 +60,18 @@ pub fn calls(group: &mut Group, random: u64) {
     let rounds = if long { 4 } else { 1 };
     let mut spreads = SPREADS.iter().cycle();
     for count in FEW {
-        for &setting in settings.iter().cycle().take(rounds * settings.len()) {
-            let spread = spreads.next().unwrap_or(&SPREADS[0]);
-            one(group, &mut rng, port, spread, count, setting);
+        for (i, &setting) in (0..rounds * settings.len()).zip(settings.iter().cycle()) {
+            // Crowded sets take long: fewer of them where they are not small.
+            let crowded = long || count < 100 || i % 6 == 0;
+            let spread = spreads.find(|spread| crowded || !spread.crowded);
+            one(
+                group,
+                &mut rng,
+                port,
+                spread.unwrap_or(&SPREADS[0]),
+                count,
+                setting,
+            );
         }
     }
     // A step that has no factor with the parts of a setting reaches all their values.
@@ -94,6 +103,22 @@ pub fn calls(group: &mut Group, random: u64) {
     }
     for full in [1, 2, 254, 255, 256] {
         full_segments(group, &mut rng, full);
+    }
+    for setting in settings {
+        for count in [2, 9, 20] {
+            damaged_builds(group, &mut rng, setting, count);
+        }
+    }
+}
+
+// By the port, and by the model, which decides about forged builders elsewhere.
+fn damaged_builds(group: &mut Group, rng: &mut Rng, setting: Setting, count: usize) {
+    let buckets = count.div_ceil(setting.occupied.into());
+    let spread = &SPREADS[rng.index(SPREADS.len())];
+    let list = entries(rng, spread, count, buckets, setting.tick);
+    for (by, name) in [(port as By, "damaged"), (model, "model of a damaged build")] {
+        let about = format!("{name}, {}, {count} records, {setting:?}", spread.name);
+        damaged(group, rng, by, &about, setting, &list);
     }
 }
 
