@@ -1,4 +1,4 @@
-# Builds the oracle twice and the port's library; sourced at the top of the repository by a script
+# Builds the oracle twice and the port's libraries; sourced at the top of the repository by a script
 # that has set `build`, the folder for all that is built. Sets `linked`, rustc's arguments for both.
 here=tests/differential
 oracle=${ORACLE_SRC:-../shared/docs/src}/src/segment_cache.rs
