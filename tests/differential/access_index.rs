@@ -96,7 +96,7 @@ pub mod access_index {
         }
     }
 
-    pub struct Builder(SegmentCacheBuilder);
+    pub struct Builder(pub(super) SegmentCacheBuilder);
 
     impl Builder {
         pub fn open(setting: Setting, records: usize) -> Result<Builder, u64> {
@@ -136,8 +136,8 @@ pub mod access_index {
 
     // A finished set, and where each of its segments would begin in one arena.
     pub struct Set {
-        cache: FrozenSegmentCache,
-        starts: Vec<u64>,
+        pub(super) cache: FrozenSegmentCache,
+        pub(super) starts: Vec<u64>,
     }
 
     // What a finished set is made of. A filter without words is none.

@@ -1,4 +1,4 @@
-# Builds the oracle twice and the port's library; sourced at the top of the repository by a script
+# Builds the oracle twice and the port's libraries; sourced at the top of the repository by a script
 # that has set `build`, the folder for all that is built. Sets `linked`, rustc's arguments for both.
 here=tests/differential
 oracle=${ORACLE_SRC:-../shared/docs/src}/src/segment_cache.rs
@@ -29,7 +29,7 @@ compile() { # NAME ARGUMENTS..
 rm -rf "$build"
 mkdir -p "$build/oracle"
 cp "$here/oracle.rs" "$build/oracle/oracle.rs"
-cat "$oracle" "$here/access.rs" "$here/access_index.rs" >"$build/oracle/segment_cache.rs"
+cat "$oracle" "$here/access.rs" "$here/access_index.rs" "$here/access_sets.rs" >"$build/oracle/segment_cache.rs"
 
 # As a release build, and once more with the short segment target that it has in its own tests.
 release=(--crate-type rlib -C overflow-checks=off -C debug-assertions=off -A warnings)
@@ -38,10 +38,11 @@ compile oracle_small "${release[@]}" -A explicit_builtin_cfgs_in_flags --cfg tes
 
 if [ -z "${PORT_LIB:-}" ]; then
     step staticlib rt staticlib test_exports
+    step staticlib_capi rt staticlib capi
 fi
 
 linked=(
     --extern "oracle_large=$build/liboracle_large.rlib"
     --extern "oracle_small=$build/liboracle_small.rlib"
-    -L "native=${PORT_LIB:-target/staticlib}" -l static=test_exports
+    -L "native=${PORT_LIB:-target/staticlib}" -l static=test_exports -l static=capi
 )

@@ -1,11 +1,15 @@
 // Calls the port and the Rust that it was made from with the same inputs and compares the answers.
 mod areas;
 mod build_walks;
+mod call_lists;
+mod call_orders;
 mod durations;
 mod filter;
 mod finds;
 mod forged;
+mod forged_calls;
 mod forged_finds;
+mod forged_states;
 mod hash;
 mod index_words;
 mod large;
@@ -13,13 +17,20 @@ mod model;
 mod packed_index;
 mod port;
 mod port_index;
+mod port_lookups;
+mod port_sets;
 mod record_read;
 mod record_write;
 mod report;
 mod rng;
 mod segment_starts;
+mod set_model;
+mod set_model_lookups;
+mod set_rules;
+mod set_world;
 mod small;
 mod spreads;
+mod stages;
 mod varints;
 
 use report::{Group, Run};
@@ -37,11 +48,12 @@ fn main() -> ExitCode {
         Some("short") => RANDOM_CASES,
         Some("long") => 10 * RANDOM_CASES,
         _ => {
-            eprintln!("usage: driver short|long");
+            eprintln!("usage: driver short|long [part of a group's name]");
             return ExitCode::from(2);
         }
     };
-    let mut run = Run::new(random);
+    let only = std::env::args().nth(2).unwrap_or_default();
+    let mut run = Run::new(random, only);
     run.group("oracle", oracle);
     run.group("hash parts", hash::parts);
     run.group("tags", hash::tags);
@@ -67,6 +79,13 @@ fn main() -> ExitCode {
     run.group("forged lookups", forged_finds::finds);
     run.group("sets, large target", large::sets::sets);
     run.group("sets, small target", small::sets::sets);
+    run.group("calls, large target", large::calls::calls);
+    run.group("calls, small target", small::calls::calls);
+    run.group("model of calls, large target", large::calls::model_of_calls);
+    run.group("model of calls, small target", small::calls::model_of_calls);
+    run.group("orders of questions, lists of calls", call_orders::orders);
+    run.group("forged states and areas", forged_states::states);
+    run.group("forged words, records and segments", forged_calls::calls);
     if run.end() {
         ExitCode::SUCCESS
     } else {

@@ -10,20 +10,26 @@ const LINE: usize = 1000;
 pub struct Run {
     // How many random cases a group has.
     pub random: u64,
+    // Only groups with this in their name are run.
+    only: String,
     cases: u64,
     differences: u64,
 }
 
 impl Run {
-    pub fn new(random: u64) -> Run {
+    pub fn new(random: u64, only: String) -> Run {
         Run {
             random,
+            only,
             cases: 0,
             differences: 0,
         }
     }
 
     pub fn group(&mut self, name: &'static str, compare: impl FnOnce(&mut Group, u64)) {
+        if !name.contains(&self.only) {
+            return;
+        }
         let start = Instant::now();
         let mut group = Group {
             name,

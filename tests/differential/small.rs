@@ -1,6 +1,12 @@
 // The groups that split arenas, with the Rust as it is in its own tests.
 use oracle_small as oracle;
 
+#[path = "call_build.rs"]
+mod call_build;
+#[path = "call_lookups.rs"]
+pub mod call_lookups;
+#[path = "calls.rs"]
+pub mod calls;
 #[path = "one_set.rs"]
 mod one_set;
 #[path = "segments.rs"]

@@ -1,0 +1,146 @@
+// Put behind the oracle's source after access_index.rs: the numbers of a build, and the calls on a
+// finished set with ticks and hashes given.
+pub mod access_sets {
+    use super::access_index::{Builder, Set};
+    use super::*;
+
+    impl Builder {
+        // Records announced and in, buckets, filter words, bytes of records, keys and values.
+        pub fn counts(&self) -> [u64; 7] {
+            let builder = &self.0;
+            let words = builder.negative_filter.as_ref().map_or(0, Vec::len);
+            [
+                builder.expected_entries,
+                builder.inserted_entries,
+                builder.bucket_count,
+                words,
+                builder.records.len(),
+                builder.logical_key_bytes,
+                builder.logical_value_bytes,
+            ]
+            .map(|count| count as u64)
+        }
+
+        // The same build with other index words and records.
+        pub fn damaged(mut self, index: &[u64], records: &[u8]) -> Builder {
+            self.0.raw_index.copy_from_slice(index);
+            self.0.records.copy_from_slice(records);
+            self
+        }
+    }
+
+    impl Set {
+        // The index as it stands; nothing else writes to it while this is read.
+        pub fn shown(&self) -> &[u64] {
+            let words = match self.cache.config.packed_bucket_index {
+                true => &self.cache.packed_index,
+                false => &self.cache.index,
+            };
+            // SAFETY: both are plain words of one size, and the test has one thread.
+            unsafe { std::slice::from_raw_parts(words.as_ptr().cast::<u64>(), words.len()) }
+        }
+
+        // Place and length of a live value; it is marked where that is asked.
+        #[inline(never)]
+        pub fn get(&self, key: &[u8], hash: u64, tick: u64, mark: bool) -> Option<[u64; 2]> {
+            let value = (self.cache).get_at_tick_hashed_inner(key, hash, tick, mark)?;
+            let (_, record) = self.cache.find_record(key, hash)?;
+            assert!(ptr::eq(value, record.value));
+            Some([self.place(record.location, value), value.len() as u64])
+        }
+
+        pub fn take_accessed(&self, key: &[u8], hash: u64) -> bool {
+            crate::set_hash(hash);
+            self.cache.take_accessed(key)
+        }
+
+        pub fn probe(&self, key: &[u8], hash: u64, tick: u64) -> Option<[u64; 10]> {
+            let record = self.cache.probe_hashed_at_tick(key, hash, tick)?;
+            Some(self.describe(&record))
+        }
+
+        pub fn walk(&self, tick: u64) -> Vec<[u64; 10]> {
+            let mut records = Vec::new();
+            let mut visit = |record: SegmentBaseRecord<'_>| records.push(self.describe(&record));
+            (self.cache).for_each_physical_entry_at_tick(tick, &mut visit);
+            records
+        }
+
+        // Slot, location, bytes before the key, place and length of key and value, and the time
+        // left: its kind (0 never, 1 a duration, 2 nothing), seconds and nanoseconds.
+        fn describe(&self, record: &SegmentBaseRecord<'_>) -> [u64; 10] {
+            let left = match record.remaining_ttl {
+                Some(SegmentRemainingTtl::Never) => [0; 3],
+                Some(SegmentRemainingTtl::Finite(left)) => {
+                    [1, left.as_secs(), left.subsec_nanos().into()]
+                }
+                None => [2, 0, 0],
+            };
+            [
+                record.slot as u64,
+                record.location as u64,
+                record.key_offset as u64,
+                self.place(record.location, record.key),
+                record.key.len() as u64,
+                self.place(record.location, record.value),
+                record.value.len() as u64,
+                left[0],
+                left[1],
+                left[2],
+            ]
+        }
+
+        // Where a part of a segment would stand in one arena.
+        fn place(&self, location: usize, part: &[u8]) -> u64 {
+            let segment = location >> RECORD_SEGMENT_OFFSET_BITS;
+            let bytes = self.cache.record_segment_at(location);
+            let bytes = bytes.map_or(&[][..], |(bytes, _)| bytes);
+            let offset = part.as_ptr() as usize - bytes.as_ptr() as usize;
+            self.starts[segment] + offset as u64
+        }
+
+        pub fn stats(&self) -> [u64; 8] {
+            let stats = self.cache.stats();
+            [
+                stats.entries,
+                stats.buckets,
+                stats.index_slots,
+                stats.index_bytes,
+                stats.record_bytes,
+                stats.logical_key_bytes,
+                stats.logical_value_bytes,
+                stats.record_header_bytes,
+            ]
+            .map(|count| count as u64)
+        }
+    }
+
+    // The three methods of statistics with these numbers: bytes retained, overhead, load.
+    pub fn methods(stats: &[u64; 8]) -> [u64; 3] {
+        let [
+            entries,
+            buckets,
+            index_slots,
+            index_bytes,
+            record_bytes,
+            key,
+            value,
+            header,
+        ] = stats.map(|count| count as usize);
+        let stats = SegmentCacheStats {
+            entries,
+            buckets,
+            index_slots,
+            index_bytes,
+            record_bytes,
+            logical_key_bytes: key,
+            logical_value_bytes: value,
+            record_header_bytes: header,
+        };
+        [
+            stats.modeled_retained_bytes() as u64,
+            stats.modeled_overhead_bytes() as u64,
+            stats.index_load_bps().into(),
+        ]
+    }
+}

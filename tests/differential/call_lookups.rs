@@ -1,0 +1,196 @@
+// The calls on a finished set, by the port or the model and by the Rust. This file is a module
+// twice, once for each build of the Rust.
+use super::oracle::access_index::Set;
+use super::oracle::access_sets;
+use crate::call_lists::Entry;
+use crate::port_sets;
+use crate::report::Group;
+use crate::rng::Rng;
+use crate::set_world::{Ask, By, UNSET, World};
+
+pub struct Finished {
+    by: By,
+    about: String,
+    pub world: World,
+    // The areas as the finish left them; only the index changes, by marks.
+    plain: World,
+    pub set: Set,
+    // So many calls were asked.
+    asked: u64,
+}
+
+// Areas that a call can't write are compared after each call in small sets, else at times: what
+// was written there stays.
+const SMALL: usize = 70_000;
+
+impl Finished {
+    pub fn new(by: By, about: String, world: World, set: Set) -> Finished {
+        let plain = world.clone();
+        Finished {
+            by,
+            about,
+            world,
+            plain,
+            set,
+            asked: 0,
+        }
+    }
+
+    // One call and all areas after it: the index is the Rust's, marks included.
+    fn call(&mut self, group: &mut Group, name: &str, ask: Ask, wanted: &[u64]) {
+        let refusal = (self.by)(&mut self.world, &ask, ask.answer());
+        self.asked += 1;
+        let (world, plain, asked) = (&self.world, &self.plain, ask.answer());
+        let input = || format!("{}, {ask:x?}", self.about);
+        group.rust(name, refusal, 0, input);
+        group.area(name, &world.out[..asked], wanted, input);
+        let words = self.set.shown();
+        group.area("index", &world.index[..words.len()], words, input);
+        let same = world.out[asked..].iter().all(|&word| word == UNSET)
+            && world.index[words.len()..] == plain.index[words.len()..]
+            && world.set == plain.set
+            && world.builder == plain.builder;
+        group.rust("words past the answer and the index", same, true, input);
+        if world.arena.len() < SMALL || self.asked % 64 == 0 {
+            self.rest(group, name);
+        }
+    }
+
+    fn rest(&self, group: &mut Group, name: &str) {
+        let (world, plain) = (&self.world, &self.plain);
+        let input = || format!("{}, {name}", self.about);
+        group.area("arena", &world.arena, &plain.arena, input);
+        let same = world.filter == plain.filter
+            && world.starts == plain.starts
+            && world.lengths == plain.lengths
+            && world.scratch == plain.scratch;
+        group.rust("filter, starts, lengths, scratch", same, true, input);
+    }
+
+    pub fn get(&mut self, group: &mut Group, key: &[u8], hash: u64, tick: u64) {
+        let rust = self.set.get(key, hash, tick, true);
+        let wanted = rust.map_or([0; 3], |[at, len]| [1, at, len]);
+        self.call(group, "get", Ask::Get { hash, key, tick }, &wanted);
+    }
+
+    fn peek(&mut self, group: &mut Group, key: &[u8], hash: u64, tick: u64) {
+        let rust = self.set.get(key, hash, tick, false);
+        let wanted = rust.map_or([0; 3], |[at, len]| [1, at, len]);
+        self.call(group, "peek", Ask::Peek { hash, key, tick }, &wanted);
+    }
+
+    fn take(&mut self, group: &mut Group, key: &[u8], hash: u64) {
+        let wanted = [self.set.take_accessed(key, hash).into()];
+        self.call(group, "take_accessed", Ask::Take { hash, key }, &wanted);
+    }
+
+    fn probe(&mut self, group: &mut Group, key: &[u8], hash: u64, tick: u64) {
+        let wanted = flagged(self.set.probe(key, hash, tick));
+        self.call(group, "probe", Ask::Probe { hash, key, tick }, &wanted);
+    }
+
+    // Every kind of lookup of one key at one tick, marks set and cleared between them.
+    pub fn all_ways(&mut self, group: &mut Group, key: &[u8], hash: u64, tick: u64) {
+        self.peek(group, key, hash, tick);
+        self.probe(group, key, hash, tick);
+        self.get(group, key, hash, tick);
+        self.take(group, key, hash);
+    }
+
+    // Every stored key at the ticks where its answer may change, and keys that are not stored.
+    pub fn lookups(&mut self, group: &mut Group, rng: &mut Rng, list: &[Entry]) {
+        for entry in list {
+            self.stored(group, rng, entry, list.len());
+        }
+        // A miss in a crowded set sees all records.
+        let step = if list.len() > 100 { 16 } else { 1 };
+        for entry in list.iter().step_by(step) {
+            let changed = crate::finds::changed(rng, &entry.key);
+            let tick = rng.below(65_540);
+            self.all_ways(group, &changed, entry.hash, tick);
+            self.get(group, b"absent", entry.hash, tick);
+            self.get(group, &entry.key, rng.next(), tick);
+        }
+        for _ in 0..4 {
+            self.all_ways(group, b"", rng.next(), 0);
+        }
+        // Marks that stay.
+        for entry in list.iter().step_by(3) {
+            self.get(group, &entry.key, entry.hash, rng.below(65_540));
+        }
+    }
+
+    fn stored(&mut self, group: &mut Group, rng: &mut Rng, entry: &Entry, count: usize) {
+        let (key, hash) = (&entry.key[..], entry.hash);
+        let deadline = self.set.find(key, hash).map_or(0, |found| found[7]);
+        let around = [deadline.saturating_sub(1), deadline, deadline + 1];
+        if count > 20 {
+            let ticks = [0, 65_534, 65_535, 65_536, u64::MAX];
+            self.all_ways(group, key, hash, rng.pick(&around));
+            self.get(group, key, hash, rng.pick(&ticks));
+            return;
+        }
+        for tick in around
+            .into_iter()
+            .chain([0, 65_534, 65_535, 65_536, u64::MAX])
+        {
+            self.all_ways(group, key, hash, tick);
+        }
+        self.get(group, key, hash, 0);
+        self.get(group, key, hash, deadline);
+    }
+
+    // Step by step from the first slot to the end, and from slots that are past it.
+    pub fn walk(&mut self, group: &mut Group, tick: u64) {
+        let rust = self.set.walk(tick);
+        let mut from = 0;
+        for record in &rust {
+            let wanted = flagged(Some(*record));
+            self.call(group, "walk step", Ask::Walk { from, tick }, &wanted);
+            from = record[0] + 1;
+        }
+        let slots = self.set.shown().len() as u64;
+        for from in [from, slots - 1, slots, slots + 1, 1 << 63, u64::MAX] {
+            let next = rust.iter().find(|record| record[0] >= from);
+            let wanted = flagged(next.copied());
+            self.call(group, "walk step", Ask::Walk { from, tick }, &wanted);
+        }
+    }
+
+    pub fn stats(&mut self, group: &mut Group) {
+        let stats = self.set.stats();
+        self.call(group, "stats", Ask::Stats, &stats);
+        methods(group, &stats);
+    }
+
+    pub fn end(&self, group: &mut Group) {
+        self.rest(group, "after all lookups");
+    }
+}
+
+fn flagged(record: Option<[u64; 10]>) -> [u64; 11] {
+    let mut words = [0; 11];
+    if let Some(record) = record {
+        words[0] = 1;
+        words[1..].copy_from_slice(&record);
+    }
+    words
+}
+
+// The three methods of statistics.
+pub fn methods(group: &mut Group, stats: &[u64; 8]) {
+    let calls = [
+        port_sets::modeled_retained_bytes,
+        port_sets::modeled_overhead_bytes,
+        port_sets::index_load_bps,
+    ];
+    let mut found = [UNSET; 3];
+    for (call, word) in calls.iter().zip(found.chunks_mut(1)) {
+        let refusal = call(stats, word);
+        group.rust("methods of statistics", refusal, 0, || format!("{stats:?}"));
+    }
+    let wanted = access_sets::methods(stats);
+    group.area("methods of statistics", &found, &wanted, || {
+        format!("{stats:?}")
+    });
+}

@@ -1,0 +1,270 @@
+// The exports of the crate `capi` that ask a finished set; as in port_sets.rs.
+unsafe extern "C" {
+    fn segment_cache_get(
+        set: *const u64,
+        set_len: usize,
+        hash: u64,
+        key: *const u8,
+        key_len: usize,
+        tick: u64,
+        index: *mut u64,
+        index_len: usize,
+        filter: *const u64,
+        filter_len: usize,
+        starts: *const u64,
+        starts_len: usize,
+        lengths: *const u64,
+        lengths_len: usize,
+        arena: *const u8,
+        arena_len: usize,
+        span: *mut u64,
+        span_len: usize,
+    ) -> u64;
+    fn segment_cache_peek(
+        set: *const u64,
+        set_len: usize,
+        hash: u64,
+        key: *const u8,
+        key_len: usize,
+        tick: u64,
+        index: *const u64,
+        index_len: usize,
+        filter: *const u64,
+        filter_len: usize,
+        starts: *const u64,
+        starts_len: usize,
+        lengths: *const u64,
+        lengths_len: usize,
+        arena: *const u8,
+        arena_len: usize,
+        span: *mut u64,
+        span_len: usize,
+    ) -> u64;
+    fn segment_cache_take_accessed(
+        set: *const u64,
+        set_len: usize,
+        hash: u64,
+        key: *const u8,
+        key_len: usize,
+        index: *mut u64,
+        index_len: usize,
+        filter: *const u64,
+        filter_len: usize,
+        starts: *const u64,
+        starts_len: usize,
+        lengths: *const u64,
+        lengths_len: usize,
+        arena: *const u8,
+        arena_len: usize,
+        accessed: *mut u64,
+        accessed_len: usize,
+    ) -> u64;
+    fn segment_cache_probe(
+        set: *const u64,
+        set_len: usize,
+        hash: u64,
+        key: *const u8,
+        key_len: usize,
+        tick: u64,
+        index: *const u64,
+        index_len: usize,
+        filter: *const u64,
+        filter_len: usize,
+        starts: *const u64,
+        starts_len: usize,
+        lengths: *const u64,
+        lengths_len: usize,
+        arena: *const u8,
+        arena_len: usize,
+        record: *mut u64,
+        record_len: usize,
+    ) -> u64;
+    fn segment_cache_next_entry(
+        set: *const u64,
+        set_len: usize,
+        from: usize,
+        tick: u64,
+        index: *const u64,
+        index_len: usize,
+        starts: *const u64,
+        starts_len: usize,
+        lengths: *const u64,
+        lengths_len: usize,
+        arena: *const u8,
+        arena_len: usize,
+        record: *mut u64,
+        record_len: usize,
+    ) -> u64;
+}
+
+pub fn get(
+    set: &[u64],
+    hash: u64,
+    key: &[u8],
+    tick: u64,
+    index: &mut [u64],
+    filter: &[u64],
+    starts: &[u64],
+    lengths: &[u64],
+    arena: &[u8],
+    span: &mut [u64],
+) -> u64 {
+    unsafe {
+        segment_cache_get(
+            set.as_ptr(),
+            set.len(),
+            hash,
+            key.as_ptr(),
+            key.len(),
+            tick,
+            index.as_mut_ptr(),
+            index.len(),
+            filter.as_ptr(),
+            filter.len(),
+            starts.as_ptr(),
+            starts.len(),
+            lengths.as_ptr(),
+            lengths.len(),
+            arena.as_ptr(),
+            arena.len(),
+            span.as_mut_ptr(),
+            span.len(),
+        )
+    }
+}
+
+pub fn peek(
+    set: &[u64],
+    hash: u64,
+    key: &[u8],
+    tick: u64,
+    index: &[u64],
+    filter: &[u64],
+    starts: &[u64],
+    lengths: &[u64],
+    arena: &[u8],
+    span: &mut [u64],
+) -> u64 {
+    unsafe {
+        segment_cache_peek(
+            set.as_ptr(),
+            set.len(),
+            hash,
+            key.as_ptr(),
+            key.len(),
+            tick,
+            index.as_ptr(),
+            index.len(),
+            filter.as_ptr(),
+            filter.len(),
+            starts.as_ptr(),
+            starts.len(),
+            lengths.as_ptr(),
+            lengths.len(),
+            arena.as_ptr(),
+            arena.len(),
+            span.as_mut_ptr(),
+            span.len(),
+        )
+    }
+}
+
+pub fn take_accessed(
+    set: &[u64],
+    hash: u64,
+    key: &[u8],
+    index: &mut [u64],
+    filter: &[u64],
+    starts: &[u64],
+    lengths: &[u64],
+    arena: &[u8],
+    accessed: &mut [u64],
+) -> u64 {
+    unsafe {
+        segment_cache_take_accessed(
+            set.as_ptr(),
+            set.len(),
+            hash,
+            key.as_ptr(),
+            key.len(),
+            index.as_mut_ptr(),
+            index.len(),
+            filter.as_ptr(),
+            filter.len(),
+            starts.as_ptr(),
+            starts.len(),
+            lengths.as_ptr(),
+            lengths.len(),
+            arena.as_ptr(),
+            arena.len(),
+            accessed.as_mut_ptr(),
+            accessed.len(),
+        )
+    }
+}
+
+pub fn probe(
+    set: &[u64],
+    hash: u64,
+    key: &[u8],
+    tick: u64,
+    index: &[u64],
+    filter: &[u64],
+    starts: &[u64],
+    lengths: &[u64],
+    arena: &[u8],
+    record: &mut [u64],
+) -> u64 {
+    unsafe {
+        segment_cache_probe(
+            set.as_ptr(),
+            set.len(),
+            hash,
+            key.as_ptr(),
+            key.len(),
+            tick,
+            index.as_ptr(),
+            index.len(),
+            filter.as_ptr(),
+            filter.len(),
+            starts.as_ptr(),
+            starts.len(),
+            lengths.as_ptr(),
+            lengths.len(),
+            arena.as_ptr(),
+            arena.len(),
+            record.as_mut_ptr(),
+            record.len(),
+        )
+    }
+}
+
+pub fn next_entry(
+    set: &[u64],
+    from: usize,
+    tick: u64,
+    index: &[u64],
+    starts: &[u64],
+    lengths: &[u64],
+    arena: &[u8],
+    record: &mut [u64],
+) -> u64 {
+    unsafe {
+        segment_cache_next_entry(
+            set.as_ptr(),
+            set.len(),
+            from,
+            tick,
+            index.as_ptr(),
+            index.len(),
+            starts.as_ptr(),
+            starts.len(),
+            lengths.as_ptr(),
+            lengths.len(),
+            arena.as_ptr(),
+            arena.len(),
+            record.as_mut_ptr(),
+            record.len(),
+        )
+    }
+}

@@ -1,0 +1,213 @@
+// The areas and states of one set, and the calls that are asked of the port or of the model on them.
+use crate::rng::{pattern, word_pattern};
+use crate::{port_sets, set_model};
+
+// Each area is longer than what is lent of it, so that what is written behind shows.
+#[derive(Clone, PartialEq)]
+pub struct World {
+    pub setting: Vec<u64>,
+    pub builder: Vec<u64>,
+    pub set: Vec<u64>,
+    pub index: Vec<u64>,
+    pub filter: Vec<u64>,
+    pub starts: Vec<u64>,
+    pub lengths: Vec<u64>,
+    pub scratch: Vec<u64>,
+    pub arena: Vec<u8>,
+    // The answer's words, all UNSET before each call.
+    pub out: Vec<u64>,
+    pub lent: Sizes,
+}
+
+// How much of each area is lent.
+#[derive(Clone, PartialEq, Debug)]
+pub struct Sizes {
+    pub index: usize,
+    pub filter: usize,
+    pub starts: usize,
+    pub lengths: usize,
+    pub scratch: usize,
+    pub arena: usize,
+}
+
+impl Sizes {
+    // Three words or bytes more than so many buckets, filter words and bytes need.
+    pub fn for_counts(buckets: usize, filter_words: usize, arena: usize) -> Sizes {
+        Sizes {
+            index: 8 * buckets + 3,
+            filter: filter_words + 3,
+            starts: 259,
+            lengths: 259,
+            scratch: buckets + 3,
+            arena: arena + 3,
+        }
+    }
+}
+
+const OUT: usize = 14;
+
+// What stands in the answer's words before a call.
+pub const UNSET: u64 = 0xa5c3_9d71_e6b4_2f8d;
+
+impl World {
+    pub fn new(setting: &[u64], lent: Sizes) -> World {
+        World {
+            setting: setting.to_vec(),
+            builder: word_pattern(set_model::BUILDER_WORDS),
+            set: word_pattern(set_model::SET_WORDS),
+            index: word_pattern(lent.index + 3),
+            filter: word_pattern(lent.filter + 3),
+            starts: word_pattern(lent.starts + 3),
+            lengths: word_pattern(lent.lengths + 3),
+            scratch: word_pattern(lent.scratch + 3),
+            arena: pattern(lent.arena + 3),
+            out: vec![UNSET; OUT],
+            lent,
+        }
+    }
+
+    // The first area that is not the same, and where.
+    pub fn difference(&self, other: &World) -> String {
+        let areas = [
+            ("setting", &self.setting, &other.setting),
+            ("builder", &self.builder, &other.builder),
+            ("set", &self.set, &other.set),
+            ("index", &self.index, &other.index),
+            ("filter", &self.filter, &other.filter),
+            ("starts", &self.starts, &other.starts),
+            ("lengths", &self.lengths, &other.lengths),
+            ("scratch", &self.scratch, &other.scratch),
+            ("answer", &self.out, &other.out),
+        ];
+        for (name, port, wanted) in areas {
+            if let Some(at) = (0..port.len()).find(|&i| port.get(i) != wanted.get(i)) {
+                let (port, wanted) = (port[at], wanted.get(at));
+                return format!("{name} {at}: {port:#x}, wanted {wanted:x?}");
+            }
+        }
+        let at = (0..self.arena.len()).find(|&i| self.arena.get(i) != other.arena.get(i));
+        format!("arena {at:?}")
+    }
+}
+
+#[derive(Clone, Copy, Debug)]
+pub enum Ask<'a> {
+    Open { records: u64 },
+    Push(Pushed<'a>),
+    Finish { target: u64 },
+    Get { hash: u64, key: &'a [u8], tick: u64 },
+    Peek { hash: u64, key: &'a [u8], tick: u64 },
+    Take { hash: u64, key: &'a [u8] },
+    Probe { hash: u64, key: &'a [u8], tick: u64 },
+    Walk { from: u64, tick: u64 },
+    Stats,
+}
+
+#[derive(Clone, Copy, Debug)]
+pub struct Pushed<'a> {
+    pub hash: u64,
+    pub key: &'a [u8],
+    pub value: &'a [u8],
+    // No words for never, else seconds and nanoseconds.
+    pub lifetime: &'a [u64],
+}
+
+impl Ask<'_> {
+    // How many words the answer has.
+    pub fn answer(&self) -> usize {
+        match self {
+            Ask::Open { .. } | Ask::Finish { .. } => 0,
+            Ask::Push(_) => 2,
+            Ask::Get { .. } | Ask::Peek { .. } => 3,
+            Ask::Take { .. } => 1,
+            Ask::Probe { .. } | Ask::Walk { .. } => 11,
+            Ask::Stats => 8,
+        }
+    }
+}
+
+// The port's calls and the model's have the same names and arguments.
+macro_rules! ask_by {
+    ($calls:ident, $world:ident, $ask:ident, $words:ident) => {{
+        let World {
+            setting,
+            builder,
+            set,
+            index,
+            filter,
+            starts,
+            lengths,
+            ..
+        } = $world;
+        let World {
+            scratch,
+            arena,
+            out,
+            lent,
+            ..
+        } = $world;
+        out.fill(UNSET);
+        let (index, filter) = (&mut index[..lent.index], &mut filter[..lent.filter]);
+        let (starts, lengths) = (&mut starts[..lent.starts], &mut lengths[..lent.lengths]);
+        let (scratch, arena) = (&mut scratch[..lent.scratch], &mut arena[..lent.arena]);
+        let out = &mut out[..$words];
+        match *$ask {
+            Ask::Open { records } => $calls::open(
+                setting,
+                records as usize,
+                builder,
+                index,
+                filter,
+                starts,
+                lengths,
+                arena,
+            ),
+            Ask::Push(Pushed {
+                hash,
+                key,
+                value,
+                lifetime,
+            }) => $calls::push(
+                builder, hash, key, value, lifetime, index, filter, arena, out,
+            ),
+            Ask::Finish { target } => $calls::finish(
+                builder,
+                target as usize,
+                index,
+                starts,
+                lengths,
+                scratch,
+                arena,
+                set,
+            ),
+            Ask::Get { hash, key, tick } => $calls::get(
+                set, hash, key, tick, index, filter, starts, lengths, arena, out,
+            ),
+            Ask::Peek { hash, key, tick } => $calls::peek(
+                set, hash, key, tick, index, filter, starts, lengths, arena, out,
+            ),
+            Ask::Take { hash, key } => {
+                $calls::take_accessed(set, hash, key, index, filter, starts, lengths, arena, out)
+            }
+            Ask::Probe { hash, key, tick } => $calls::probe(
+                set, hash, key, tick, index, filter, starts, lengths, arena, out,
+            ),
+            Ask::Walk { from, tick } => {
+                $calls::next_entry(set, from as usize, tick, index, starts, lengths, arena, out)
+            }
+            Ask::Stats => $calls::stats(set, out),
+        }
+    }};
+}
+
+// Who answers: the port, or the model in its place.
+pub type By = fn(&mut World, &Ask, usize) -> u64;
+
+// With an answer of so many words, which is the right number but for calls of a wrong form.
+pub fn port(world: &mut World, ask: &Ask, words: usize) -> u64 {
+    ask_by!(port_sets, world, ask, words)
+}
+
+pub fn model(world: &mut World, ask: &Ask, words: usize) -> u64 {
+    ask_by!(set_model, world, ask, words)
+}
