@@ -41,7 +41,10 @@ enum-known-read c = search needs
 returns : tie.Need-returns Inv-loop μ-loop
 returns c =
     let a = c .before .before .before .before .before .before .before .before .before .before .args in
-    sym (entry-hit (entryAt (recordIn (a .view) (a .arena .now) (a .starts .now) (a .lengths .now)) (a .packed) (a .buckets) (a .index .now)) (8 * a .buckets) (c .before .before .before .before .before .loop .slot) (c .before .read .given .0 .0) (omega (arith, c .before .before .before .before .loop-test .taken)) (sym (c .before .before .before .entry-at .ensures) ∙ c .before .read .given .1)) ∙ c .before .before .before .before .before .loop .inv
+    let loop = c .before .before .before .before .before .loop in
+    let loop-test = c .before .before .before .before .loop-test in
+    let entry-at = c .before .before .before .entry-at in
+    sym (entry-hit (entryAt (recordIn (a .view) (a .arena .now) (a .starts .now) (a .lengths .now)) (a .packed) (a .buckets) (a .index .now)) (8 * a .buckets) (loop .slot) (c .before .read .given .0 .0) (omega (arith, loop-test .taken)) (sym (entry-at .ensures) ∙ c .before .read .given .1)) ∙ loop .inv
 
 enum-told : tie.Need-enum-told Inv-loop μ-loop
 enum-told c = search needs
@@ -58,7 +61,10 @@ loop-less c = omega (arith, c .before .before .before .loop-test .taken)
 loop-again : tie.Need-loop-again Inv-loop μ-loop
 loop-again c =
     let a = c .before .before .before .before .before .before .before .before .before .args in
-    entry-miss (entryAt (recordIn (a .view) (a .arena .now) (a .starts .now) (a .lengths .now)) (a .packed) (a .buckets) (a .index .now)) (8 * a .buckets) (c .before .before .before .before .loop .slot) (omega (arith, c .before .before .before .loop-test .taken)) (sym (c .before .before .entry-at .ensures) ∙ c .enum-told .given .1) ∙ c .before .before .before .before .loop .inv
+    let loop = c .before .before .before .before .loop in
+    let loop-test = c .before .before .before .loop-test in
+    let entry-at = c .before .before .entry-at in
+    entry-miss (entryAt (recordIn (a .view) (a .arena .now) (a .starts .now) (a .lengths .now)) (a .packed) (a .buckets) (a .index .now)) (8 * a .buckets) (loop .slot) (omega (arith, loop-test .taken)) (sym (entry-at .ensures) ∙ c .enum-told .given .1) ∙ loop .inv
 
 -- src/lookup.rt:67:1
 returns-2 : tie.Need-returns-2 Inv-loop μ-loop

@@ -38,12 +38,23 @@ tick-runs-requires c κs = search needs
 -- src/questions.rt:174:9
 returns-3 : tie.Need-returns-3
 unfolding askOpen
-returns-3 c = rw (sym (c .before .before .before .before .before .nanoseconds-fit .ensures) ∙ not-false (c .before .before .before .before .before .nanoseconds-fit .result) (c .before .before .before .before .if1 .left), sym (c .before .before .before .occupancy-fits .ensures) ∙ not-false (c .before .before .before .occupancy-fits .result) (c .before .before .if2 .left), sym (c .before .tick-runs .ensures) ∙ not-true (c .before .tick-runs .result) (c .if3 .taken))
+returns-3 c =
+    let nanoseconds-fit = c .before .before .before .before .before .nanoseconds-fit in
+    let if1 = c .before .before .before .before .if1 in
+    let occupancy-fits = c .before .before .before .occupancy-fits in
+    let if2 = c .before .before .if2 in
+    rw (sym (nanoseconds-fit .ensures) ∙ not-false (nanoseconds-fit .result) (if1 .left), sym (occupancy-fits .ensures) ∙ not-false (occupancy-fits .result) (if2 .left), sym (c .before .tick-runs .ensures) ∙ not-true (c .before .tick-runs .result) (c .if3 .taken))
 
 -- src/questions.rt:177:9
 returns-4 : tie.Need-returns-4
 unfolding askOpen
-returns-4 c = rw (sym (c .before .before .before .before .before .before .nanoseconds-fit .ensures) ∙ not-false (c .before .before .before .before .before .before .nanoseconds-fit .result) (c .before .before .before .before .before .if1 .left), sym (c .before .before .before .before .occupancy-fits .ensures) ∙ not-false (c .before .before .before .before .occupancy-fits .result) (c .before .before .before .if2 .left), sym (c .before .before .tick-runs .ensures) ∙ not-false (c .before .before .tick-runs .result) (c .before .if3 .left), lt-leb _ _ (c .if4 .taken))
+returns-4 c =
+    let nanoseconds-fit = c .before .before .before .before .before .before .nanoseconds-fit in
+    let if1 = c .before .before .before .before .before .if1 in
+    let occupancy-fits = c .before .before .before .before .occupancy-fits in
+    let if2 = c .before .before .before .if2 in
+    let tick-runs = c .before .before .tick-runs in
+    rw (sym (nanoseconds-fit .ensures) ∙ not-false (nanoseconds-fit .result) (if1 .left), sym (occupancy-fits .ensures) ∙ not-false (occupancy-fits .result) (if2 .left), sym (tick-runs .ensures) ∙ not-false (tick-runs .result) (c .before .if3 .left), lt-leb _ _ (c .if4 .taken))
 
 -- src/questions.rt:179:9
 open-areas-hold-requires : tie.Need-open-areas-hold-requires
@@ -52,7 +63,15 @@ open-areas-hold-requires c κs = search needs
 -- src/questions.rt:180:9
 returns-5 : tie.Need-returns-5
 unfolding askOpen
-returns-5 c = rw (sym (c .before .before .before .before .before .before .before .before .nanoseconds-fit .ensures) ∙ not-false (c .before .before .before .before .before .before .before .before .nanoseconds-fit .result) (c .before .before .before .before .before .before .before .if1 .left), sym (c .before .before .before .before .before .before .occupancy-fits .ensures) ∙ not-false (c .before .before .before .before .before .before .occupancy-fits .result) (c .before .before .before .before .before .if2 .left), sym (c .before .before .before .before .tick-runs .ensures) ∙ not-false (c .before .before .before .before .tick-runs .result) (c .before .before .before .if3 .left), le-leb _ _ (c .before .before .if4 .left), sym (c .before .open-areas-hold .ensures) ∙ not-true (c .before .open-areas-hold .result) (c .if5 .taken))
+returns-5 c =
+    let nanoseconds-fit = c .before .before .before .before .before .before .before .before .nanoseconds-fit in
+    let if1 = c .before .before .before .before .before .before .before .if1 in
+    let occupancy-fits = c .before .before .before .before .before .before .occupancy-fits in
+    let if2 = c .before .before .before .before .before .if2 in
+    let tick-runs = c .before .before .before .before .tick-runs in
+    let if3 = c .before .before .before .if3 in
+    let if4 = c .before .before .if4 in
+    rw (sym (nanoseconds-fit .ensures) ∙ not-false (nanoseconds-fit .result) (if1 .left), sym (occupancy-fits .ensures) ∙ not-false (occupancy-fits .result) (if2 .left), sym (tick-runs .ensures) ∙ not-false (tick-runs .result) (if3 .left), le-leb _ _ (if4 .left), sym (c .before .open-areas-hold .ensures) ∙ not-true (c .before .open-areas-hold .result) (c .if5 .taken))
 
 -- src/questions.rt:182:9
 segment-areas-hold-requires : tie.Need-segment-areas-hold-requires
@@ -61,17 +80,49 @@ segment-areas-hold-requires c κs = search needs
 -- src/questions.rt:183:9
 returns-6 : tie.Need-returns-6
 unfolding askOpen
-returns-6 c = rw (sym (c .before .before .before .before .before .before .before .before .before .before .nanoseconds-fit .ensures) ∙ not-false (c .before .before .before .before .before .before .before .before .before .before .nanoseconds-fit .result) (c .before .before .before .before .before .before .before .before .before .if1 .left), sym (c .before .before .before .before .before .before .before .before .occupancy-fits .ensures) ∙ not-false (c .before .before .before .before .before .before .before .before .occupancy-fits .result) (c .before .before .before .before .before .before .before .if2 .left), sym (c .before .before .before .before .before .before .tick-runs .ensures) ∙ not-false (c .before .before .before .before .before .before .tick-runs .result) (c .before .before .before .before .before .if3 .left), le-leb _ _ (c .before .before .before .before .if4 .left), sym (c .before .before .before .open-areas-hold .ensures) ∙ not-false (c .before .before .before .open-areas-hold .result) (c .before .before .if5 .left), sym (c .before .segment-areas-hold .ensures) ∙ not-true (c .before .segment-areas-hold .result) (c .if6 .taken))
+returns-6 c =
+    let nanoseconds-fit = c .before .before .before .before .before .before .before .before .before .before .nanoseconds-fit in
+    let if1 = c .before .before .before .before .before .before .before .before .before .if1 in
+    let occupancy-fits = c .before .before .before .before .before .before .before .before .occupancy-fits in
+    let if2 = c .before .before .before .before .before .before .before .if2 in
+    let tick-runs = c .before .before .before .before .before .before .tick-runs in
+    let if3 = c .before .before .before .before .before .if3 in
+    let if4 = c .before .before .before .before .if4 in
+    let open-areas-hold = c .before .before .before .open-areas-hold in
+    let if5 = c .before .before .if5 in
+    rw (sym (nanoseconds-fit .ensures) ∙ not-false (nanoseconds-fit .result) (if1 .left), sym (occupancy-fits .ensures) ∙ not-false (occupancy-fits .result) (if2 .left), sym (tick-runs .ensures) ∙ not-false (tick-runs .result) (if3 .left), le-leb _ _ (if4 .left), sym (open-areas-hold .ensures) ∙ not-false (open-areas-hold .result) (if5 .left), sym (c .before .segment-areas-hold .ensures) ∙ not-true (c .before .segment-areas-hold .result) (c .if6 .taken))
 
 -- src/questions.rt:186:9
 returns-7 : tie.Need-returns-7
 unfolding askOpen
-returns-7 c = rw (sym (c .before .before .before .before .before .before .before .before .before .before .before .nanoseconds-fit .ensures) ∙ not-false (c .before .before .before .before .before .before .before .before .before .before .before .nanoseconds-fit .result) (c .before .before .before .before .before .before .before .before .before .before .if1 .left), sym (c .before .before .before .before .before .before .before .before .before .occupancy-fits .ensures) ∙ not-false (c .before .before .before .before .before .before .before .before .before .occupancy-fits .result) (c .before .before .before .before .before .before .before .before .if2 .left), sym (c .before .before .before .before .before .before .before .tick-runs .ensures) ∙ not-false (c .before .before .before .before .before .before .before .tick-runs .result) (c .before .before .before .before .before .before .if3 .left), le-leb _ _ (c .before .before .before .before .before .if4 .left), sym (c .before .before .before .before .open-areas-hold .ensures) ∙ not-false (c .before .before .before .before .open-areas-hold .result) (c .before .before .before .if5 .left), sym (c .before .before .segment-areas-hold .ensures) ∙ not-false (c .before .before .segment-areas-hold .result) (c .before .if6 .left), lt-leb _ _ (c .if7 .taken))
+returns-7 c =
+    let nanoseconds-fit = c .before .before .before .before .before .before .before .before .before .before .before .nanoseconds-fit in
+    let if1 = c .before .before .before .before .before .before .before .before .before .before .if1 in
+    let occupancy-fits = c .before .before .before .before .before .before .before .before .before .occupancy-fits in
+    let if2 = c .before .before .before .before .before .before .before .before .if2 in
+    let tick-runs = c .before .before .before .before .before .before .before .tick-runs in
+    let if3 = c .before .before .before .before .before .before .if3 in
+    let if4 = c .before .before .before .before .before .if4 in
+    let open-areas-hold = c .before .before .before .before .open-areas-hold in
+    let if5 = c .before .before .before .if5 in
+    let segment-areas-hold = c .before .before .segment-areas-hold in
+    rw (sym (nanoseconds-fit .ensures) ∙ not-false (nanoseconds-fit .result) (if1 .left), sym (occupancy-fits .ensures) ∙ not-false (occupancy-fits .result) (if2 .left), sym (tick-runs .ensures) ∙ not-false (tick-runs .result) (if3 .left), le-leb _ _ (if4 .left), sym (open-areas-hold .ensures) ∙ not-false (open-areas-hold .result) (if5 .left), sym (segment-areas-hold .ensures) ∙ not-false (segment-areas-hold .result) (c .before .if6 .left), lt-leb _ _ (c .if7 .taken))
 
 -- src/questions.rt:155:1
 returns-8 : tie.Need-returns-8
 unfolding askOpen
-returns-8 c = rw (sym (c .before .before .before .before .before .before .before .before .before .before .before .nanoseconds-fit .ensures) ∙ not-false (c .before .before .before .before .before .before .before .before .before .before .before .nanoseconds-fit .result) (c .before .before .before .before .before .before .before .before .before .before .if1 .left), sym (c .before .before .before .before .before .before .before .before .before .occupancy-fits .ensures) ∙ not-false (c .before .before .before .before .before .before .before .before .before .occupancy-fits .result) (c .before .before .before .before .before .before .before .before .if2 .left), sym (c .before .before .before .before .before .before .before .tick-runs .ensures) ∙ not-false (c .before .before .before .before .before .before .before .tick-runs .result) (c .before .before .before .before .before .before .if3 .left), le-leb _ _ (c .before .before .before .before .before .if4 .left), sym (c .before .before .before .before .open-areas-hold .ensures) ∙ not-false (c .before .before .before .before .open-areas-hold .result) (c .before .before .before .if5 .left), sym (c .before .before .segment-areas-hold .ensures) ∙ not-false (c .before .before .segment-areas-hold .result) (c .before .if6 .left), le-leb _ _ (c .if7 .left))
+returns-8 c =
+    let nanoseconds-fit = c .before .before .before .before .before .before .before .before .before .before .before .nanoseconds-fit in
+    let if1 = c .before .before .before .before .before .before .before .before .before .before .if1 in
+    let occupancy-fits = c .before .before .before .before .before .before .before .before .before .occupancy-fits in
+    let if2 = c .before .before .before .before .before .before .before .before .if2 in
+    let tick-runs = c .before .before .before .before .before .before .before .tick-runs in
+    let if3 = c .before .before .before .before .before .before .if3 in
+    let if4 = c .before .before .before .before .before .if4 in
+    let open-areas-hold = c .before .before .before .before .open-areas-hold in
+    let if5 = c .before .before .before .if5 in
+    let segment-areas-hold = c .before .before .segment-areas-hold in
+    rw (sym (nanoseconds-fit .ensures) ∙ not-false (nanoseconds-fit .result) (if1 .left), sym (occupancy-fits .ensures) ∙ not-false (occupancy-fits .result) (if2 .left), sym (tick-runs .ensures) ∙ not-false (tick-runs .result) (if3 .left), le-leb _ _ (if4 .left), sym (open-areas-hold .ensures) ∙ not-false (open-areas-hold .result) (if5 .left), sym (segment-areas-hold .ensures) ∙ not-false (segment-areas-hold .result) (c .before .if6 .left), le-leb _ _ (c .if7 .left))
 
 pub check-open-spec : {M : Type 1} → statement M
 check-open-spec =

@@ -36,7 +36,10 @@ returns-3 : tie.Need-returns-3
 unfolding countsFit
 returns-3 c =
     let a = c .before .before .before .before .before .args in
-    rw (sym (c .before .before .before .before .setting-fits .ensures) ∙ not-false (c .before .before .before .before .setting-fits .result) (c .before .before .before .if1 .left), le-leb _ _ (c .before .before .if2 .left), ne-eqb (a .buckets) (bucketsIn (a .config) (a .records)) (λ e. c .if3 .taken (e ∙ sym (c .before .bucket-count .ensures))))
+    let setting-fits = c .before .before .before .before .setting-fits in
+    let if1 = c .before .before .before .if1 in
+    let if2 = c .before .before .if2 in
+    rw (sym (setting-fits .ensures) ∙ not-false (setting-fits .result) (if1 .left), le-leb _ _ (if2 .left), ne-eqb (a .buckets) (bucketsIn (a .config) (a .records)) (λ e. c .if3 .taken (e ∙ sym (c .before .bucket-count .ensures))))
 
 -- src/questions.rt:106:21
 filter-words-for-requires : tie.Need-filter-words-for-requires
@@ -47,7 +50,11 @@ returns-4 : tie.Need-returns-4
 unfolding countsFit
 returns-4 c =
     let a = c .before .before .before .before .before .before .args in
-    rw (sym (c .before .before .before .before .before .setting-fits .ensures) ∙ not-false (c .before .before .before .before .before .setting-fits .result) (c .before .before .before .before .if1 .left), le-leb _ _ (c .before .before .before .if2 .left), eq-eqb (a .buckets) (bucketsIn (a .config) (a .records)) (c .before .if3 .left ∙ c .before .before .bucket-count .ensures), c .filter-words-for .ensures)
+    let setting-fits = c .before .before .before .before .before .setting-fits in
+    let if1 = c .before .before .before .before .if1 in
+    let if2 = c .before .before .before .if2 in
+    let bucket-count = c .before .before .bucket-count in
+    rw (sym (setting-fits .ensures) ∙ not-false (setting-fits .result) (if1 .left), le-leb _ _ (if2 .left), eq-eqb (a .buckets) (bucketsIn (a .config) (a .records)) (c .before .if3 .left ∙ bucket-count .ensures), c .filter-words-for .ensures)
 
 pub counts-fit-spec : {M : Type 1} → statement M
 counts-fit-spec =

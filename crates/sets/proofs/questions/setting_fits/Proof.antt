@@ -37,7 +37,11 @@ tick-runs-requires c κs = search needs
 -- src/questions.rt:67:1
 returns-3 : tie.Need-returns-3
 unfolding settingFits
-returns-3 c = rw (sym (c .before .before .before .before .nanoseconds-fit .ensures) ∙ not-false (c .before .before .before .before .nanoseconds-fit .result) (c .before .before .before .if1 .left), sym (c .before .before .occupancy-fits .ensures) ∙ not-false (c .before .before .occupancy-fits .result) (c .before .if2 .left)) (c .tick-runs .ensures)
+returns-3 c =
+    let nanoseconds-fit = c .before .before .before .before .nanoseconds-fit in
+    let if1 = c .before .before .before .if1 in
+    let occupancy-fits = c .before .before .occupancy-fits in
+    rw (sym (nanoseconds-fit .ensures) ∙ not-false (nanoseconds-fit .result) (if1 .left), sym (occupancy-fits .ensures) ∙ not-false (occupancy-fits .result) (c .before .if2 .left)) (c .tick-runs .ensures)
 
 pub setting-fits-spec : {M : Type 1} → statement M
 setting-fits-spec =

@@ -59,7 +59,9 @@ pack-index-requires c κs = search needs
 into-cache-requires : tie.Need-into-cache-requires
 into-cache-requires c κs =
     let a = c .before .before .before .before .before .before .before .before .before .before .before .before .before .before .before .before .before .before .before .before .before .before .before .before .before .before .before .before .before .args in
-    finish-asked (a .self) (a .target) (a .index .now) (length (a .starts .now)) (length (a .lengths .now)) (length (a .scratch .now)) (length (a .arena .now)) (sym (c .before .before .before .before .before .before .before .before .before .before .before .before .before .before .before .before .before .before .before .before .before .before .check-finish .ensures) ∙ ap checkNumber (c .before .before .before .before .before .before .before .before .before .before .before .before .before .before .before .before .before .before .before .before .enum-told .given .1)) .areas .numbers .inside
+    let check-finish = c .before .before .before .before .before .before .before .before .before .before .before .before .before .before .before .before .before .before .before .before .before .before .check-finish in
+    let enum-told = c .before .before .before .before .before .before .before .before .before .before .before .before .before .before .before .before .before .before .before .before .enum-told in
+    finish-asked (a .self) (a .target) (a .index .now) (length (a .starts .now)) (length (a .lengths .now)) (length (a .scratch .now)) (length (a .arena .now)) (sym (check-finish .ensures) ∙ ap checkNumber (enum-told .given .1)) .areas .numbers .inside
 
 -- src/builder.rt:154:5
 same-length-2 : tie.Need-same-length-2
@@ -81,7 +83,9 @@ returns-2 c =
     let w = c .before .before .before .before .before .before .before .before .before .split-record-segments in
     let told = c .before .refusal2 .given in
     let q = ap (λ (r : SplitAnswer). splitResult r (w .last .0) (w .last .1 .1 .1 .1 .0) (w .last .1 .1 .1 .1 .1 .0)) (sym (told .1)) ∙ w .ensures in
-    rw (sym (c .before .before .before .before .before .before .before .before .before .before .before .before .before .before .before .check-finish .ensures) ∙ ap checkNumber (c .before .before .before .before .before .before .before .before .before .before .before .before .before .enum-told .given .1)) (split-refused (a .self) (a .scratch .now) (w .last .0) (w .last .1 .1 .1 .1 .0) (w .last .1 .1 .1 .1 .1 .0) _ (told .0 .0) q)
+    let check-finish = c .before .before .before .before .before .before .before .before .before .before .before .before .before .before .before .check-finish in
+    let enum-told = c .before .before .before .before .before .before .before .before .before .before .before .before .before .enum-told in
+    rw (sym (check-finish .ensures) ∙ ap checkNumber (enum-told .given .1)) (split-refused (a .self) (a .scratch .now) (w .last .0) (w .last .1 .1 .1 .1 .0) (w .last .1 .1 .1 .1 .1 .0) _ (told .0 .0) q)
 
 -- src/builder.rt:154:5
 same-length-5 : tie.Need-same-length-5
@@ -108,7 +112,9 @@ returns-3 c =
     let told = c .before .before .before .before .before .before .before .before .before .segments .given in
     let q = ap (λ (r : SplitAnswer). splitResult r (w .last .0) (w .last .1 .1 .1 .1 .0) (w .last .1 .1 .1 .1 .1 .0)) (sym (told .1)) ∙ w .ensures in
     let p = c .before .before .before .before .before .pack-index in
-    rw (sym (c .before .before .before .before .before .before .before .before .before .before .before .before .before .before .before .before .before .before .before .before .before .before .before .check-finish .ensures) ∙ ap checkNumber (c .before .before .before .before .before .before .before .before .before .before .before .before .before .before .before .before .before .before .before .before .before .enum-told .given .1)) (split-made (a .self) (a .scratch .now) (w .last .0) (w .last .1 .1 .1 .1 .0) (w .last .1 .1 .1 .1 .1 .0) _ (told .0 .0) (c .into-cache .result) _ _ q (c .into-cache .ensures) (p .ensures .0) (p .ensures .1))
+    let check-finish = c .before .before .before .before .before .before .before .before .before .before .before .before .before .before .before .before .before .before .before .before .before .before .before .check-finish in
+    let enum-told = c .before .before .before .before .before .before .before .before .before .before .before .before .before .before .before .before .before .before .before .before .before .enum-told in
+    rw (sym (check-finish .ensures) ∙ ap checkNumber (enum-told .given .1)) (split-made (a .self) (a .scratch .now) (w .last .0) (w .last .1 .1 .1 .1 .0) (w .last .1 .1 .1 .1 .1 .0) _ (told .0 .0) (c .into-cache .result) _ _ q (c .into-cache .ensures) (p .ensures .0) (p .ensures .1))
 
 pub finish-spec : {M : Type 1} → statement M
 finish-spec =

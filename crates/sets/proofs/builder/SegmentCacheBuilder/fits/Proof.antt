@@ -31,30 +31,58 @@ returns-2 c = rw (sym (c .before .before .before .counts-fit .ensures) ∙ not-f
 
 -- src/builder.rt:219:13
 bytes-fit-requires : tie.Need-bytes-fit-requires
-bytes-fit-requires c κs = omega (arith, counts-records (c .before .before .before .before .args .self .config) (c .before .before .before .before .args .self .«expected_entries») (c .before .before .before .before .args .self .«bucket_count») (c .before .before .before .before .args .self .«filter_words») (sym (c .before .before .before .counts-fit .ensures) ∙ not-false (c .before .before .before .counts-fit .result) (c .before .before .if1 .left)))
+bytes-fit-requires c κs = omega (arith, counts-records _ _ _ _ (sym (c .before .before .before .counts-fit .ensures) ∙ not-false (c .before .before .before .counts-fit .result) (c .before .before .if1 .left)))
 
 -- src/builder.rt:220:13
 returns-3 : tie.Need-returns-3
 unfolding builderFits
-returns-3 c = rw (sym (c .before .before .before .before .before .counts-fit .ensures) ∙ not-false (c .before .before .before .before .before .counts-fit .result) (c .before .before .before .before .if1 .left), le-leb _ _ (c .before .before .if2 .left), sym (c .before .bytes-fit .ensures) ∙ not-true (c .before .bytes-fit .result) (c .if3 .taken))
+returns-3 c =
+    let counts-fit = c .before .before .before .before .before .counts-fit in
+    let if1 = c .before .before .before .before .if1 in
+    let if2 = c .before .before .if2 in
+    rw (sym (counts-fit .ensures) ∙ not-false (counts-fit .result) (if1 .left), le-leb _ _ (if2 .left), sym (c .before .bytes-fit .ensures) ∙ not-true (c .before .bytes-fit .result) (c .if3 .taken))
 
 -- src/builder.rt:222:13
 bytes-fit-requires-2 : tie.Need-bytes-fit-requires-2
-bytes-fit-requires-2 c κs = omega (arith, counts-records (c .before .before .before .before .before .before .args .self .config) (c .before .before .before .before .before .before .args .self .«expected_entries») (c .before .before .before .before .before .before .args .self .«bucket_count») (c .before .before .before .before .before .before .args .self .«filter_words») (sym (c .before .before .before .before .before .counts-fit .ensures) ∙ not-false (c .before .before .before .before .before .counts-fit .result) (c .before .before .before .before .if1 .left)))
+bytes-fit-requires-2 c κs = omega (arith, counts-records _ _ _ _ (sym (c .before .before .before .before .before .counts-fit .ensures) ∙ not-false (c .before .before .before .before .before .counts-fit .result) (c .before .before .before .before .if1 .left)))
 
 -- src/builder.rt:223:13
 returns-4 : tie.Need-returns-4
 unfolding builderFits
-returns-4 c = rw (sym (c .before .before .before .before .before .before .before .counts-fit .ensures) ∙ not-false (c .before .before .before .before .before .before .before .counts-fit .result) (c .before .before .before .before .before .before .if1 .left), le-leb _ _ (c .before .before .before .before .if2 .left), sym (c .before .before .before .bytes-fit .ensures) ∙ not-false (c .before .before .before .bytes-fit .result) (c .before .before .if3 .left), sym (c .before .bytes-fit2 .ensures) ∙ not-true (c .before .bytes-fit2 .result) (c .if4 .taken))
+returns-4 c =
+    let counts-fit = c .before .before .before .before .before .before .before .counts-fit in
+    let if1 = c .before .before .before .before .before .before .if1 in
+    let if2 = c .before .before .before .before .if2 in
+    let bytes-fit = c .before .before .before .bytes-fit in
+    let if3 = c .before .before .if3 in
+    rw (sym (counts-fit .ensures) ∙ not-false (counts-fit .result) (if1 .left), le-leb _ _ (if2 .left), sym (bytes-fit .ensures) ∙ not-false (bytes-fit .result) (if3 .left), sym (c .before .bytes-fit2 .ensures) ∙ not-true (c .before .bytes-fit2 .result) (c .if4 .taken))
 
 -- src/builder.rt:225:12
 add-if5 : tie.Need-add-if5
-add-if5 c = omega (arith, counts-records (c .before .before .before .before .before .before .before .before .args .self .config) (c .before .before .before .before .before .before .before .before .args .self .«expected_entries») (c .before .before .before .before .before .before .before .before .args .self .«bucket_count») (c .before .before .before .before .before .before .before .before .args .self .«filter_words») (sym (c .before .before .before .before .before .before .before .counts-fit .ensures) ∙ not-false (c .before .before .before .before .before .before .before .counts-fit .result) (c .before .before .before .before .before .before .if1 .left)), leb-true (c .before .before .before .before .before .before .before .before .args .self .«logical_key_bytes») (c .before .before .before .before .before .before .before .before .args .self .«inserted_entries» * 2 ^ 30) (sym (c .before .before .before .bytes-fit .ensures) ∙ not-false (c .before .before .before .bytes-fit .result) (c .before .before .if3 .left)), leb-true (c .before .before .before .before .before .before .before .before .args .self .«logical_value_bytes») (c .before .before .before .before .before .before .before .before .args .self .«inserted_entries» * 2 ^ 30) (sym (c .before .bytes-fit2 .ensures) ∙ not-false (c .before .bytes-fit2 .result) (c .if4 .left)))
+add-if5 c =
+    let b = c .before .before .before .before .before .before .before .before .args .self in
+    let counts-fit = c .before .before .before .before .before .before .before .counts-fit in
+    let if1 = c .before .before .before .before .before .before .if1 in
+    let bytes-fit = c .before .before .before .bytes-fit in
+    let if3 = c .before .before .if3 in
+    let bytes-fit2 = c .before .bytes-fit2 in
+    let records = counts-records _ _ _ _ (sym (counts-fit .ensures) ∙ not-false (counts-fit .result) (if1 .left)) in
+    let keys = leb-true (b .«logical_key_bytes») (b .«inserted_entries» * 2 ^ 30) (sym (bytes-fit .ensures) ∙ not-false (bytes-fit .result) (if3 .left)) in
+    let values = leb-true (b .«logical_value_bytes») (b .«inserted_entries» * 2 ^ 30) (sym (bytes-fit2 .ensures) ∙ not-false (bytes-fit2 .result) (c .if4 .left)) in
+    omega (arith, records, keys, values)
 
 -- src/builder.rt:226:13
 returns-5 : tie.Need-returns-5
 unfolding builderFits
-returns-5 c = rw (sym (c .before .before .before .before .before .before .before .before .before .counts-fit .ensures) ∙ not-false (c .before .before .before .before .before .before .before .before .before .counts-fit .result) (c .before .before .before .before .before .before .before .before .if1 .left), le-leb _ _ (c .before .before .before .before .before .before .if2 .left), sym (c .before .before .before .before .before .bytes-fit .ensures) ∙ not-false (c .before .before .before .before .before .bytes-fit .result) (c .before .before .before .before .if3 .left), sym (c .before .before .before .bytes-fit2 .ensures) ∙ not-false (c .before .before .before .bytes-fit2 .result) (c .before .before .if4 .left), lt-leb _ _ (c .if5 .taken))
+returns-5 c =
+    let counts-fit = c .before .before .before .before .before .before .before .before .before .counts-fit in
+    let if1 = c .before .before .before .before .before .before .before .before .if1 in
+    let if2 = c .before .before .before .before .before .before .if2 in
+    let bytes-fit = c .before .before .before .before .before .bytes-fit in
+    let if3 = c .before .before .before .before .if3 in
+    let bytes-fit2 = c .before .before .before .bytes-fit2 in
+    let if4 = c .before .before .if4 in
+    rw (sym (counts-fit .ensures) ∙ not-false (counts-fit .result) (if1 .left), le-leb _ _ (if2 .left), sym (bytes-fit .ensures) ∙ not-false (bytes-fit .result) (if3 .left), sym (bytes-fit2 .ensures) ∙ not-false (bytes-fit2 .result) (if4 .left), lt-leb _ _ (c .if5 .taken))
 
 -- src/builder.rt:228:29
 sub-bytes-fit : tie.Need-sub-bytes-fit
@@ -66,12 +94,24 @@ sub-bytes-fit-2 c = search needs
 
 -- src/builder.rt:228:9
 bytes-fit-requires-3 : tie.Need-bytes-fit-requires-3
-bytes-fit-requires-3 c κs = omega (arith, counts-records (c .before .before .before .before .before .before .before .before .before .before .before .args .self .config) (c .before .before .before .before .before .before .before .before .before .before .before .args .self .«expected_entries») (c .before .before .before .before .before .before .before .before .before .before .before .args .self .«bucket_count») (c .before .before .before .before .before .before .before .before .before .before .before .args .self .«filter_words») (sym (c .before .before .before .before .before .before .before .before .before .before .counts-fit .ensures) ∙ not-false (c .before .before .before .before .before .before .before .before .before .before .counts-fit .result) (c .before .before .before .before .before .before .before .before .before .if1 .left)))
+bytes-fit-requires-3 c κs =
+    let counts-fit = c .before .before .before .before .before .before .before .before .before .before .counts-fit in
+    let if1 = c .before .before .before .before .before .before .before .before .before .if1 in
+    omega (arith, counts-records _ _ _ _ (sym (counts-fit .ensures) ∙ not-false (counts-fit .result) (if1 .left)))
 
 -- src/builder.rt:202:5
 returns-6 : tie.Need-returns-6
 unfolding builderFits
-returns-6 c = rw (sym (c .before .before .before .before .before .before .before .before .before .before .before .counts-fit .ensures) ∙ not-false (c .before .before .before .before .before .before .before .before .before .before .before .counts-fit .result) (c .before .before .before .before .before .before .before .before .before .before .if1 .left), le-leb _ _ (c .before .before .before .before .before .before .before .before .if2 .left), sym (c .before .before .before .before .before .before .before .bytes-fit .ensures) ∙ not-false (c .before .before .before .before .before .before .before .bytes-fit .result) (c .before .before .before .before .before .before .if3 .left), sym (c .before .before .before .before .before .bytes-fit2 .ensures) ∙ not-false (c .before .before .before .before .before .bytes-fit2 .result) (c .before .before .before .before .if4 .left), le-leb _ _ (c .before .before .if5 .left)) (c .bytes-fit3 .ensures)
+returns-6 c =
+    let counts-fit = c .before .before .before .before .before .before .before .before .before .before .before .counts-fit in
+    let if1 = c .before .before .before .before .before .before .before .before .before .before .if1 in
+    let if2 = c .before .before .before .before .before .before .before .before .if2 in
+    let bytes-fit = c .before .before .before .before .before .before .before .bytes-fit in
+    let if3 = c .before .before .before .before .before .before .if3 in
+    let bytes-fit2 = c .before .before .before .before .before .bytes-fit2 in
+    let if4 = c .before .before .before .before .if4 in
+    let if5 = c .before .before .if5 in
+    rw (sym (counts-fit .ensures) ∙ not-false (counts-fit .result) (if1 .left), le-leb _ _ (if2 .left), sym (bytes-fit .ensures) ∙ not-false (bytes-fit .result) (if3 .left), sym (bytes-fit2 .ensures) ∙ not-false (bytes-fit2 .result) (if4 .left), le-leb _ _ (if5 .left)) (c .bytes-fit3 .ensures)
 
 pub fits-spec : {M : Type 1} → statement M
 fits-spec =

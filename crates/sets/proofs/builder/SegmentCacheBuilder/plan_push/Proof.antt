@@ -38,18 +38,30 @@ lifetime-fits-requires c κs = search needs
 -- src/builder.rt:263:13
 returns-3 : tie.Need-returns-3
 unfolding planPush askPush planDeadline
-returns-3 c = rw (sym (c .before .before .before .before .before .areas-hold .ensures) ∙ not-false (c .before .before .before .before .before .areas-hold .result) (c .before .before .before .before .if1 .left), le-leb _ _ (c .before .before .if2 .left), sym (c .before .lifetime-fits .ensures) ∙ not-true (c .before .lifetime-fits .result) (c .if3 .taken))
+returns-3 c =
+    let areas-hold = c .before .before .before .before .before .areas-hold in
+    let if1 = c .before .before .before .before .if1 in
+    let if2 = c .before .before .if2 in
+    rw (sym (areas-hold .ensures) ∙ not-false (areas-hold .result) (if1 .left), le-leb _ _ (if2 .left), sym (c .before .lifetime-fits .ensures) ∙ not-true (c .before .lifetime-fits .result) (c .if3 .taken))
 
 -- src/builder.rt:266:13
 returns-4 : tie.Need-returns-4
 unfolding planPush askPush planDeadline
-returns-4 c = rw (sym (c .before .before .before .before .before .before .before .areas-hold .ensures) ∙ not-false (c .before .before .before .before .before .before .before .areas-hold .result) (c .before .before .before .before .before .before .if1 .left), le-leb _ _ (c .before .before .before .before .if2 .left), sym (c .before .before .before .lifetime-fits .ensures) ∙ not-false (c .before .before .before .lifetime-fits .result) (c .before .before .if3 .left), le-ltb _ _ (c .if4 .taken))
+returns-4 c =
+    let areas-hold = c .before .before .before .before .before .before .before .areas-hold in
+    let if1 = c .before .before .before .before .before .before .if1 in
+    let if2 = c .before .before .before .before .if2 in
+    let lifetime-fits = c .before .before .before .lifetime-fits in
+    let if3 = c .before .before .if3 in
+    rw (sym (areas-hold .ensures) ∙ not-false (areas-hold .result) (if1 .left), le-leb _ _ (if2 .left), sym (lifetime-fits .ensures) ∙ not-false (lifetime-fits .result) (if3 .left), le-ltb _ _ (c .if4 .taken))
 
 -- src/builder.rt:274:13
 slice-aggregate-find-build-slot : tie.Need-slice-aggregate-find-build-slot
 slice-aggregate-find-build-slot c =
     let a = c .before .before .before .before .before .before .before .before .before .before .before .before .before .args in
-    let holds = sym (c .before .before .before .before .before .before .before .before .before .areas-hold .ensures) ∙ not-false (c .before .before .before .before .before .before .before .before .before .areas-hold .result) (c .before .before .before .before .before .before .before .before .if1 .left) in
+    let areas-hold = c .before .before .before .before .before .before .before .before .before .areas-hold in
+    let if1 = c .before .before .before .before .before .before .before .before .if1 in
+    let holds = sym (areas-hold .ensures) ∙ not-false (areas-hold .result) (if1 .left) in
     sym (length-take-le (a .self .filled) (a .arena .now) (builder-areas-asked (a .self) (length (a .index .now)) (length (a .arena .now)) holds .filled-held))
 
 -- src/builder.rt:271:15
@@ -75,19 +87,43 @@ plan-deadline-requires c κs = search needs
 -- src/builder.rt:245:5
 returns-5 : tie.Need-returns-5
 unfolding planPush askPush planDeadline
-returns-5 c = rw (sym (c .before .before .before .before .before .before .before .before .before .before .before .before .areas-hold .ensures) ∙ not-false (c .before .before .before .before .before .before .before .before .before .before .before .before .areas-hold .result) (c .before .before .before .before .before .before .before .before .before .before .before .if1 .left), le-leb _ _ (c .before .before .before .before .before .before .before .before .before .if2 .left), sym (c .before .before .before .before .before .before .before .before .lifetime-fits .ensures) ∙ not-false (c .before .before .before .before .before .before .before .before .lifetime-fits .result) (c .before .before .before .before .before .before .before .if3 .left), lt-ltb _ _ (c .before .before .before .before .before .if4 .left), sym (c .before .before .find-build-slot .ensures) ∙ c .enum-told .given .1)
+returns-5 c =
+    let areas-hold = c .before .before .before .before .before .before .before .before .before .before .before .before .areas-hold in
+    let if1 = c .before .before .before .before .before .before .before .before .before .before .before .if1 in
+    let if2 = c .before .before .before .before .before .before .before .before .before .if2 in
+    let lifetime-fits = c .before .before .before .before .before .before .before .before .lifetime-fits in
+    let if3 = c .before .before .before .before .before .before .before .if3 in
+    let if4 = c .before .before .before .before .before .if4 in
+    let find-build-slot = c .before .before .find-build-slot in
+    rw (sym (areas-hold .ensures) ∙ not-false (areas-hold .result) (if1 .left), le-leb _ _ (if2 .left), sym (lifetime-fits .ensures) ∙ not-false (lifetime-fits .result) (if3 .left), lt-ltb _ _ (if4 .left), sym (find-build-slot .ensures) ∙ c .enum-told .given .1)
 
 -- src/builder.rt:245:5
 returns-6 : tie.Need-returns-6
 unfolding planPush askPush planDeadline
-returns-6 c = rw (sym (c .before .before .before .before .before .before .before .before .before .before .before .before .areas-hold .ensures) ∙ not-false (c .before .before .before .before .before .before .before .before .before .before .before .before .areas-hold .result) (c .before .before .before .before .before .before .before .before .before .before .before .if1 .left), le-leb _ _ (c .before .before .before .before .before .before .before .before .before .if2 .left), sym (c .before .before .before .before .before .before .before .before .lifetime-fits .ensures) ∙ not-false (c .before .before .before .before .before .before .before .before .lifetime-fits .result) (c .before .before .before .before .before .before .before .if3 .left), lt-ltb _ _ (c .before .before .before .before .before .if4 .left), sym (c .before .before .find-build-slot .ensures) ∙ c .enum-told2 .given .1)
+returns-6 c =
+    let areas-hold = c .before .before .before .before .before .before .before .before .before .before .before .before .areas-hold in
+    let if1 = c .before .before .before .before .before .before .before .before .before .before .before .if1 in
+    let if2 = c .before .before .before .before .before .before .before .before .before .if2 in
+    let lifetime-fits = c .before .before .before .before .before .before .before .before .lifetime-fits in
+    let if3 = c .before .before .before .before .before .before .before .if3 in
+    let if4 = c .before .before .before .before .before .if4 in
+    let find-build-slot = c .before .before .find-build-slot in
+    rw (sym (areas-hold .ensures) ∙ not-false (areas-hold .result) (if1 .left), le-leb _ _ (if2 .left), sym (lifetime-fits .ensures) ∙ not-false (lifetime-fits .result) (if3 .left), lt-ltb _ _ (if4 .left), sym (find-build-slot .ensures) ∙ c .enum-told2 .given .1)
 
 -- src/builder.rt:245:5
 returns-7 : tie.Need-returns-7
 unfolding planPush askPush planDeadline
 returns-7 c =
     let a = c .before .before .before .before .before .before .before .before .before .before .before .before .before .before .before .before .before .before .args in
-    rw (sym (c .before .before .before .before .before .before .before .before .before .before .before .before .before .before .areas-hold .ensures) ∙ not-false (c .before .before .before .before .before .before .before .before .before .before .before .before .before .before .areas-hold .result) (c .before .before .before .before .before .before .before .before .before .before .before .before .before .if1 .left), le-leb _ _ (c .before .before .before .before .before .before .before .before .before .before .before .if2 .left), sym (c .before .before .before .before .before .before .before .before .before .before .lifetime-fits .ensures) ∙ not-false (c .before .before .before .before .before .before .before .before .before .before .lifetime-fits .result) (c .before .before .before .before .before .before .before .before .before .if3 .left), lt-ltb _ _ (c .before .before .before .before .before .before .before .if4 .left), sym (c .before .before .before .before .find-build-slot .ensures) ∙ c .before .before .slot .given .1)
+    let areas-hold = c .before .before .before .before .before .before .before .before .before .before .before .before .before .before .areas-hold in
+    let if1 = c .before .before .before .before .before .before .before .before .before .before .before .before .before .if1 in
+    let if2 = c .before .before .before .before .before .before .before .before .before .before .before .if2 in
+    let lifetime-fits = c .before .before .before .before .before .before .before .before .before .before .lifetime-fits in
+    let if3 = c .before .before .before .before .before .before .before .before .before .if3 in
+    let if4 = c .before .before .before .before .before .before .before .if4 in
+    let find-build-slot = c .before .before .before .before .find-build-slot in
+    let slot = c .before .before .slot in
+    rw (sym (areas-hold .ensures) ∙ not-false (areas-hold .result) (if1 .left), le-leb _ _ (if2 .left), sym (lifetime-fits .ensures) ∙ not-false (lifetime-fits .result) (if3 .left), lt-ltb _ _ (if4 .left), sym (find-build-slot .ensures) ∙ slot .given .1)
     (c .plan-deadline .ensures ∙ sym (decided-own (deadlineFor (a .self .config) (a .ttl) .number) _ _))
 
 pub plan-push-spec : {M : Type 1} → statement M

@@ -84,7 +84,8 @@ grown-requires c κs =
     let a = c .before .before .before .before .before .before .before .before .before .before .before .before .before .before .before .before .before .before .before .args in
     let w = c .before .before .before .before .before .before .before .before .before .before .before .append-record in
     let bytes = recordBytes (a .self .config .expiry) (a .key .now) (a .value .now) (a .expires-at) in
-    let q = append-in bytes (rest (a .self .filled) (a .arena .now)) (w .last .0) (c .before .before .before .before .before .before .before .written .given .0 .0) (ap (λ (r : WriteAnswer). writeResult r (w .last .0)) (sym (c .before .before .before .before .before .before .before .written .given .1)) ∙ w .ensures) in
+    let written = c .before .before .before .before .before .before .before .written in
+    let q = append-in bytes (rest (a .self .filled) (a .arena .now)) (w .last .0) (written .given .0 .0) (ap (λ (r : WriteAnswer). writeResult r (w .last .0)) (sym (written .given .1)) ∙ w .ensures) in
     let s = size-is (a .self .config .expiry) (a .key .now) (a .value .now) (a .expires-at) in
     omega (arith, q .0, q .1, s, size-holds (a .self .config .expiry) (length (a .key .now)) (length (a .value .now)), rest-length (a .self .filled) (a .arena .now))
 
@@ -106,8 +107,10 @@ returns-2 c =
     let a = c .before .before .before .before .before .before .before .before .before .before .before .before .before .before .before .before .before .before .before .before .args in
     let w = c .before .before .before .before .before .before .before .before .before .before .before .before .append-record in
     let bytes = recordBytes (a .self .config .expiry) (a .key .now) (a .value .now) (a .expires-at) in
-    let q = append-in bytes (rest (a .self .filled) (a .arena .now)) (w .last .0) (c .before .before .before .before .before .before .before .before .written .given .0 .0) (ap (λ (r : WriteAnswer). writeResult r (w .last .0)) (sym (c .before .before .before .before .before .before .before .before .written .given .1)) ∙ w .ensures) in
-    push-made (a .slot) (a .expires-at) (a .self) (a .hash) (a .key .now) (a .value .now) (a .index .now) (a .filter .now) (a .arena .now) (w .last .0) (c .before .before .before .before .before .before .before .before .before .before .before .before .before .before .before .before .before .before .before .before .pre .0) _ (c .grown .result) _ _ (q .0) (q .1) (q .2)
+    let written = c .before .before .before .before .before .before .before .before .written in
+    let q = append-in bytes (rest (a .self .filled) (a .arena .now)) (w .last .0) (written .given .0 .0) (ap (λ (r : WriteAnswer). writeResult r (w .last .0)) (sym (written .given .1)) ∙ w .ensures) in
+    let pre = c .before .before .before .before .before .before .before .before .before .before .before .before .before .before .before .before .before .before .before .before .pre in
+    push-made (a .slot) (a .expires-at) (a .self) (a .hash) (a .key .now) (a .value .now) (a .index .now) (a .filter .now) (a .arena .now) (w .last .0) (pre .0) _ (c .grown .result) _ _ (q .0) (q .1) (q .2)
     (c .grown .ensures) (c .before .before .before .before .before .encode-index-word .ensures ∙ ap (λ (t : ℕ). wordOf t (a .self .filled)) (c .before .before .before .before .before .before .hash-tag .ensures)) (c .before .before .before .mark-displaced .ensures)
 
 pub push-at-spec : {M : Type 1} → statement M

@@ -46,7 +46,9 @@ opened-builder-requires c κs =
 mul-clear-words : tie.Need-mul-clear-words
 mul-clear-words c =
     let a = c .before .before .before .before .before .before .before .before .before .before .before .args in
-    let q = open-asked (a .config) (a .entry-count) (length (a .index .now)) (length (a .filter .now)) (length (a .starts .now)) (length (a .lengths .now)) (length (a .arena .now)) (sym (c .before .before .before .before .before .check-open .ensures) ∙ ap checkNumber (c .before .before .before .enum-told .given .1)) in
+    let check-open = c .before .before .before .before .before .check-open in
+    let enum-told = c .before .before .before .enum-told in
+    let q = open-asked (a .config) (a .entry-count) (length (a .index .now)) (length (a .filter .now)) (length (a .starts .now)) (length (a .lengths .now)) (length (a .arena .now)) (sym (check-open .ensures) ∙ ap checkNumber (enum-told .given .1)) in
     let n : c .before .before .opened-builder .result .«bucket_count» ≡ bucketsIn (a .config) (a .entry-count) = ap (λ (b : SegmentCacheBuilder). b .«bucket_count») (c .before .before .opened-builder .ensures) in
     omega (arith, n, q .index-holds, c .before .before .before .before .before .before .before .before .before .before .before .good .1 .1 .0 .1)
 
@@ -71,7 +73,12 @@ returns-2 : tie.Need-returns-2
 unfolding afterOpen
 returns-2 c =
     let a = c .before .before .before .before .before .before .before .before .before .before .before .before .before .before .before .before .before .before .args in
-    rw (sym (c .before .before .before .before .before .before .before .before .before .before .before .before .check-open .ensures) ∙ ap checkNumber (c .before .before .before .before .before .before .before .before .before .before .enum-told .given .1)) (open-left (a .config) (a .entry-count) (a .index .now) (a .filter .now) _ _ _ (c .before .before .before .before .before .before .before .before .before .opened-builder .ensures) (c .before .before .before .before .before .before .clear-words .ensures) (c .before .before .clear-words2 .ensures))
+    let check-open = c .before .before .before .before .before .before .before .before .before .before .before .before .check-open in
+    let enum-told = c .before .before .before .before .before .before .before .before .before .before .enum-told in
+    let opened-builder = c .before .before .before .before .before .before .before .before .before .opened-builder in
+    let clear-words = c .before .before .before .before .before .before .clear-words in
+    let clear-words2 = c .before .before .clear-words2 in
+    rw (sym (check-open .ensures) ∙ ap checkNumber (enum-told .given .1)) (open-left (a .config) (a .entry-count) (a .index .now) (a .filter .now) _ _ _ (opened-builder .ensures) (clear-words .ensures) (clear-words2 .ensures))
 
 pub try-new-spec : {M : Type 1} → statement M
 try-new-spec =

@@ -42,7 +42,9 @@ unfolding areasHoldSet
 returns-3 c =
     let a = c .before .before .before .before .before .before .args in
     let long : 8 * a .self .buckets ≤ a .index-len = omega (arith, c .before .before .if2 .left) in
-    rw (sym (c .before .before .before .before .before .fits2 .ensures) ∙ not-false (c .before .before .before .before .before .fits2 .result) (c .before .before .before .before .if1 .left), le-leb _ _ long, sym (c .before .segment-areas-hold .ensures) ∙ not-true (c .before .segment-areas-hold .result) (c .if3 .taken))
+    let fits2 = c .before .before .before .before .before .fits2 in
+    let if1 = c .before .before .before .before .if1 in
+    rw (sym (fits2 .ensures) ∙ not-false (fits2 .result) (if1 .left), le-leb _ _ long, sym (c .before .segment-areas-hold .ensures) ∙ not-true (c .before .segment-areas-hold .result) (c .if3 .taken))
 
 -- src/cache.rt:322:9
 arena-holds-requires : tie.Need-arena-holds-requires
@@ -54,7 +56,10 @@ unfolding areasHoldSet
 returns-4 c =
     let a = c .before .before .before .before .before .before .before .args in
     let long : 8 * a .self .buckets ≤ a .index-len = omega (arith, c .before .before .before .if2 .left) in
-    rw (sym (c .before .before .before .before .before .before .fits2 .ensures) ∙ not-false (c .before .before .before .before .before .before .fits2 .result) (c .before .before .before .before .before .if1 .left), le-leb _ _ long, sym (c .before .before .segment-areas-hold .ensures) ∙ not-false (c .before .before .segment-areas-hold .result) (c .before .if3 .left)) (c .arena-holds .ensures)
+    let fits2 = c .before .before .before .before .before .before .fits2 in
+    let if1 = c .before .before .before .before .before .if1 in
+    let segment-areas-hold = c .before .before .segment-areas-hold in
+    rw (sym (fits2 .ensures) ∙ not-false (fits2 .result) (if1 .left), le-leb _ _ long, sym (segment-areas-hold .ensures) ∙ not-false (segment-areas-hold .result) (c .before .if3 .left)) (c .arena-holds .ensures)
 
 pub areas-hold-spec : {M : Type 1} → statement M
 areas-hold-spec =

@@ -48,16 +48,26 @@ returns-3 : tie.Need-returns-3
 unfolding lookupIn
 returns-3 c =
     let a = c .before .before .before .before .before .before .before .before .before .before .before .before .before .before .args in
-    let r = ap (λ (v : SegmentView). findIn v (a .self .config .«packed_bucket_index») (a .index .now) (a .self .buckets) (a .filter .now) (a .self .«filter_words») (a .starts .now) (a .lengths .now) (a .arena .now) (a .key .now) (a .hash)) (sym (c .before .before .before .view .ensures)) in
-    rw (sym (c .before .before .before .before .before .before .before .areas-hold .ensures) ∙ not-false (c .before .before .before .before .before .before .before .areas-hold .result) (c .before .before .before .before .before .before .if1 .left), le-leb _ _ (c .before .before .before .before .if2 .left), r ∙ sym (c .before .before .find-record .ensures) ∙ c .enum-told .given .1)
+    let view = c .before .before .before .view in
+    let r = ap (λ (v : SegmentView). findIn v (a .self .config .«packed_bucket_index») (a .index .now) (a .self .buckets) (a .filter .now) (a .self .«filter_words») (a .starts .now) (a .lengths .now) (a .arena .now) (a .key .now) (a .hash)) (sym (view .ensures)) in
+    let areas-hold = c .before .before .before .before .before .before .before .areas-hold in
+    let if1 = c .before .before .before .before .before .before .if1 in
+    let if2 = c .before .before .before .before .if2 in
+    let find-record = c .before .before .find-record in
+    rw (sym (areas-hold .ensures) ∙ not-false (areas-hold .result) (if1 .left), le-leb _ _ (if2 .left), r ∙ sym (find-record .ensures) ∙ c .enum-told .given .1)
 
 -- src/cache.rt:231:5
 returns-4 : tie.Need-returns-4
 unfolding lookupIn
 returns-4 c =
     let a = c .before .before .before .before .before .before .before .before .before .before .before .before .before .before .before .args in
-    let r = ap (λ (v : SegmentView). findIn v (a .self .config .«packed_bucket_index») (a .index .now) (a .self .buckets) (a .filter .now) (a .self .«filter_words») (a .starts .now) (a .lengths .now) (a .arena .now) (a .key .now) (a .hash)) (sym (c .before .before .before .before .view .ensures)) in
-    rw (sym (c .before .before .before .before .before .before .before .before .areas-hold .ensures) ∙ not-false (c .before .before .before .before .before .before .before .before .areas-hold .result) (c .before .before .before .before .before .before .before .if1 .left), le-leb _ _ (c .before .before .before .before .before .if2 .left), r ∙ sym (c .before .before .before .find-record .ensures) ∙ c .before .answer .given .1)
+    let view = c .before .before .before .before .view in
+    let r = ap (λ (v : SegmentView). findIn v (a .self .config .«packed_bucket_index») (a .index .now) (a .self .buckets) (a .filter .now) (a .self .«filter_words») (a .starts .now) (a .lengths .now) (a .arena .now) (a .key .now) (a .hash)) (sym (view .ensures)) in
+    let areas-hold = c .before .before .before .before .before .before .before .before .areas-hold in
+    let if1 = c .before .before .before .before .before .before .before .if1 in
+    let if2 = c .before .before .before .before .before .if2 in
+    let find-record = c .before .before .before .find-record in
+    rw (sym (areas-hold .ensures) ∙ not-false (areas-hold .result) (if1 .left), le-leb _ _ (if2 .left), r ∙ sym (find-record .ensures) ∙ c .before .answer .given .1)
 
 pub find-spec : {M : Type 1} → statement M
 find-spec =

@@ -32,7 +32,10 @@ enum-known-found c = search needs
 mark-live-requires : tie.Need-mark-live-requires
 mark-live-requires c κs =
     let a = c .before .before .before .before .before .before .before .before .before .before .before .before .args in
-    lookup-slot (a .self) (a .hash) (a .key .now) (a .index .now) (a .filter .now) (a .starts .now) (a .lengths .now) (a .arena .now) (c .before .before .found .given .0 .0) (c .before .before .before .before .before .before .before .before .before .before .before .before .fits .hash .fits) (sym (c .before .before .before .before .find .ensures) ∙ c .before .before .found .given .1)
+    let fits = c .before .before .before .before .before .before .before .before .before .before .before .before .fits in
+    let find = c .before .before .before .before .find in
+    let found = c .before .before .found in
+    lookup-slot (a .self) (a .hash) (a .key .now) (a .index .now) (a .filter .now) (a .starts .now) (a .lengths .now) (a .arena .now) (found .given .0 .0) (fits .hash .fits) (sym (find .ensures) ∙ found .given .1)
 
 -- src/cache.rt:109:17
 live-value-requires : tie.Need-live-value-requires

@@ -63,7 +63,11 @@ unfolding walkAnswer
 returns-3 c =
     let a = c .before .before .before .before .before .before .before .before .before .before .before .before .args in
     let r = ap (λ (v : SegmentView). nextEntry (recordIn v (a .arena .now) (a .starts .now) (a .lengths .now)) (a .self .config .«packed_bucket_index») (a .self .buckets) (a .index .now) (a .from)) (sym (c .before .before .before .before .before .view .ensures)) in
-    rw (sym (c .before .before .before .before .before .before .before .areas-hold .ensures) ∙ not-false (c .before .before .before .before .before .before .before .areas-hold .result) (c .before .before .before .before .before .before .if1 .left), r ∙ sym (c .before .before .before .before .next-entry .ensures) ∙ c .before .before .next .given .1, c .base-record .ensures)
+    let areas-hold = c .before .before .before .before .before .before .before .areas-hold in
+    let if1 = c .before .before .before .before .before .before .if1 in
+    let next-entry = c .before .before .before .before .next-entry in
+    let next = c .before .before .next in
+    rw (sym (areas-hold .ensures) ∙ not-false (areas-hold .result) (if1 .left), r ∙ sym (next-entry .ensures) ∙ next .given .1, c .base-record .ensures)
 
 pub next-physical-entry-at-tick-spec : {M : Type 1} → statement M
 next-physical-entry-at-tick-spec =

@@ -57,7 +57,11 @@ add-t8 c =
 -- src/cache.rt:212:5
 returns-2 : tie.Need-returns-2
 unfolding statsAnswer
-returns-2 c = rw (sym (c .before .before .before .before .fits2 .ensures) ∙ not-false (c .before .before .before .before .fits2 .result) (c .before .before .before .if1 .left)) (ap (λ (n : SegmentCacheStats). accept n) (stats-made (c .before .before .before .before .before .args .self)))
+returns-2 c =
+    let a = c .before .before .before .before .before .args in
+    let fits2 = c .before .before .before .before .fits2 in
+    let if1 = c .before .before .before .if1 in
+    rw (sym (fits2 .ensures) ∙ not-false (fits2 .result) (if1 .left)) (ap (λ (n : SegmentCacheStats). accept n) (stats-made (a .self)))
 
 pub stats-spec : {M : Type 1} → statement M
 stats-spec = tie.close (tie.spec fits-requires returns mul-t5 mul-t6 mul-t7 add-t8 returns-2)

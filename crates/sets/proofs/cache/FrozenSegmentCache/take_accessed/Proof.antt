@@ -33,7 +33,10 @@ enum-known-found c = search needs
 clear-accessed-requires : tie.Need-clear-accessed-requires
 clear-accessed-requires c κs =
     let a = c .before .before .before .before .before .before .before .before .before .before .before .before .args in
-    lookup-slot (a .self) (a .hash) (a .key .now) (a .index .now) (a .filter .now) (a .starts .now) (a .lengths .now) (a .arena .now) (c .before .before .found .given .0 .0) (c .before .before .before .before .before .before .before .before .before .before .before .before .fits .hash .fits) (sym (c .before .before .before .before .find .ensures) ∙ c .before .before .found .given .1)
+    let fits = c .before .before .before .before .before .before .before .before .before .before .before .before .fits in
+    let find = c .before .before .before .before .find in
+    let found = c .before .before .found in
+    lookup-slot (a .self) (a .hash) (a .key .now) (a .index .now) (a .filter .now) (a .starts .now) (a .lengths .now) (a .arena .now) (found .given .0 .0) (fits .hash .fits) (sym (find .ensures) ∙ found .given .1)
 
 -- src/cache.rt:136:5
 same-length : tie.Need-same-length
@@ -60,7 +63,11 @@ same-length-3 c = search needs
 -- src/cache.rt:136:5
 returns-3 : tie.Need-returns-3
 unfolding afterTake
-returns-3 c = rw (sym (c .before .before .before .before .before .before .before .find .ensures) ∙ c .before .before .before .before .before .found .given .1) (taken (ap (λ (x : Bool). accept x) (c .before .before .clear-accessed .ensures .0)) (c .before .before .clear-accessed .ensures .1))
+returns-3 c =
+    let find = c .before .before .before .before .before .before .before .find in
+    let found = c .before .before .before .before .before .found in
+    let clear-accessed = c .before .before .clear-accessed in
+    rw (sym (find .ensures) ∙ found .given .1) (taken (ap (λ (x : Bool). accept x) (clear-accessed .ensures .0)) (clear-accessed .ensures .1))
 
 pub take-accessed-spec : {M : Type 1} → statement M
 take-accessed-spec =
