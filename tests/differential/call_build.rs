@@ -20,7 +20,13 @@ pub struct Build {
     pub world: World,
     // The areas before open: what is never written has this content.
     plain: World,
+    // So many comparisons were asked for.
+    asked: usize,
 }
+
+// Arenas of fewer bytes are compared whole after every call; longer ones at times, since what was
+// written stays there.
+const SMALL: usize = 2_000_000;
 
 pub fn setting_words(setting: Setting) -> [u64; 6] {
     let tick = setting.tick.unwrap_or_default();
@@ -125,24 +131,32 @@ impl Build {
         let refusal = by(&mut world, &Ask::Open { records }, 0);
         let wanted = rust.as_ref().map_or_else(|&refusal| refusal, |_| 0);
         group.rust("open", refusal, wanted, || about.to_string());
-        let build = Build {
+        let mut build = Build {
             by,
             about: about.to_string(),
             setting,
             builder: rust.ok()?,
             world,
             plain,
+            asked: 0,
         };
         build.compare(group, "open", || about.to_string());
         (refusal == 0).then_some(build)
     }
 
     // Builder, index, filter and arena as the Rust has them, and all else as it was.
-    fn compare(&self, group: &mut Group, call: &str, input: impl Fn() -> String) {
+    fn compare(&mut self, group: &mut Group, call: &str, input: impl Fn() -> String) {
+        self.asked += 1;
         let (world, plain, builder) = (&self.world, &self.plain, &self.builder);
         let about = || format!("{call}, {}, {}", self.about, input());
         let state = [&setting_words(self.setting)[..], &builder.counts()].concat();
         group.area("builder", &world.builder, &state, about);
+        let (records, filled) = (builder.records(), builder.records().len());
+        if world.arena.len() > SMALL && self.asked % (world.arena.len() / 16_384) > 0 {
+            let last = filled.saturating_sub(600);
+            group.area("arena", &world.arena[last..filled], &records[last..], about);
+            return;
+        }
         let slots = builder.index().len();
         group.area("index", &world.index[..slots], builder.index(), about);
         group.area("index", &world.index[slots..], &plain.index[slots..], about);
@@ -151,7 +165,6 @@ impl Build {
         group.area("filter", &world.filter[..words], filter, about);
         let rest = (&world.filter[words..], &plain.filter[words..]);
         group.area("filter", rest.0, rest.1, about);
-        let (records, filled) = (builder.records(), builder.records().len());
         group.area("arena", &world.arena[..filled], records, about);
         let rest = (&world.arena[filled..], &plain.arena[filled..]);
         group.area("arena", rest.0, rest.1, about);

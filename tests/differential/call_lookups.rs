@@ -16,12 +16,14 @@ pub struct Finished {
     plain: World,
     pub set: Set,
     // So many calls were asked.
-    asked: u64,
+    asked: usize,
 }
 
 // Areas that a call can't write are compared after each call in small sets, else at times: what
-// was written there stays.
+// was written there stays. So is an index of many words.
 const SMALL: usize = 70_000;
+
+const FEW_WORDS: usize = 50_000;
 
 impl Finished {
     pub fn new(by: By, about: String, world: World, set: Set) -> Finished {
@@ -45,13 +47,16 @@ impl Finished {
         group.rust(name, refusal, 0, input);
         group.area(name, &world.out[..asked], wanted, input);
         let words = self.set.shown();
-        group.area("index", &world.index[..words.len()], words, input);
+        if words.len() < FEW_WORDS || self.asked % (words.len() / 256) == 0 {
+            group.area("index", &world.index[..words.len()], words, input);
+        }
         let same = world.out[asked..].iter().all(|&word| word == UNSET)
             && world.index[words.len()..] == plain.index[words.len()..]
             && world.set == plain.set
             && world.builder == plain.builder;
         group.rust("words past the answer and the index", same, true, input);
-        if world.arena.len() < SMALL || self.asked % 64 == 0 {
+        let bytes = world.arena.len();
+        if bytes < SMALL || self.asked % (bytes / 1_024) == 0 {
             self.rest(group, name);
         }
     }
@@ -164,6 +169,9 @@ impl Finished {
     }
 
     pub fn end(&self, group: &mut Group) {
+        let words = self.set.shown();
+        let index = &self.world.index[..words.len()];
+        group.area("index", index, words, || format!("{}, end", self.about));
         self.rest(group, "after all lookups");
     }
 }

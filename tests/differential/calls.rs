@@ -57,7 +57,7 @@ fn settings() -> Vec<Setting> {
 pub fn calls(group: &mut Group, random: u64) {
     let mut rng = Rng::new(31 + SEGMENT_TARGET as u64);
     let (settings, long) = (settings(), crate::long(random));
-    let rounds = if long { 4 } else { 1 };
+    let rounds = if long { 3 } else { 1 };
     let mut spreads = SPREADS.iter().cycle();
     for count in FEW {
         for (i, &setting) in (0..rounds * settings.len()).zip(settings.iter().cycle()) {
@@ -90,15 +90,11 @@ pub fn calls(group: &mut Group, random: u64) {
         }
     }
     if long {
-        for (i, &setting) in settings.iter().enumerate().filter(|(i, _)| i % 3 == 0) {
-            one(
-                group,
-                &mut rng,
-                port,
-                &SPREADS[0],
-                65_535 + i / 3 % 3,
-                setting,
-            );
+        for (i, &setting) in settings.iter().step_by(23).enumerate() {
+            one(group, &mut rng, port, &SPREADS[0], 65_535 + i % 3, setting);
+        }
+        for setting in [settings[7], settings[279]] {
+            one(group, &mut rng, port, &SPREADS[0], 1_048_576, setting);
         }
     }
     for full in [1, 2, 254, 255, 256] {
