@@ -2,7 +2,7 @@
 -- Assumes nothing.
 use mathlib.Core.Path.{_≡_, refl, ap}
 use mathlib.Core.Bool.{Bool, true, false}
-use mathlib.Core.List.{List}
+use mathlib.Core.List.{List, []}
 use Prim.Native.Nat.{ℕ, _≤_, _-_, _^_}
 use borrow.Author.Tests.{le-leb}
 use Rattle.hash_parts.specs.declared.setting.SegmentCacheConfig.{SegmentCacheConfig}
@@ -11,7 +11,7 @@ use Rattle.hash_parts.specs.declared.setting.SegmentExpiry.the-variants.{None, 
 use Rattle.sets.specs.declared.builder.SegmentCacheBuilder.{SegmentCacheBuilder}
 use Rattle.sets.specs.declared.cache.FrozenSegmentCache.{FrozenSegmentCache}
 use Rattle.sets.specs.declared.stats.SegmentCacheStats.{SegmentCacheStats}
-use Rattle.capi.specs.Words.{builderFrom, builderIn, builderWords, setFrom, setIn, setWords, settingBefore, settingForm, settingIn, statsIn, statsWords, tickNanos}
+use Rattle.capi.specs.Words.{builderFrom, builderIn, builderWords, setFrom, setIn, setWords, settingAlone, settingBefore, settingForm, settingIn, statsIn, statsWords, tickNanos}
 use Rattle.capi.specs.declared.words.LoadedBuilder.the-variants as builder
 use Rattle.capi.specs.declared.words.LoadedSet.the-variants as set
 use Rattle.capi.specs.declared.words.LoadedSetting.{LoadedSetting}
@@ -34,6 +34,12 @@ parts-back (Relative16 tick) occupied false bits rest h i j = rw (le-leb (tick .
 pub setting-back : (c : SegmentCacheConfig) (rest : List ℕ) → tickNanos (c .expiry) ≤ 2 ^ 32 - 1 → c .«target_occupied_slots» ≤ 255 → c .«negative_filter_bits_per_entry» ≤ 255
     → settingIn (settingBefore c rest) ≡ setting.Is c
 setting-back c rest h i j = parts-back (c .expiry) (c .«target_occupied_slots») (c .«packed_bucket_index») (c .«negative_filter_bits_per_entry») rest h i j
+
+-- a setting by itself
+pub alone-back : (c : SegmentCacheConfig) → tickNanos (c .expiry) ≤ 2 ^ 32 - 1 → c .«target_occupied_slots» ≤ 255 → c .«negative_filter_bits_per_entry» ≤ 255
+    → settingAlone (settingBefore c []) ≡ setting.Is c
+unfolding settingAlone
+alone-back c h i j = setting-back c [] h i j
 
 pub builder-back : (b : SegmentCacheBuilder) → tickNanos (b .config .expiry) ≤ 2 ^ 32 - 1 → b .config .«target_occupied_slots» ≤ 255 → b .config .«negative_filter_bits_per_entry» ≤ 255
     → builderIn (builderWords b) ≡ builder.Is b

@@ -68,7 +68,7 @@ told number words = record { number = number; words = words }
 
 -- ---- open
 
--- the builder's words after a call that makes a builder; "Refused: the builder words stay"
+-- the builder's words after a call that makes a builder; a refusal leaves them as they were
 abbrev pub stateTold : Reply SegmentCacheBuilder (Unit {0}) → List ℕ → Told
 stateTold (accept b) old = told 0 (builderWords b)
 stateTold (refuse n u) old = told n old
@@ -271,7 +271,7 @@ statsTold (refuse n u) old = told n old
 unfoldable pub exportedStats : List ℕ → List ℕ → Told
 exportedStats w old = pick (eqb (length old) 8) (onSet (setIn w) (λ s. statsTold (statsAnswer s) old) (told 11 old)) (told 11 old)
 
--- "Sums of free numbers wrap at 64 bits"
+-- sums of free numbers wrap at 64 bits
 abbrev pub retainedIn : SegmentCacheStats → ℕ
 retainedIn s = (s .«index_bytes» + s .«record_bytes») % 2 ^ 64
 
