@@ -74,6 +74,19 @@ pub fn calls(group: &mut Group, random: u64) {
             );
         }
     }
+    large_sets(group, &mut rng, &settings, long);
+    for full in [1, 2, 254, 255, 256] {
+        full_segments(group, &mut rng, full);
+    }
+    for setting in settings {
+        for count in [2, 9, 20] {
+            damaged_builds(group, &mut rng, setting, count);
+        }
+    }
+}
+
+fn large_sets(group: &mut Group, rng: &mut Rng, settings: &[Setting], long: bool) {
+    let mut spreads = SPREADS.iter().cycle();
     // A step that has no factor with the parts of a setting reaches all their values.
     for (count, step) in MANY {
         let step = if long { 3 } else { step };
@@ -81,7 +94,7 @@ pub fn calls(group: &mut Group, random: u64) {
             let spread = spreads.find(|spread| !spread.crowded || long && count < 1_000);
             one(
                 group,
-                &mut rng,
+                rng,
                 port,
                 spread.unwrap_or(&SPREADS[0]),
                 count,
@@ -91,18 +104,10 @@ pub fn calls(group: &mut Group, random: u64) {
     }
     if long {
         for (i, &setting) in settings.iter().step_by(23).enumerate() {
-            one(group, &mut rng, port, &SPREADS[0], 65_535 + i % 3, setting);
+            one(group, rng, port, &SPREADS[0], 65_535 + i % 3, setting);
         }
         for setting in [settings[7], settings[279]] {
-            one(group, &mut rng, port, &SPREADS[0], 1_048_576, setting);
-        }
-    }
-    for full in [1, 2, 254, 255, 256] {
-        full_segments(group, &mut rng, full);
-    }
-    for setting in settings {
-        for count in [2, 9, 20] {
-            damaged_builds(group, &mut rng, setting, count);
+            one(group, rng, port, &SPREADS[0], 1_048_576, setting);
         }
     }
 }

@@ -231,22 +231,27 @@ fn largest_arena(group: &mut Group) {
         );
         group.rule("open", found, number, || format!("arena of {size}"));
         group.area("builder", &ours, &wanted, || format!("arena of {size}"));
-        // One bucket, one segment of no bytes, nothing in it.
-        let set = [0, 0, 0, 7, 1, 0, 0, 1, 0, 1, 0, 0, 0, 0, 0];
-        let mut span = [0; 3];
-        let found = port_sets::get(
-            &set,
-            1,
-            b"key",
-            0,
-            &mut [0; 8],
-            &[],
-            &areas,
-            &areas,
-            lent,
-            &mut span,
-        );
-        let number = if size == 1 << 30 { 0 } else { 11 };
-        group.rule("get", found, number, || format!("arena of {size}"));
+        largest_of_set(group, lent);
     }
+}
+
+fn largest_of_set(group: &mut Group, lent: &[u8]) {
+    let areas = [0; 256];
+    // One bucket, one segment of no bytes, nothing in it.
+    let set = [0, 0, 0, 7, 1, 0, 0, 1, 0, 1, 0, 0, 0, 0, 0];
+    let mut span = [0; 3];
+    let found = crate::port_sets::get(
+        &set,
+        1,
+        b"key",
+        0,
+        &mut [0; 8],
+        &[],
+        &areas,
+        &areas,
+        lent,
+        &mut span,
+    );
+    let number = if lent.len() == 1 << 30 { 0 } else { 11 };
+    group.rule("get", found, number, || format!("arena of {}", lent.len()));
 }

@@ -76,6 +76,16 @@ fn main() -> ExitCode {
     run.group("segments, large target", large::segments::split);
     run.group("segments, small target", small::segments::split);
     run.group("packed index", packed_index::packing);
+    sets(&mut run);
+    if run.end() {
+        ExitCode::SUCCESS
+    } else {
+        ExitCode::FAILURE
+    }
+}
+
+// Whole sets, call by call of the lower crates and by the public calls.
+fn sets(run: &mut Run) {
     run.group("forged lookups", forged_finds::finds);
     run.group("sets, large target", large::sets::sets);
     run.group("sets, small target", small::sets::sets);
@@ -86,11 +96,6 @@ fn main() -> ExitCode {
     run.group("orders of questions, lists of calls", call_orders::orders);
     run.group("forged states and areas", forged_states::states);
     run.group("forged words, records and segments", forged_calls::calls);
-    if run.end() {
-        ExitCode::SUCCESS
-    } else {
-        ExitCode::FAILURE
-    }
 }
 
 // The two builds are what they should be: the segment target of each, and the stub for the hash.

@@ -164,21 +164,17 @@ pub fn push(
     arena: &mut [u8],
     place: &mut [u64],
 ) -> u64 {
-    let lifetime_form = lifetime.is_empty() || lifetime.len() == 2;
-    let Some(given) = state(builder, BUILDER_WORDS).filter(|_| lifetime_form && place.len() == 2)
-    else {
+    let form = (lifetime.is_empty() || lifetime.len() == 2) && place.len() == 2;
+    let Some(given) = state(builder, BUILDER_WORDS).filter(|_| form) else {
         return FORM;
     };
     let (buckets, words, filled) = (given.numbers[2], given.numbers[3], given.numbers[4]);
-    if !given.builder_passes()
-        || !holds(index, 8 * u128::from(buckets))
-        || !holds(filter, words.into())
-        || !arena_passes(arena, filled)
-    {
+    let fit = holds(index, 8 * u128::from(buckets)) && holds(filter, words.into());
+    if !given.builder_passes() || !fit || !arena_passes(arena, filled) {
         return STATE;
     }
-    let pushed = asked_push(&given, hash, key, value, lifetime, index, arena);
-    let (slot, bytes) = match pushed {
+    let asked = asked_push(&given, hash, key, value, lifetime, index, arena);
+    let (slot, bytes) = match asked {
         Ok(pushed) => pushed,
         Err(refusal) => return refusal,
     };
@@ -189,10 +185,10 @@ pub fn push(
     }
     arena[filled as usize..][..bytes.len()].copy_from_slice(&bytes);
     place.copy_from_slice(&[slot as u64, filled]);
-    builder[7] += 1;
-    builder[10] += bytes.len() as u64;
-    builder[11] += key.len() as u64;
-    builder[12] += value.len() as u64;
+    let more = [1, 0, 0, bytes.len(), key.len(), value.len()];
+    for (word, more) in builder[7..].iter_mut().zip(more) {
+        *word += more as u64;
+    }
     0
 }
 
@@ -238,8 +234,7 @@ pub fn finish(
     let Some(given) = state(builder, BUILDER_WORDS).filter(|_| set.len() == SET_WORDS) else {
         return FORM;
     };
-    let numbers = given.numbers;
-    let (buckets, filled) = (numbers[2], numbers[4]);
+    let (buckets, filled) = (given.numbers[2], given.numbers[4]);
     let fit = holds(index, 8 * u128::from(buckets)) && segment_areas_pass(starts, lengths);
     if !given.builder_passes() || !fit || !arena_passes(arena, filled) {
         return STATE;
@@ -262,12 +257,16 @@ pub fn finish(
         index.copy_from_slice(&words);
         scratch[..buckets as usize].copy_from_slice(&words[..buckets as usize]);
     }
-    let (key, value) = (numbers[5], numbers[6]);
-    let (segments, header) = (found.len() as u64, filled - key - value);
-    set[..6].copy_from_slice(&builder[..6]);
-    set[6..9].copy_from_slice(&[numbers[0], buckets, numbers[3]]);
-    set[9..].copy_from_slice(&[segments, filled, filled, key, value, header]);
+    write_set(builder, found.len() as u64, set);
     0
+}
+
+fn write_set(builder: &[u64], segments: u64, set: &mut [u64]) {
+    let (filled, key, value) = (builder[10], builder[11], builder[12]);
+    set[..6].copy_from_slice(&builder[..6]);
+    set[6..9].copy_from_slice(&[builder[6], builder[8], builder[9]]);
+    set[9..12].copy_from_slice(&[segments, filled, filled]);
+    set[12..].copy_from_slice(&[key, value, filled - key - value]);
 }
 
 // Where there are too many, the first starts stand there and no lengths.

@@ -1,4 +1,4 @@
-// The areas and states of one set, and the calls that are asked of the port or of the model on them.
+// The areas and states of one set, and the calls on them, asked of the port or of the model.
 use crate::rng::{pattern, word_pattern};
 use crate::{port_sets, set_model};
 

@@ -109,6 +109,10 @@ impl Stage {
                 Ask::Stats,
             ];
         }
+        self.pushes(hash, key)
+    }
+
+    fn pushes<'a>(&self, hash: u64, key: &'a [u8]) -> Vec<Ask<'a>> {
         let new = Pushed {
             hash,
             key: b"new key",
