@@ -1,0 +1,72 @@
+-- `get_line` meets its contract: the key is what its text spells. Assumes nothing.
+use mathlib.Core.Path.{_≡_, sym, ap, _∙_}
+use native.Mathlib.Omega.{arith}
+use Rattle.passage_lines.specs.Hex.{decodeResult}
+use Rattle.passage_lines.specs.Reply.{replyText}
+use Rattle.passage.specs.Answer.{getBytes, within}
+use Rattle.passage.specs.Session.{answerText}
+use Rattle.passage.proofs.Decoding.{Decoding, decode-none, decode-some}
+use borrow.Author.Needs.{needs}
+use Rattle.passage.proofs.answer.get_line.Statement.{statement}
+use Rattle.passage.proofs.answer.get_line.Tie as tie
+
+-- the key in its area
+key-of : (c : tie.After-key-len) → let a = c .before .before .before .before .before .before .before .before .before .before .before .before .before .args in Decoding (a .key-text .now) (a .key .now) (c .before .before .before .before .decode-hex .last .1 .0) (c .key-len .given .0 .0)
+key-of c =
+    let a = c .before .before .before .before .before .before .before .before .before .before .before .before .before .args in
+    decode-some (a .key-text .now) (a .key .now) (c .before .before .before .before .decode-hex .last .1 .0) (c .key-len .given .0 .0) (rw (c .key-len .given .1) at (c .before .before .before .before .decode-hex .ensures))
+
+decode-hex-requires : tie.Need-decode-hex-requires
+decode-hex-requires c κs = search needs
+
+enum-known-key-len : tie.Need-enum-known-key-len
+enum-known-key-len c = search needs
+
+enum-told : tie.Need-enum-told
+enum-told c = search needs
+
+same-length : tie.Need-same-length
+same-length c = search needs
+
+returns : tie.Need-returns
+unfolding answerText replyText
+returns c = let a = c .before .before .before .before .before .before .before .before .before .before .before .before .before .args in
+    rw (decode-none (a .key-text .now) (a .key .now) (c .before .before .before .before .decode-hex .last .1 .0) (rw (c .enum-told .given .1) at (c .before .before .before .before .decode-hex .ensures)))
+
+sub-get-value : tie.Need-sub-get-value
+sub-get-value c = search needs
+
+part-get-value-start : tie.Need-part-get-value-start
+part-get-value-start c = search needs
+
+part-get-value-end : tie.Need-part-get-value-end
+part-get-value-end c = omega (arith, key-of (c .before .before) .room)
+
+get-value-requires : tie.Need-get-value-requires
+get-value-requires c κs = search needs
+
+same-length-2 : tie.Need-same-length-2
+same-length-2 c = search needs
+
+same-length-3 : tie.Need-same-length-3
+same-length-3 c = search needs
+
+returns-2 : tie.Need-returns-2
+returns-2 c = let k = key-of (c .before .before .before .before .before .before .before) in rw (k .spelled, ← k .front) (c .before .before .get-value .ensures)
+
+pub get-line-spec : {M : Type 1} → statement M
+get-line-spec =
+    tie.close
+    (tie.spec
+    decode-hex-requires
+    enum-known-key-len
+    enum-told
+    same-length
+    returns
+    sub-get-value
+    part-get-value-start
+    part-get-value-end
+    get-value-requires
+    same-length-2
+    same-length-3
+    returns-2)

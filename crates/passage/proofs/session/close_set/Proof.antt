@@ -1,0 +1,82 @@
+-- `close_set` meets its contract: in turn it is the library's finish. Assumes nothing.
+use mathlib.Core.Logic.{⊎-elim}
+use mathlib.Core.Path.{_≡_, ap}
+use native.Mathlib.Omega.{arith}
+use Rattle.passage_lines.specs.Reply.{replyText}
+use Rattle.sets.specs.declared.builder.SegmentCacheBuilder.{SegmentCacheBuilder}
+use Rattle.passage.specs.Session.{answerText, closeAnswered, closeStep}
+use Rattle.passage.specs.declared.session.Session.the-variants.{Building}
+use Rattle.passage.proofs.Turns.{close-out}
+use borrow.Author.Needs.{needs}
+use Rattle.passage.proofs.session.close_set.Statement.{statement}
+use Rattle.passage.proofs.session.close_set.Tie as tie
+
+enum-known-session : tie.Need-enum-known-session
+enum-known-session c = search needs
+
+returns : tie.Need-returns
+unfolding answerText replyText
+returns c = let a = c .before .before .before .before .before .before .args in
+    let n : (b : SegmentCacheBuilder) → a .session ≡ Building b → ⊥ = λ b (f : a .session ≡ Building b). ⊎-elim (λ p. omega arith) (λ p. omega arith) (rw f at (c .match .keys2)) in
+    close-out (a .session) (a .target) (a .index .now) (a .starts .now) (a .lengths .now) (a .scratch .now) (a .arena .now) n
+
+finish-requires : tie.Need-finish-requires
+finish-requires c κs = search needs
+
+enum-known-refusal : tie.Need-enum-known-refusal
+enum-known-refusal c = search needs
+
+enum-known-set : tie.Need-enum-known-set
+enum-known-set c = search needs
+
+same-length : tie.Need-same-length
+same-length c = search needs
+
+same-length-2 : tie.Need-same-length-2
+same-length-2 c = search needs
+
+same-length-3 : tie.Need-same-length-3
+same-length-3 c = search needs
+
+same-length-4 : tie.Need-same-length-4
+same-length-4 c = search needs
+
+returns-2 : tie.Need-returns-2
+unfolding answerText replyText closeStep
+returns-2 c = rw (c .before .before .before .before .before .before .before .before .before .before .before .before .before .before .before .before .before .session .given .1) (ap closeAnswered (rw (c .before .refusal .given .1) at (c .before .before .before .before .before .before .before .before .before .before .before .finish .ensures)))
+
+same-length-5 : tie.Need-same-length-5
+same-length-5 c = search needs
+
+same-length-6 : tie.Need-same-length-6
+same-length-6 c = search needs
+
+same-length-7 : tie.Need-same-length-7
+same-length-7 c = search needs
+
+same-length-8 : tie.Need-same-length-8
+same-length-8 c = search needs
+
+returns-3 : tie.Need-returns-3
+unfolding answerText replyText closeStep
+returns-3 c = rw (c .before .before .before .before .before .before .before .before .before .before .before .before .before .before .before .before .before .session .given .1) (ap closeAnswered (rw (c .before .set .given .1) at (c .before .before .before .before .before .before .before .before .before .before .before .finish .ensures)))
+
+pub close-set-spec : {M : Type 1} → statement M
+close-set-spec =
+    tie.close
+    (tie.spec
+    enum-known-session
+    returns
+    finish-requires
+    enum-known-refusal
+    enum-known-set
+    same-length
+    same-length-2
+    same-length-3
+    same-length-4
+    returns-2
+    same-length-5
+    same-length-6
+    same-length-7
+    same-length-8
+    returns-3)

@@ -1,0 +1,76 @@
+-- `open_set` meets its contract: in turn it is the library's open. Assumes nothing.
+use mathlib.Core.Logic.{⊎-elim}
+use mathlib.Core.Path.{_≡_, sym, ap}
+use native.Mathlib.Omega.{arith}
+use Rattle.passage_lines.specs.Reply.{replyText}
+use Rattle.sets.specs.Build.{Opened}
+use Rattle.passage.specs.Session.{answerText, openAnswered, openStep}
+use Rattle.passage.specs.declared.session.Session.the-variants.{Fresh}
+use Rattle.passage.proofs.Turns.{open-out, open-slots}
+use borrow.Author.Needs.{needs}
+use Rattle.passage.proofs.session.open_set.Statement.{statement}
+use Rattle.passage.proofs.session.open_set.Tie as tie
+
+enum-told : tie.Need-enum-told
+enum-told c = search needs
+
+returns : tie.Need-returns
+unfolding answerText replyText
+returns c = let a = c .before .before .before .before .before .before .args in
+    let n : a .session ≡ Fresh → ⊥ = λ (f : a .session ≡ Fresh). ⊎-elim (λ p. omega arith) (λ p. omega arith) (rw f at (c .match .keys2)) in
+    open-out (a .session) (a .records) (a .config) (a .index .now) (a .filter .now) (a .starts .now) (a .lengths .now) (a .arena .now) n
+
+try-new-requires : tie.Need-try-new-requires
+try-new-requires c κs = search needs
+
+enum-known-error : tie.Need-enum-known-error
+enum-known-error c = search needs
+
+enum-known-builder : tie.Need-enum-known-builder
+enum-known-builder c = search needs
+
+mul-t25 : tie.Need-mul-t25
+mul-t25 c =
+    let s = c .before .before .before .before .before .before .before .before .before .before .before .before .before .before .before .before .before .before in
+    let a = s .args in
+    let b = c .before .before .builder .given in
+    let l = open-slots (a .config) (a .records) (a .index .now) (a .filter .now) (a .starts .now) (a .lengths .now) (a .arena .now) (b .0 .0)
+    (sym (ap (λ (o : Opened). o .answer) (rw (b .1) at (c .before .before .before .before .before .before .before .before .try-new .ensures)))) in
+    omega (arith, l, s .good .1 .1 .1 .0 .1)
+
+same-length : tie.Need-same-length
+same-length c = search needs
+
+same-length-2 : tie.Need-same-length-2
+same-length-2 c = search needs
+
+returns-2 : tie.Need-returns-2
+unfolding answerText replyText openStep
+returns-2 c = rw (c .before .before .before .before .before .before .before .before .before .before .enum-told .given .1) (ap openAnswered (rw (c .before .error .given .1) at (c .before .before .before .before .before .before .before .try-new .ensures)))
+
+same-length-3 : tie.Need-same-length-3
+same-length-3 c = search needs
+
+same-length-4 : tie.Need-same-length-4
+same-length-4 c = search needs
+
+returns-3 : tie.Need-returns-3
+unfolding answerText replyText openStep
+returns-3 c = rw (c .before .before .before .before .before .before .before .before .before .before .before .enum-told .given .1) (ap openAnswered (rw (c .before .before .builder .given .1) at (c .before .before .before .before .before .before .before .before .try-new .ensures)))
+
+pub open-set-spec : {M : Type 1} → statement M
+open-set-spec =
+    tie.close
+    (tie.spec
+    enum-told
+    returns
+    try-new-requires
+    enum-known-error
+    enum-known-builder
+    mul-t25
+    same-length
+    same-length-2
+    returns-2
+    same-length-3
+    same-length-4
+    returns-3)

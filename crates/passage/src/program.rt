@@ -1,0 +1,341 @@
+// Reading the input in blocks, answering its lines, and writing the output in blocks.
+use crate::answer::answer_line;
+use crate::answer::put_answer;
+use crate::session::Answer;
+use crate::session::Session;
+use libc::STDIN_FILENO;
+use libc::STDOUT_FILENO;
+use passage_lines::input::Input;
+use passage_lines::input::NextLine;
+use passage_lines::input::keep_unread;
+use passage_lines::input::next_line;
+use passage_lines::reply::Reply;
+use passage_lines::reply::put_reply;
+ghost use mathlib.Core.Path.{_≡_};
+ghost use Prim.Native.Nat.{_≤_};
+ghost use lib.ListN.{length};
+ghost use Rattle.passage.specs.Program.{endedWith, waitingIn};
+
+// No line of output is longer: a value comes from a line of input, as long as its text there.
+const MAX_REPLY_BYTES: usize = 8_200;
+
+// What goes on from line to line: the set, what is unread of the block, and how many bytes of
+// output wait to be written.
+struct State {
+    session: Session,
+    input: Input,
+    waiting: usize,
+}
+
+enum Turn {
+    More(State),
+    Done,
+}
+
+// What an attempt to read more comes to.
+enum Refill {
+    Read(Input),
+    // The bytes of a last line.
+    Ended(usize),
+}
+
+// What answering a line leaves.
+struct Response {
+    session: Session,
+    waiting: usize,
+}
+
+// Answers every line of standard input on standard output. The block is longer than a line may be,
+// and out than a line of output; key and value have 4,096 bytes or more.
+pub fn run(
+    block: &mut [u8],
+    key: &mut [u8],
+    value: &mut [u8],
+    out: &mut [u8],
+    index: &mut [u64],
+    filter: &mut [u64],
+    starts: &mut [u64],
+    lengths: &mut [u64],
+    scratch: &mut [u64],
+    arena: &mut [u8],
+) {
+    let mut state = State {
+        session: Session::Fresh,
+        input: Input {
+            at: 0,
+            end: 0,
+            skipping: false,
+        },
+        waiting: 0,
+    };
+    let mut left = u64::MAX;
+    while left > 0 {
+        let Turn::More(next) = take_turn(
+            state,
+            block,
+            key,
+            value,
+            out,
+            index,
+            filter,
+            starts,
+            lengths,
+            scratch,
+            arena,
+        ) else {
+            return;
+        };
+        state = next;
+        left -= 1;
+    }
+}
+
+fn take_turn(
+    state: State,
+    block: &mut [u8],
+    key: &mut [u8],
+    value: &mut [u8],
+    out: &mut [u8],
+    index: &mut [u64],
+    filter: &mut [u64],
+    starts: &mut [u64],
+    lengths: &mut [u64],
+    scratch: &mut [u64],
+    arena: &mut [u8],
+) -> Turn
+    requires { ⌜ state .waiting ≤ length (now out) ⌝ }
+    ensures { λ r. ⌜ waitingIn r ≤ length (now (out .entry)) ⌝ }
+{
+    let session = state.session;
+    let input = state.input;
+    let waiting = state.waiting;
+    match next_line(&block[..], input) {
+        NextLine::Line {
+            from,
+            to,
+            input: rest,
+        } => {
+            let response = respond(
+                session,
+                &block[from..to],
+                waiting,
+                key,
+                value,
+                out,
+                index,
+                filter,
+                starts,
+                lengths,
+                scratch,
+                arena,
+            );
+            let answered = response.session;
+            Turn::More(State {
+                session: answered,
+                input: rest,
+                waiting: response.waiting,
+            })
+        }
+        NextLine::TooLong(rest) => Turn::More(State {
+            session,
+            input: rest,
+            waiting: respond_bad(waiting, out),
+        }),
+        NextLine::Skipped(rest) => Turn::More(State {
+            session,
+            input: rest,
+            waiting,
+        }),
+        NextLine::More(rest) => {
+            write_waiting(waiting, &out[..]);
+            next_block(
+                session,
+                rest,
+                block,
+                key,
+                value,
+                out,
+                index,
+                filter,
+                starts,
+                lengths,
+                scratch,
+                arena,
+            )
+        }
+    }
+}
+
+// Reads more input; where there is none, answers the last line.
+fn next_block(
+    session: Session,
+    input: Input,
+    block: &mut [u8],
+    key: &mut [u8],
+    value: &mut [u8],
+    out: &mut [u8],
+    index: &mut [u64],
+    filter: &mut [u64],
+    starts: &mut [u64],
+    lengths: &mut [u64],
+    scratch: &mut [u64],
+    arena: &mut [u8],
+) -> Turn
+    ensures { λ r. ⌜ waitingIn r ≡ 0 ⌝ }
+{
+    match read_more(block, input) {
+        Refill::Read(next) => Turn::More(State {
+            session,
+            input: next,
+            waiting: 0,
+        }),
+        Refill::Ended(count) => {
+            answer_last(
+                session,
+                count,
+                &block[..],
+                key,
+                value,
+                out,
+                index,
+                filter,
+                starts,
+                lengths,
+                scratch,
+                arena,
+            );
+            Turn::Done
+        }
+    }
+}
+
+// The last line, where it has bytes and no line feed.
+fn answer_last(
+    session: Session,
+    count: usize,
+    block: &[u8],
+    key: &mut [u8],
+    value: &mut [u8],
+    out: &mut [u8],
+    index: &mut [u64],
+    filter: &mut [u64],
+    starts: &mut [u64],
+    lengths: &mut [u64],
+    scratch: &mut [u64],
+    arena: &mut [u8],
+)
+    requires { ⌜ count ≤ length (now block) ⌝ }
+{
+    if count == 0 {
+        return;
+    }
+    let response = respond(
+        session,
+        &block[0..count],
+        0,
+        key,
+        value,
+        out,
+        index,
+        filter,
+        starts,
+        lengths,
+        scratch,
+        arena,
+    );
+    write_waiting(response.waiting, &out[..]);
+}
+
+// Moves what is unread to the front of the block and reads after it. Where the input has ended, the
+// bytes of a last line without a line feed stand at the front.
+fn read_more(block: &mut [u8], input: Input) -> Refill
+    ensures { λ r. ⌜ endedWith r ≤ length (now (block .entry)) ⌝ }
+{
+    let kept = keep_unread(block, input);
+    let end = kept.end;
+    let skipping = kept.skipping;
+    let got = libc::read(STDIN_FILENO, &mut block[end..]);
+    let count = io::count(got, &block[end..]);
+    if count > 0 {
+        return Refill::Read(Input {
+            at: 0,
+            end: end + count,
+            skipping,
+        });
+    }
+    if skipping {
+        return Refill::Ended(0);
+    }
+    Refill::Ended(end)
+}
+
+fn respond(
+    session: Session,
+    line: &[u8],
+    waiting: usize,
+    key: &mut [u8],
+    value: &mut [u8],
+    out: &mut [u8],
+    index: &mut [u64],
+    filter: &mut [u64],
+    starts: &mut [u64],
+    lengths: &mut [u64],
+    scratch: &mut [u64],
+    arena: &mut [u8],
+) -> Response
+    requires { ⌜ waiting ≤ length (now out) ⌝ }
+    ensures { λ r. ⌜ r .waiting ≤ length (now (out .entry)) ⌝ }
+{
+    let step = answer_line(
+        session,
+        line,
+        key,
+        value,
+        index,
+        filter,
+        starts,
+        lengths,
+        scratch,
+        arena,
+    );
+    let answer = step.answer;
+    let next = step.session;
+    Response {
+        session: next,
+        waiting: print_answer(waiting, out, answer, &arena[..]),
+    }
+}
+
+fn respond_bad(waiting: usize, out: &mut [u8]) -> usize
+    requires { ⌜ waiting ≤ length (now out) ⌝ }
+    ensures { λ r. ⌜ r ≤ length (now (out .entry)) ⌝ }
+{
+    let at = make_room(waiting, &out[..]);
+    put_reply(out, at, Reply::Bad)
+}
+
+fn print_answer(waiting: usize, out: &mut [u8], answer: Answer, arena: &[u8]) -> usize
+    requires { ⌜ waiting ≤ length (now out) ⌝ }
+    ensures { λ r. ⌜ r ≤ length (now (out .entry)) ⌝ }
+{
+    let at = make_room(waiting, &out[..]);
+    put_answer(out, at, answer, arena)
+}
+
+// Writes what waits where a line more might not fit.
+fn make_room(waiting: usize, out: &[u8]) -> usize
+    requires { ⌜ waiting ≤ length (now out) ⌝ }
+    ensures { λ r. ⌜ r ≤ waiting ⌝ }
+{
+    if out.len() - waiting >= MAX_REPLY_BYTES {
+        return waiting;
+    }
+    write_waiting(waiting, out);
+    0
+}
+
+fn write_waiting(waiting: usize, out: &[u8])
+    requires { ⌜ waiting ≤ length (now out) ⌝ }
+{
+    io::write_all(STDOUT_FILENO, &out[0..waiting]);
+}
