@@ -1,9 +1,9 @@
 .PHONY: run test soak bench
 
-# Proves and builds the trials program and runs it.
+# Proves and builds the program passage and runs document 01's example.
 run:
-	rt check trials
-	target/bin/trials
+	rt check passage_run
+	target/bin/passage_run <crates/passage_run/stdin
 
 # The gate.
 test:
