@@ -2,7 +2,9 @@
 // The fourth of four crates.
 pub mod builder;
 pub mod cache;
+pub mod kept;
 mod lookup;
 mod marks;
 mod questions;
+pub mod rebuild;
 pub mod stats;
