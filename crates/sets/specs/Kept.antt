@@ -21,6 +21,13 @@ bitsOf (suc n) w = eqb (w % 2) 1 ∷ bitsOf n (w / 2)
 unfoldable pub keptFlags : KeptSegments → List Bool
 keptFlags k = bitsOf 64 (k .w0) ++ (bitsOf 64 (k .w1) ++ (bitsOf 64 (k .w2) ++ bitsOf 64 (k .w3)))
 
+-- the word of a group of 64 segments
+abbrev pub keptWord : KeptSegments → ℕ → ℕ
+keptWord k zero = k .w0
+keptWord k (suc zero) = k .w1
+keptWord k (suc (suc zero)) = k .w2
+keptWord k (suc (suc (suc n))) = k .w3
+
 abbrev pub countTrue : List Bool → ℕ
 countTrue [] = 0
 countTrue (b ∷ l) = pick b (suc (countTrue l)) (countTrue l)
