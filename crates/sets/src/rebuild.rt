@@ -24,13 +24,14 @@ use index::word::encode_index_word;
 use records::record::append_record;
 use records::varint::WriteAnswer;
 ghost use mathlib.Core.Path.{_≡_};
+ghost use mathlib.Core.Bool.{true};
 ghost use Prim.Native.Nat.{_+_, _*_, _/_, _<_, _≤_, _^_};
 ghost use lib.ListN.{length, set};
 ghost use Rattle.hash_parts.specs.Hash.{tagOf};
 ghost use Rattle.index.specs.Filter.{displacedMarked};
 ghost use Rattle.index.specs.Segments.{padded, replaced};
 ghost use Rattle.index.specs.Word.{wordOf};
-ghost use Rattle.sets.specs.Kept.{chosen, retained};
+ghost use Rattle.sets.specs.Kept.{chosen, isKept, retained};
 ghost use Rattle.sets.specs.Rebuild.{afterCopied, afterRebuildFinish, afterRebuildOpen, afterReused, copiedGrown, copiedMade, copiedResult, copiedSize, filledIn, rebuildFinishResult, rebuildOpenResult, rebuildOpened, reusedGrown, reusedMade, reusedResult};
 
 // Where a record stands in the source, and how many bytes precede its key.
@@ -250,7 +251,7 @@ impl SharedSegmentCacheBuilder {
         index: &mut [u64],
         filter: &mut [u64],
     ) -> RebuildPushAnswer
-        requires { ⌜ (source .location / 2 ^ 32 ≤ 255) × (slot < length (now index)) × (self .«inserted_entries» < self .«expected_entries») × (self .«logical_key_bytes» + «key_bytes» < 2 ^ 64) × (self .«logical_value_bytes» + «value_bytes» < 2 ^ 64) × (self .«record_header_bytes» + source .«header_bytes» < 2 ^ 64) ⌝ }
+        requires { ⌜ (isKept (self .kept) (source .location / 2 ^ 32) ≡ true) × (slot < length (now index)) × (self .«inserted_entries» < self .«expected_entries») × (self .«logical_key_bytes» + «key_bytes» < 2 ^ 64) × (self .«logical_value_bytes» + «value_bytes» < 2 ^ 64) × (self .«record_header_bytes» + source .«header_bytes» < 2 ^ 64) ⌝ }
         ensures { λ r. ⌜ reusedResult r (now (index .exit)) (now (filter .exit)) ≡ reusedMade slot self hash «key_bytes» «value_bytes» source (now (index .entry)) (now (filter .entry)) ⌝ }
     {
         let location = self.moved_location(source.location);

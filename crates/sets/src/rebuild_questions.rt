@@ -31,6 +31,7 @@ use records::record::encoded_record_bytes;
 use records::record::same_bytes;
 use records::record::value_slice;
 ghost use mathlib.Core.Path.{_≡_};
+ghost use mathlib.Core.Bool.{true};
 ghost use Prim.Native.Nat.{_+_, _*_, _/_, _^_, _<_, _≤_};
 ghost use lib.Dec.{leb};
 ghost use lib.ListN.{length};
@@ -38,6 +39,7 @@ ghost use Rattle.records.specs.Record.{recordSize};
 ghost use Rattle.records.specs.declared.record.RecordAnswer.the-variants as readings;
 ghost use Rattle.index.specs.View.{recordIn};
 ghost use Rattle.sets.specs.Build.{planned};
+ghost use Rattle.sets.specs.Kept.{isKept};
 ghost use Rattle.sets.specs.Questions.{arenaHolds, checkNumber, firstNo};
 ghost use Rattle.sets.specs.Rebuild.{areasHoldRebuild, areasHoldSource, askRebuildOpen, filledIn, holdsRecord, keptView, movedLocation, rebuildFits, segmentFor, segmentsInside};
 ghost use Rattle.sets.specs.RebuildPlans.{planCopied, planReused, planRoom, slotPlanned};
@@ -151,7 +153,7 @@ impl SharedSegmentCacheBuilder {
         lengths: &[u64],
         arena: &[u8],
     ) -> bool
-        requires { ⌜ (source .location / 2 ^ 32 ≤ 255) × (filledIn self < 2 ^ 64) ⌝ }
+        requires { ⌜ (isKept (self .kept) (source .location / 2 ^ 32) ≡ true) × (filledIn self < 2 ^ 64) ⌝ }
         ensures { λ r. ⌜ r ≡ holdsRecord (now (key .entry)) (now (value .entry)) (source .«header_bytes») (now (arena .entry)) (recordIn (keptView self) (now (arena .entry)) (now (starts .entry)) (now (lengths .entry)) (movedLocation self (source .location) + 1)) ⌝ }
     {
         let stored = self.moved_location(source.location) as u64 + 1;
@@ -179,7 +181,7 @@ impl SharedSegmentCacheBuilder {
 
     // A location of the source, with its segment numbered anew.
     pub(crate) fn moved_location(self, location: usize) -> usize
-        requires { ⌜ location / 2 ^ 32 ≤ 255 ⌝ }
+        requires { ⌜ isKept (self .kept) (location / 2 ^ 32) ≡ true ⌝ }
         ensures { λ r. ⌜ r ≡ movedLocation self location ⌝ }
     {
         let kept = self.kept;
