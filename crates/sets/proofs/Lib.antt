@@ -6,5 +6,7 @@ pub mod Counts
 pub mod Decides
 pub mod EmptySlots
 pub mod Finding
+pub mod KeptBits
+pub mod KeptWords
 pub mod Splitting
 pub mod WalkSteps
