@@ -1,3 +1,8 @@
+-- `opened_rebuild` meets its contract. Assumes nothing.
+use mathlib.Core.Path.{_≡_, refl, sym, ap, ap₂, _∙_}
+use borrow.Author.Tests.{lt-ltb, le-ltb, le-leb, lt-leb, eq-eqb, ne-eqb, not-true, not-false}
+use Prim.Native.Nat.{ℕ, _+_, _-_, _*_, _/_, _%_, _^_, _≤_, _<_}
+use native.Mathlib.Omega.{arith}
 use borrow.Author.Needs.{needs}
 use Rattle.sets.proofs.rebuild.opened_rebuild.Statement.{statement}
 use Rattle.sets.proofs.rebuild.opened_rebuild.Tie as tie
@@ -21,7 +26,9 @@ filter-words-for-requires c κs = search needs
 
 -- src/rebuild.rt:424:1
 returns : tie.Need-returns
-returns c = ?
+returns c =
+    let from-flags = c .before .before .from-flags in
+    rw (c .filter-words-for .ensures, c .before .bucket-count .ensures, from-flags .ensures)
 
 pub opened-rebuild-spec : {M : Type 1} → statement M
 opened-rebuild-spec =

@@ -1,3 +1,16 @@
+-- `copied_at` meets its contract. Assumes nothing.
+use mathlib.Core.Path.{_≡_, refl, sym, ap, ap₂, _∙_}
+use borrow.Author.Tests.{lt-ltb, le-ltb, le-leb, lt-leb, eq-eqb, ne-eqb, not-true, not-false}
+use Prim.Native.Nat.{ℕ, _+_, _-_, _*_, _/_, _%_, _^_, _≤_, _<_}
+use native.Mathlib.Omega.{arith}
+use lib.ListN.{length}
+use Rattle.records.specs.Area.{writeResult}
+use Rattle.records.specs.Record.{recordBytes}
+use Rattle.records.specs.declared.varint.WriteAnswer.{WriteAnswer}
+use Rattle.records.proofs.Parts.{size-is}
+use Rattle.sets.specs.Rebuild.{copiedLocation, filledIn}
+use Rattle.sets.proofs.Appends.{append-in, append-out, rest, rest-length, size-holds}
+use Rattle.sets.proofs.RebuildSteps.{copied-left}
 use borrow.Author.Needs.{needs}
 use Rattle.sets.proofs.rebuild.SharedSegmentCacheBuilder.copied_at.Statement.{statement}
 use Rattle.sets.proofs.rebuild.SharedSegmentCacheBuilder.copied_at.Tie as tie
@@ -42,7 +55,13 @@ same-length c = search needs
 
 -- src/rebuild.rt:287:13
 returns : tie.Need-returns
-returns c = ?
+returns c =
+    let a = c .before .before .before .before .before .before .before .before .before .before .before .before .before .args in
+    let append-record = c .before .before .before .before .append-record in
+    let bytes = recordBytes (a .self .config .expiry) (a .key .now) (a .value .now) (a .expires-at) in
+    let whole = rest (filledIn (a .self)) (a .arena .now) in
+    let q = append-out bytes whole (append-record .last .0) (c .enum-told .given .0 .0) (ap (λ (r : WriteAnswer). writeResult r (append-record .last .0)) (sym (c .enum-told .given .1)) ∙ append-record .ensures) in
+    absurd (omega (arith, q .0, rest-length (filledIn (a .self)) (a .arena .now), size-is (a .self .config .expiry) (a .key .now) (a .value .now) (a .expires-at), c .before .before .before .before .before .before .before .before .before .before .before .before .before .pre .0))
 
 -- src/rebuild.rt:293:24
 retained-requires : tie.Need-retained-requires
@@ -62,7 +81,14 @@ push-index-requires c κs = search needs
 
 -- src/rebuild.rt:296:22
 copied-grown-requires : tie.Need-copied-grown-requires
-copied-grown-requires c κs = ?
+copied-grown-requires c κs =
+    let a = c .before .before .before .before .before .before .before .before .before .before .before .before .before .before .before .before .before .before .before .before .before .before .before .before .args in
+    let append-record = c .before .before .before .before .before .before .before .before .before .before .before .before .before .before .before .append-record in
+    let written = c .before .before .before .before .before .before .before .before .before .before .before .written in
+    let bytes = recordBytes (a .self .config .expiry) (a .key .now) (a .value .now) (a .expires-at) in
+    let whole = rest (filledIn (a .self)) (a .arena .now) in
+    let q = append-in bytes whole (append-record .last .0) (written .given .0 .0) (ap (λ (r : WriteAnswer). writeResult r (append-record .last .0)) (sym (written .given .1)) ∙ append-record .ensures) in
+    omega (arith, q .0, q .1, size-is (a .self .config .expiry) (a .key .now) (a .value .now) (a .expires-at), size-holds (a .self .config .expiry) (length (a .key .now)) (length (a .value .now)), rest-length (filledIn (a .self)) (a .arena .now))
 
 -- src/rebuild.rt:268:5
 same-length-2 : tie.Need-same-length-2
@@ -74,11 +100,22 @@ same-length-3 c = search needs
 
 -- src/rebuild.rt:268:5
 same-length-4 : tie.Need-same-length-4
-same-length-4 c = ?
+same-length-4 c = search needs
 
 -- src/rebuild.rt:268:5
 returns-2 : tie.Need-returns-2
-returns-2 c = ?
+returns-2 c =
+    let a = c .before .before .before .before .before .before .before .before .before .before .before .before .before .before .before .before .before .before .before .before .before .before .before .before .before .args in
+    let append-record = c .before .before .before .before .before .before .before .before .before .before .before .before .before .before .before .before .append-record in
+    let written = c .before .before .before .before .before .before .before .before .before .before .before .before .written in
+    let retained = c .before .before .before .before .before .before .before .before .before .retained in
+    let push-index = c .before .before .before .before .before .push-index in
+    let bytes = recordBytes (a .self .config .expiry) (a .key .now) (a .value .now) (a .expires-at) in
+    let whole = rest (filledIn (a .self)) (a .arena .now) in
+    let q = append-in bytes whole (append-record .last .0) (written .given .0 .0) (ap (λ (r : WriteAnswer). writeResult r (append-record .last .0)) (sym (written .given .1)) ∙ append-record .ensures) in
+    let placed : retained .result * 2 ^ 32 + a .self .«copied_bytes» ≡ copiedLocation (a .self) = omega (arith, retained .ensures) in
+    copied-left (a .slot) (a .expires-at) (a .self) (a .hash) (a .key .now) (a .value .now) (a .index .now) (a .filter .now) (a .arena .now) (append-record .last .0) _ (c .copied-grown .result) _ _ _ (q .1) (q .2)
+    (c .copied-grown .ensures) placed (push-index .ensures .0) (push-index .ensures .1)
 
 pub copied-at-spec : {M : Type 1} → statement M
 copied-at-spec =

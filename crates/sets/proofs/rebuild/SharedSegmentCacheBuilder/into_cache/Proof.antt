@@ -1,3 +1,9 @@
+-- `into_cache` meets its contract. Assumes nothing.
+use mathlib.Core.Path.{_≡_, refl, sym, ap, ap₂, _∙_}
+use borrow.Author.Tests.{lt-ltb, le-ltb, le-leb, lt-leb, eq-eqb, ne-eqb, not-true, not-false}
+use Prim.Native.Nat.{ℕ, _+_, _-_, _*_, _/_, _%_, _^_, _≤_, _<_}
+use native.Mathlib.Omega.{arith}
+use Rattle.sets.specs.Rebuild.{sumOf}
 use borrow.Author.Needs.{needs}
 use Rattle.sets.proofs.rebuild.SharedSegmentCacheBuilder.into_cache.Statement.{statement}
 use Rattle.sets.proofs.rebuild.SharedSegmentCacheBuilder.into_cache.Tie as tie
@@ -21,15 +27,21 @@ retained-requires c κs = search needs
 
 -- src/rebuild.rt:404:27
 sum-of-requires : tie.Need-sum-of-requires
-sum-of-requires c κs = ?
+sum-of-requires c κs = rw (c .retained .ensures) (c .before .before .before .before .before .before .pre .0, omega (arith, c .before .before .before .before .before .before .pre .1))
 
 -- src/rebuild.rt:404:27
 add-t9 : tie.Need-add-t9
-add-t9 c = ?
+add-t9 c =
+    let a = c .before .before .before .before .before .before .before .before .args in
+    let retained = c .before .before .retained in
+    omega (arith, c .before .sum-of .ensures, ap (λ (n : ℕ). sumOf n (a .lengths .now)) (retained .ensures), c .before .before .before .before .before .before .before .before .pre .1, c .before .before .before .before .before .before .before .before .pre .2)
 
 -- src/rebuild.rt:391:5
 returns : tie.Need-returns
-returns c = ?
+returns c =
+    let segment-count = c .before .before .before .before .segment-count in
+    let retained = c .before .before .retained in
+    rw (segment-count .ensures, c .before .sum-of .ensures, retained .ensures)
 
 pub into-cache-spec : {M : Type 1} → statement M
 into-cache-spec =

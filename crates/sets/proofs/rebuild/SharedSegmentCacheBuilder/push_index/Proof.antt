@@ -1,3 +1,10 @@
+-- `push_index` meets its contract. Assumes nothing.
+use mathlib.Core.Path.{_≡_, refl, sym, ap, ap₂, _∙_}
+use borrow.Author.Tests.{lt-ltb, le-ltb, le-leb, lt-leb, eq-eqb, ne-eqb, not-true, not-false}
+use Prim.Native.Nat.{ℕ, _+_, _-_, _*_, _/_, _%_, _^_, _≤_, _<_}
+use native.Mathlib.Omega.{arith}
+use lib.ListN.{length, set, getD}
+use Rattle.index.specs.Word.{wordOf}
 use borrow.Author.Needs.{needs}
 use Rattle.sets.proofs.rebuild.SharedSegmentCacheBuilder.push_index.Statement.{statement}
 use Rattle.sets.proofs.rebuild.SharedSegmentCacheBuilder.push_index.Tie as tie
@@ -37,7 +44,12 @@ same-length-2 c = search needs
 
 -- src/rebuild.rt:303:5
 returns : tie.Need-returns
-returns c = ?
+returns c =
+    let a = c .before .before .before .before .before .before .before .before .args in
+    let hash-tag = c .before .before .before .before .before .hash-tag in
+    let encode-index-word = c .before .before .before .before .encode-index-word in
+    let mark-displaced = c .before .before .mark-displaced in
+    (ap (λ (w : ℕ). set (a .index .now) (a .slot) w) (encode-index-word .ensures ∙ ap (λ (t : ℕ). wordOf t (a .location)) (hash-tag .ensures)), mark-displaced .ensures)
 
 pub push-index-spec : {M : Type 1} → statement M
 push-index-spec =

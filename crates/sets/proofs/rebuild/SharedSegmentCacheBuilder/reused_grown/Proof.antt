@@ -1,3 +1,9 @@
+-- `reused_grown` meets its contract. Assumes nothing.
+use mathlib.Core.Path.{_≡_, refl, sym, ap, ap₂, _∙_}
+use borrow.Author.Tests.{lt-ltb, le-ltb, le-leb, lt-leb, eq-eqb, ne-eqb, not-true, not-false}
+use Prim.Native.Nat.{ℕ, _+_, _-_, _*_, _/_, _%_, _^_, _≤_, _<_}
+use native.Mathlib.Omega.{arith}
+use Rattle.sets.proofs.RebuildSteps.{wraps}
 use borrow.Author.Needs.{needs}
 use Rattle.sets.proofs.rebuild.SharedSegmentCacheBuilder.reused_grown.Statement.{statement}
 use Rattle.sets.proofs.rebuild.SharedSegmentCacheBuilder.reused_grown.Tie as tie
@@ -39,7 +45,14 @@ wrapping-sum-requires-4 c κs = search needs
 
 -- src/rebuild.rt:320:5
 returns : tie.Need-returns
-returns c = ?
+returns c =
+    let a = c .before .before .before .before .before .before .before .before .before .before .args in
+    let wrapping-sum = c .before .before .before .before .before .before .before .before .before .wrapping-sum in
+    let wrapping-sum2 = c .before .before .before .before .before .before .before .before .wrapping-sum2 in
+    let wrapping-sum3 = c .before .before .before .wrapping-sum3 in
+    let wrapping-sum4 = c .before .before .wrapping-sum4 in
+    let e = wrapping-sum4 .ensures ∙ ap (λ (n : ℕ). (n + a .value-bytes) % 2 ^ 64) (wrapping-sum2 .ensures ∙ ap (λ (n : ℕ). (n + a .key-bytes) % 2 ^ 64) (wrapping-sum .ensures)) ∙ wraps (a .self .«reused_record_bytes») (a .header-bytes) (a .key-bytes) (a .value-bytes) in
+    rw (wrapping-sum3 .ensures, e)
 
 pub reused-grown-spec : {M : Type 1} → statement M
 reused-grown-spec =

@@ -1,3 +1,9 @@
+-- `segment_count` meets its contract. Assumes nothing.
+use mathlib.Core.Path.{_≡_, refl, sym, ap, ap₂, _∙_}
+use borrow.Author.Tests.{lt-ltb, le-ltb, le-leb, lt-leb, eq-eqb, ne-eqb, not-true, not-false}
+use Prim.Native.Nat.{ℕ, _+_, _-_, _*_, _/_, _%_, _^_, _≤_, _<_}
+use native.Mathlib.Omega.{arith}
+use Rattle.sets.proofs.KeptBits.{retained-256}
 use borrow.Author.Needs.{needs}
 use Rattle.sets.proofs.rebuild.SharedSegmentCacheBuilder.segment_count.Statement.{
   statement,
@@ -18,15 +24,22 @@ adds-segment-requires c κs = search needs
 
 -- src/rebuild.rt:418:20
 add-result : tie.Need-add-result
-add-result c = ?
+add-result c =
+    let a = c .before .before .before .before .args in
+    let retained = c .before .before .retained in
+    omega (arith, retained .ensures, retained-256 (a .self .kept))
 
 -- src/rebuild.rt:418:13
 returns : tie.Need-returns
-returns c = ?
+returns c =
+    let retained = c .before .before .retained in
+    rw (sym (c .before .adds-segment .ensures) ∙ c .if1 .taken) (omega (arith, retained .ensures))
 
 -- src/rebuild.rt:412:5
 returns-2 : tie.Need-returns-2
-returns-2 c = ?
+returns-2 c =
+    let retained = c .before .before .retained in
+    rw (sym (c .before .adds-segment .ensures) ∙ c .if1 .left) (omega (arith, retained .ensures))
 
 pub segment-count-spec : {M : Type 1} → statement M
 segment-count-spec =
