@@ -5,7 +5,7 @@ use mathlib.Core.List.{List, [], _∷_, _++_, append-assoc}
 use Prim.Native.Nat.{ℕ, zero, suc, _+_, _-_, _*_, _/_, _%_, _^_, _≤_, _<_}
 use native.Mathlib.Omega.{arith}
 use lib.Dec.{eqb, leb, ltb}
-use lib.ListN.{length, drop, replicate, set, getD, length-append, length-replicate}
+use lib.ListN.{length, take, drop, replicate, set, getD, length-append, length-drop, length-replicate, length-take}
 use lib.Seq.{take-all}
 use borrow.Author.Tests.{le-leb, leb-true, leb-false, lt-leb, ltb-false, eqb-true}
 use borrow.Rule.Slice.PartMut.{putMid}
@@ -88,7 +88,7 @@ sum-most i (suc n) words h = go (leb i n) refl (λ (k : i ≤ n). sum-most i n w
         let s : sumOf i words ≤ sumOf n words = less (leb-true _ _ e) in
         omega arith
     go false e less =
-        let s : i ≡ suc n = omega (arith, leb-false _ _ e) in
+        let s : i ≡ suc n = omega (arith, leb-false i n e) in
         rw s (omega arith)
 
 -- ---- the new segment areas
@@ -179,8 +179,8 @@ pub room : (filled n arena : ℕ) → filled ≤ arena → leb (filled + n) aren
 room filled n arena h = go (leb n (arena - filled)) refl
   where
     go : (b : Bool) → leb n (arena - filled) ≡ b → leb (filled + n) arena ≡ b
-    go true e = le-leb _ _ (omega (arith, leb-true n (arena - filled) e))
-    go false e = lt-leb _ _ (omega (arith, leb-false n (arena - filled) e))
+    go true e = le-leb (filled + n) arena (omega (arith, leb-true n (arena - filled) e))
+    go false e = lt-leb (filled + n) arena (omega (arith, leb-false n (arena - filled) e))
 
 -- a size that was told, and one that passes 64 bits
 module _ (e : SegmentExpiry) (key value : ℕ) where
@@ -233,6 +233,19 @@ module _ (slot deadline : ℕ) (r : SharedSegmentCacheBuilder) (h : ℕ) (key va
   copied-left n grown location indexed marked size wrote same placed word mark =
       rw (same, size ∙ size-is (r .config .expiry) key value deadline, word, mark, placed, part-home bytes arena out (filledIn r) wrote)
 
+-- the arena is as long as it was
+pub home-length : (s area out : List ℕ) (at : ℕ) → at + length s ≤ length area → out ≡ over s (rest at area) → length (putMid at (length area - at) area out) ≡ length area
+home-length s area out at fits e =
+    ap length (part-home s area out at e)
+    ∙ omega (
+      arith,
+      length-append (take at area) (over s (drop at area)),
+      length-append s (drop (length s) (drop at area)),
+      length-take at area,
+      length-drop (length s) (drop at area),
+      length-drop at area,
+    )
+
 -- ---- what rebuild open and finish leave
 
 pub reopen-left : (s : FrozenSegmentCache) (records : ℕ) (flags : List ℕ) (tick : ℕ) (index filter zeroed blank starts lengths starts′ lengths′ : List ℕ) (r : SharedSegmentCacheBuilder)
@@ -256,13 +269,13 @@ module _ (r : SharedSegmentCacheBuilder) where
   adds-few h = go (eqb (r .«copied_bytes») 0) (eqb (retained (r .kept)) 0) refl h
     where
       go : (b d : Bool) → eqb (retained (r .kept)) 0 ≡ d → retained (r .kept) + pick b 0 1 ≤ 256 → retained (r .kept) + pick (pick b d true) 1 0 ≤ 256
-      go true true e k = omega (arith, eqb-true _ _ e)
+      go true true e k = omega (arith, eqb-true (retained (r .kept)) 0 e)
       go true false e k = omega arith
       go false d e k = omega arith
 
   pub adds-below : addsSegment r ≡ true → retained (r .kept) + pick (addsSegment r) 1 0 ≤ 256 → retained (r .kept) < 256
   adds-below e h =
-      let one : pick (addsSegment r) 1 0 ≡ 1 = rw e in
+      let one : _≡_ {A = ℕ} (pick (addsSegment r) 1 0) 1 = rw e in
       omega (arith, one, h)
 
 pub refinish-left : (r : SharedSegmentCacheBuilder) (index starts lengths scratch laid starts′ lengths′ left : List ℕ) (build : SharedSegmentCacheBuild) → build ≡ buildOf r lengths

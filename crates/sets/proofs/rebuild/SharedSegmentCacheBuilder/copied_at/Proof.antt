@@ -1,4 +1,5 @@
 -- `copied_at` meets its contract. Assumes nothing.
+use Rattle.sets.proofs.RebuildSteps.{copied-left, home-length}
 use mathlib.Core.Path.{_≡_, refl, sym, ap, ap₂, _∙_}
 use borrow.Author.Tests.{lt-ltb, le-ltb, le-leb, lt-leb, eq-eqb, ne-eqb, not-true, not-false}
 use Prim.Native.Nat.{ℕ, _+_, _-_, _*_, _/_, _%_, _^_, _≤_, _<_}
@@ -10,7 +11,6 @@ use Rattle.records.specs.declared.varint.WriteAnswer.{WriteAnswer}
 use Rattle.records.proofs.Parts.{size-is}
 use Rattle.sets.specs.Rebuild.{copiedLocation, filledIn}
 use Rattle.sets.proofs.Appends.{append-in, append-out, rest, rest-length, size-holds}
-use Rattle.sets.proofs.RebuildSteps.{copied-left}
 use borrow.Author.Needs.{needs}
 use Rattle.sets.proofs.rebuild.SharedSegmentCacheBuilder.copied_at.Statement.{statement}
 use Rattle.sets.proofs.rebuild.SharedSegmentCacheBuilder.copied_at.Tie as tie
@@ -88,7 +88,11 @@ copied-grown-requires c κs =
     let bytes = recordBytes (a .self .config .expiry) (a .key .now) (a .value .now) (a .expires-at) in
     let whole = rest (filledIn (a .self)) (a .arena .now) in
     let q = append-in bytes whole (append-record .last .0) (written .given .0 .0) (ap (λ (r : WriteAnswer). writeResult r (append-record .last .0)) (sym (written .given .1)) ∙ append-record .ensures) in
-    omega (arith, q .0, q .1, size-is (a .self .config .expiry) (a .key .now) (a .value .now) (a .expires-at), size-holds (a .self .config .expiry) (length (a .key .now)) (length (a .value .now)), rest-length (filledIn (a .self)) (a .arena .now))
+    let long = size-is (a .self .config .expiry) (a .key .now) (a .value .now) (a .expires-at) in
+    let held = rest-length (filledIn (a .self)) (a .arena .now) in
+    let holds = size-holds (a .self .config .expiry) (length (a .key .now)) (length (a .value .now)) in
+    let pre = c .before .before .before .before .before .before .before .before .before .before .before .before .before .before .before .before .before .before .before .before .before .before .before .before .pre in
+    (pre .4, omega (arith, pre .0, pre .1, q .1, long), omega (arith, q .1, long, holds), pre .5, pre .6, pre .7)
 
 -- src/rebuild.rt:268:5
 same-length-2 : tie.Need-same-length-2
@@ -100,7 +104,14 @@ same-length-3 c = search needs
 
 -- src/rebuild.rt:268:5
 same-length-4 : tie.Need-same-length-4
-same-length-4 c = search needs
+same-length-4 c =
+    let a = c .before .before .before .before .before .before .before .before .before .before .before .before .before .before .before .before .before .before .before .before .before .before .before .before .before .args in
+    let append-record = c .before .before .before .before .before .before .before .before .before .before .before .before .before .before .before .before .append-record in
+    let written = c .before .before .before .before .before .before .before .before .before .before .before .before .written in
+    let bytes = recordBytes (a .self .config .expiry) (a .key .now) (a .value .now) (a .expires-at) in
+    let whole = rest (filledIn (a .self)) (a .arena .now) in
+    let q = append-in bytes whole (append-record .last .0) (written .given .0 .0) (ap (λ (r : WriteAnswer). writeResult r (append-record .last .0)) (sym (written .given .1)) ∙ append-record .ensures) in
+    home-length bytes (a .arena .now) (append-record .last .0) (filledIn (a .self)) (omega (arith, c .before .before .before .before .before .before .before .before .before .before .before .before .before .before .before .before .before .before .before .before .before .before .before .before .before .pre .0, size-is (a .self .config .expiry) (a .key .now) (a .value .now) (a .expires-at))) (q .2)
 
 -- src/rebuild.rt:268:5
 returns-2 : tie.Need-returns-2
@@ -108,12 +119,12 @@ returns-2 c =
     let a = c .before .before .before .before .before .before .before .before .before .before .before .before .before .before .before .before .before .before .before .before .before .before .before .before .before .args in
     let append-record = c .before .before .before .before .before .before .before .before .before .before .before .before .before .before .before .before .append-record in
     let written = c .before .before .before .before .before .before .before .before .before .before .before .before .written in
-    let retained = c .before .before .before .before .before .before .before .before .before .retained in
+    let counted = c .before .before .before .before .before .before .before .before .before .retained in
     let push-index = c .before .before .before .before .before .push-index in
     let bytes = recordBytes (a .self .config .expiry) (a .key .now) (a .value .now) (a .expires-at) in
     let whole = rest (filledIn (a .self)) (a .arena .now) in
     let q = append-in bytes whole (append-record .last .0) (written .given .0 .0) (ap (λ (r : WriteAnswer). writeResult r (append-record .last .0)) (sym (written .given .1)) ∙ append-record .ensures) in
-    let placed : retained .result * 2 ^ 32 + a .self .«copied_bytes» ≡ copiedLocation (a .self) = omega (arith, retained .ensures) in
+    let placed : counted .result * 2 ^ 32 + a .self .«copied_bytes» ≡ copiedLocation (a .self) = omega (arith, counted .ensures) in
     copied-left (a .slot) (a .expires-at) (a .self) (a .hash) (a .key .now) (a .value .now) (a .index .now) (a .filter .now) (a .arena .now) (append-record .last .0) _ (c .copied-grown .result) _ _ _ (q .1) (q .2)
     (c .copied-grown .ensures) placed (push-index .ensures .0) (push-index .ensures .1)
 

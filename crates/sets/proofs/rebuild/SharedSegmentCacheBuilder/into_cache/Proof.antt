@@ -33,15 +33,15 @@ sum-of-requires c κs = rw (c .retained .ensures) (c .before .before .before .be
 add-t9 : tie.Need-add-t9
 add-t9 c =
     let a = c .before .before .before .before .before .before .before .before .args in
-    let retained = c .before .before .retained in
-    omega (arith, c .before .sum-of .ensures, ap (λ (n : ℕ). sumOf n (a .lengths .now)) (retained .ensures), c .before .before .before .before .before .before .before .before .pre .1, c .before .before .before .before .before .before .before .before .pre .2)
+    let counted = c .before .before .retained in
+    omega (arith, c .before .sum-of .ensures, ap (λ (n : ℕ). sumOf n (a .lengths .now)) (counted .ensures), c .before .before .before .before .before .before .before .before .pre .1, c .before .before .before .before .before .before .before .before .pre .2)
 
 -- src/rebuild.rt:391:5
 returns : tie.Need-returns
 returns c =
     let segment-count = c .before .before .before .before .segment-count in
-    let retained = c .before .before .retained in
-    rw (segment-count .ensures, c .before .sum-of .ensures, retained .ensures)
+    let counted = c .before .before .retained in
+    rw (segment-count .ensures, c .before .sum-of .ensures, counted .ensures)
 
 pub into-cache-spec : {M : Type 1} → statement M
 into-cache-spec =

@@ -26,20 +26,20 @@ adds-segment-requires c κs = search needs
 add-result : tie.Need-add-result
 add-result c =
     let a = c .before .before .before .before .args in
-    let retained = c .before .before .retained in
-    omega (arith, retained .ensures, retained-256 (a .self .kept))
+    let counted = c .before .before .retained in
+    omega (arith, counted .ensures, retained-256 (a .self .kept))
 
 -- src/rebuild.rt:418:13
 returns : tie.Need-returns
 returns c =
-    let retained = c .before .before .retained in
-    rw (sym (c .before .adds-segment .ensures) ∙ c .if1 .taken) (omega (arith, retained .ensures))
+    let counted = c .before .before .retained in
+    rw (sym (c .before .adds-segment .ensures) ∙ c .if1 .taken) (omega (arith, counted .ensures))
 
 -- src/rebuild.rt:412:5
 returns-2 : tie.Need-returns-2
 returns-2 c =
-    let retained = c .before .before .retained in
-    rw (sym (c .before .adds-segment .ensures) ∙ c .if1 .left) (omega (arith, retained .ensures))
+    let counted = c .before .before .retained in
+    rw (sym (c .before .adds-segment .ensures) ∙ c .if1 .left) (omega (arith, counted .ensures))
 
 pub segment-count-spec : {M : Type 1} → statement M
 segment-count-spec =
