@@ -6,5 +6,8 @@ pub mod Counts
 pub mod Decides
 pub mod EmptySlots
 pub mod Finding
+pub mod ReadInside
+pub mod RebuildAccepted
+pub mod RebuildAsked
 pub mod Splitting
 pub mod WalkSteps
