@@ -3,12 +3,12 @@
 use mathlib.Core.Path.{_≡_, refl, sym, ap, _∙_}
 use mathlib.Core.Bool.{Bool, true, false}
 use mathlib.Core.List.{List, [], _∷_}
-use Prim.Native.Nat.{ℕ, zero, suc, _+_, _-_, _*_, _^_, _≤_, _<_}
+use Prim.Native.Nat.{ℕ, zero, suc, _+_, _-_, _*_, _≤_, _<_}
 use native.Mathlib.Omega.{arith}
 use lib.Dec.{eqb, leb}
 use lib.ListN.{length, set, getD, length-set}
 use lib.Seq.{getD-take}
-use borrow.Author.Tests.{eqb-true, eq-eqb, leb-true, le-leb}
+use borrow.Author.Tests.{eqb-true, leb-true, le-leb}
 use Rattle.hash_parts.specs.Choice.{pick}
 use Rattle.hash_parts.specs.declared.duration.Lifetime.{Lifetime}
 use Rattle.hash_parts.specs.declared.setting.SegmentExpiry.{SegmentExpiry}
@@ -23,7 +23,7 @@ use Rattle.sets.specs.Build.{slotIn}
 use Rattle.sets.specs.Kept.{chosen, keptCount, keptOf, retained}
 use Rattle.sets.specs.Lookup.{setFits, areasHoldSet}
 use Rattle.sets.specs.Questions.{all, arenaHolds, bucketsIn, filterWordsIn, segmentAreasHold}
-use Rattle.sets.specs.Rebuild.{accounted, addsSegment, areasHoldRebuild, areasHoldSource, filledIn, segmentFor, keptView, movedLocation, rebuildOpened, RebuildOpened, afterRebuildOpen, reusedGrown, Reused, afterReused, copiedDeadline, copiedGrown, copiedLocation, copiedSize, Copied, afterCopied, buildOf, rebuiltSet, withLast, RebuildFinished, afterRebuildFinish}
+use Rattle.sets.specs.Rebuild.{accounted, addsSegment, areasHoldRebuild, filledIn, segmentFor, keptView, movedLocation, rebuildOpened, RebuildOpened, afterRebuildOpen, reusedGrown, Reused, afterReused, copiedDeadline, copiedGrown, copiedLocation, copiedSize, Copied, afterCopied, buildOf, rebuiltSet, withLast, RebuildFinished, afterRebuildFinish}
 use Rattle.sets.specs.declared.cache.FrozenSegmentCache.{FrozenSegmentCache}
 use Rattle.sets.specs.declared.rebuild.SegmentRecordLocation.{SegmentRecordLocation}
 use Rattle.sets.specs.declared.rebuild.SharedSegmentCacheBuild.{SharedSegmentCacheBuild}
@@ -33,7 +33,7 @@ use Rattle.sets.proofs.Counts.{both}
 use Rattle.sets.proofs.KeptBits.{chosen-length, retained-256, retained-kept}
 use Rattle.sets.proofs.ReadInside.{reused-record}
 use Rattle.sets.proofs.RebuildAccepted.{ReopenCase, reopen-made, reopen-refused, reopen-case, ReusedCase, reused-made, reused-refused, reused-case, CopiedCase, copied-made, copied-refused, copied-case, RefinishCase, refinish-made, refinish-refused, refinish-case}
-use Rattle.sets.proofs.RebuildAsked.{EachInside, RebuildFits, AreasHoldRebuild, ReopenAsked, rebuild-areas-asked, rebuild-areas-pass}
+use Rattle.sets.proofs.RebuildAsked.{EachInside, AreasHoldRebuild, ReopenAsked, rebuild-areas-asked, rebuild-areas-pass}
 
 -- ---- question 1 with every area: index, filter and arena by their lengths
 
