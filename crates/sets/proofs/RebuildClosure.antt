@@ -1,13 +1,14 @@
 -- Question 1 stays answered yes in rebuilds: an accepted rebuild open, reused push, copied push or rebuild finish leaves a state and areas that pass it, and
 -- none changes the length of an area. Nothing is assumed of the state given but that the call was accepted. Assumes nothing.
-use mathlib.Core.Path.{_≡_, refl, sym, ap, _∙_}
+use mathlib.Core.Path.{_≡_, refl, sym, ap, subst, _∙_}
 use mathlib.Core.Bool.{Bool, true, false}
 use mathlib.Core.List.{List, [], _∷_}
 use Prim.Native.Nat.{ℕ, zero, suc, _+_, _-_, _*_, _≤_, _<_}
+use native.Mathlib.Decide.{decLt}
 use native.Mathlib.Omega.{arith}
 use lib.Dec.{eqb, leb}
 use lib.ListN.{length, set, getD, length-set}
-use lib.Seq.{getD-take}
+use lib.Seq.{getD-take, getD-set-same, getD-set-other}
 use borrow.Author.Tests.{eqb-true, leb-true, le-leb}
 use Rattle.hash_parts.specs.Choice.{pick}
 use Rattle.hash_parts.specs.declared.duration.Lifetime.{Lifetime}
@@ -23,7 +24,7 @@ use Rattle.sets.specs.Build.{slotIn}
 use Rattle.sets.specs.Kept.{chosen, keptCount, keptOf, retained}
 use Rattle.sets.specs.Lookup.{setFits, areasHoldSet}
 use Rattle.sets.specs.Questions.{all, arenaHolds, bucketsIn, filterWordsIn, segmentAreasHold}
-use Rattle.sets.specs.Rebuild.{accounted, addsSegment, areasHoldRebuild, filledIn, segmentFor, keptView, movedLocation, rebuildOpened, RebuildOpened, afterRebuildOpen, reusedGrown, Reused, afterReused, copiedDeadline, copiedGrown, copiedLocation, copiedSize, Copied, afterCopied, buildOf, rebuiltSet, withLast, RebuildFinished, afterRebuildFinish}
+use Rattle.sets.specs.Rebuild.{accounted, addsSegment, areasHoldRebuild, filledIn, segmentFor, segmentsInside, keptView, movedLocation, rebuildOpened, RebuildOpened, afterRebuildOpen, reusedGrown, Reused, afterReused, copiedDeadline, copiedGrown, copiedLocation, copiedSize, Copied, afterCopied, buildOf, rebuiltSet, withLast, RebuildFinished, afterRebuildFinish}
 use Rattle.sets.specs.declared.cache.FrozenSegmentCache.{FrozenSegmentCache}
 use Rattle.sets.specs.declared.rebuild.SegmentRecordLocation.{SegmentRecordLocation}
 use Rattle.sets.specs.declared.rebuild.SharedSegmentCacheBuild.{SharedSegmentCacheBuild}
@@ -33,7 +34,7 @@ use Rattle.sets.proofs.Counts.{both}
 use Rattle.sets.proofs.KeptBits.{chosen-length, retained-256, retained-kept}
 use Rattle.sets.proofs.ReadInside.{reused-record}
 use Rattle.sets.proofs.RebuildAccepted.{ReopenCase, reopen-made, reopen-refused, reopen-case, ReusedCase, reused-made, reused-refused, reused-case, CopiedCase, copied-made, copied-refused, copied-case, RefinishCase, refinish-made, refinish-refused, refinish-case}
-use Rattle.sets.proofs.RebuildAsked.{EachInside, AreasHoldRebuild, ReopenAsked, rebuild-areas-asked, rebuild-areas-pass}
+use Rattle.sets.proofs.RebuildAsked.{EachInside, AreasHoldRebuild, ReopenAsked, rebuild-areas-asked, rebuild-areas-pass, segments-pass}
 
 -- ---- question 1 with every area: index, filter and arena by their lengths
 
@@ -287,6 +288,29 @@ rebuilt-segments r few = go (eqb (r .«copied_bytes») 0) few (eqb (retained (r 
         some zero q = absurd (true≢false q)
         some (suc m) q = omega arith
 
+-- each of them lies in the filled arena
+last-inside : (r : SharedSegmentCacheBuilder) (index : ℕ) (starts lengths : List ℕ) (arena : ℕ) → AreasHoldRebuild r index starts lengths arena
+    → EachInside (filledIn r) (withLast r starts (r .«source_filled»)) (withLast r lengths (r .«copied_bytes»)) (retained (r .kept) + pick (addsSegment r) 1 0)
+last-inside r index starts lengths arena f = go (addsSegment r) (rebuilt-segments r (f .numbers .few) .1)
+  where
+    n : ℕ
+    n = retained (r .kept)
+
+    go : (t : Bool) → n + pick t 1 0 ≤ 256
+        → EachInside (filledIn r) (pick t (set starts n (r .«source_filled»)) starts) (pick t (set lengths n (r .«copied_bytes»)) lengths) (n + pick t 1 0)
+    go false few g h = f .inside g (omega arith)
+    go true few g h =
+        let begin : ℕ = r .«source_filled» in
+        let len : ℕ = r .«copied_bytes» in
+        elim (decLt g n) as
+        (λ _. getD (set starts n begin) g 0 + getD (set lengths n len) g 0 ≤ filledIn r) [
+          | yes y ↦ omega
+              (arith, f .inside g y, getD-set-other starts n g begin 0 (λ (q : g ≡ n). omega arith), getD-set-other lengths n g len 0 (λ (q : g ≡ n). omega arith))
+          | no y ↦ let same : n ≡ g = omega arith in
+              subst (λ (i : ℕ). getD (set starts n begin) i 0 + getD (set lengths n len) i 0 ≤ filledIn r) same
+              (omega (arith, getD-set-same starts n begin 0 (omega (arith, f .starts-hold)), getD-set-same lengths n len 0 (omega (arith, f .lengths-hold))))
+        ]
+
 with-last-length : (r : SharedSegmentCacheBuilder) (area : List ℕ) (word : ℕ) → length (withLast r area word) ≡ length area
 with-last-length r area word = go (addsSegment r)
   where
@@ -327,3 +351,18 @@ module _ (r : SharedSegmentCacheBuilder) (index starts lengths scratch arena : L
           rw (← same)
           (rw
           (f .counts, le-leb _ _ (few .0), le-leb _ _ (few .1), ← a .complete, le-leb _ _ (f .key-bytes), le-leb _ _ (f .value-bytes), le-leb _ _ (f .header-bytes), le-leb _ _ (a .areas .index-holds), le-leb _ _ (a .areas .starts-hold), le-leb _ _ (a .areas .lengths-hold), le-leb _ _ (a .areas .filled-held), le-leb _ _ (a .areas .arena-short), le-leb _ _ held))
+
+  -- and each segment of the set lies in its filled arena, so it may be a source again
+  pub refinish-inside : (b : SharedSegmentCacheBuild) → refinished .answer ≡ accept b
+      → segmentsInside (b .cache .segments) (b .cache .filled) (refinished .starts) (refinished .lengths) ≡ true
+  refinish-inside b e = go (refinish-case r index starts lengths scratch arena) e
+    where
+      go : {f : RebuildFinished} → RefinishCase r index starts lengths scratch arena f → f .answer ≡ accept b
+          → segmentsInside (b .cache .segments) (b .cache .filled) (f .starts) (f .lengths) ≡ true
+      go (refinish-refused n) e = cc
+      go (refinish-made a) e =
+          let made : buildOf r lengths ≡ b = cc in
+          let same : rebuiltSet r lengths ≡ b .cache = ap (λ (q : SharedSegmentCacheBuild). q .cache) made in
+          rw (← same)
+          (segments-pass (filledIn r) (withLast r starts (r .«source_filled»)) (withLast r lengths (r .«copied_bytes»)) (retained (r .kept) + pick (addsSegment r) 1 0)
+          (last-inside r (length index) starts lengths (length arena) (a .areas)))
