@@ -10,11 +10,10 @@ use lib.Dec.{eqb}
 use lib.ListN.{length, getD, take, drop, replicate}
 use lib.Seq.{drop-drop, drop-nil, take-all}
 use Rattle.hash_parts.specs.Choice.{pick}
-use Rattle.records.specs.Area.{part}
 use Rattle.index.proofs.Table.{true≢false}
 use Rattle.sets.specs.Kept.{bitsOf, chosen, countTrue, flagWord, isKept, keptCount, keptFlags, keptOf, newNumber, retained}
 use Rattle.sets.specs.declared.kept.KeptSegments.{KeptSegments}
-use Rattle.sets.proofs.KeptWords.{chosen-count, flags-length}
+use Rattle.sets.proofs.KeptWords.{flags-length}
 
 -- ---- any state
 
@@ -49,8 +48,17 @@ kept-below k g e = omega (arith, set-below (keptFlags k) g e, flags-length k)
 
 -- ---- the words that flags choose
 
+-- as many words are chosen as flags keep
 pub chosen-length : (flags words : List ℕ) → length flags ≤ length words → length (chosen flags words) ≡ keptCount flags
-chosen-length = chosen-count
+unfolding chosen keptCount
+chosen-length [] words h = refl
+chosen-length (f ∷ flags) [] h = absurd (omega (arith, h))
+chosen-length (f ∷ flags) (w ∷ words) h = go (eqb f 0) (chosen-length flags words (omega (arith, h)))
+  where
+    go : (t : Bool) → length (chosen flags words) ≡ keptCount flags
+        → length (pick t (chosen flags words) (w ∷ chosen flags words)) ≡ pick t (keptCount flags) (suc (keptCount flags))
+    go true e = e
+    go false e = ap suc e
 
 pub chosen-at : (flags words : List ℕ) (g : ℕ) → length flags ≤ length words → not (eqb (getD flags g 0) 0) ≡ true → getD (chosen flags words) (keptCount (take g flags)) 0 ≡ getD words g 0
 unfolding chosen keptCount

@@ -59,18 +59,6 @@ pub chosen-end : (flags words : List ℕ) (i : ℕ) → length flags ≤ i → c
 unfolding chosen
 chosen-end flags words i h = rw (drop-of-length-le flags h)
 
--- as many words are chosen as flags keep
-pub chosen-count : (flags words : List ℕ) → length flags ≤ length words → length (chosen flags words) ≡ keptCount flags
-unfolding chosen keptCount
-chosen-count [] words h = refl
-chosen-count (f ∷ flags) [] h = absurd (omega (arith, h))
-chosen-count (f ∷ flags) (w ∷ words) h = go (eqb f 0) (chosen-count flags words (omega (arith, h)))
-  where
-    go : (t : Bool) → length (chosen flags words) ≡ keptCount flags
-        → length (pick t (chosen flags words) (w ∷ chosen flags words)) ≡ pick t (keptCount flags) (suc (keptCount flags))
-    go true e = e
-    go false e = ap suc e
-
 -- ---- the set bits of a word
 
 pub bits-step : (n w : ℕ) → 0 < n → countTrue (bitsOf n w) ≡ w % 2 + countTrue (bitsOf (n - 1) (w / 2))

@@ -1,9 +1,9 @@
 // Which segments of its source a rebuild keeps. The flags are lent at rebuild open alone, so the
 // state remembers them: a bit for each of 256 segments.
 ghost use mathlib.Core.Path.{_≡_};
-ghost use Prim.Native.Nat.{_≤_, _*_};
+ghost use Prim.Native.Nat.{_≤_};
 ghost use mathlib.Core.Bool.{false};
-ghost use lib.ListN.{length, drop, take, getD};
+ghost use lib.ListN.{length, getD};
 ghost use Rattle.records.specs.Area.{over, part};
 ghost use Rattle.sets.specs.Kept.{bitsOf, chosen, countTrue, flagWord, isKept, keptCount, keptOf, newNumber, retained};
 

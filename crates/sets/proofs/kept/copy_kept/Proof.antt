@@ -1,12 +1,13 @@
 -- `copy_kept` meets its contract: what is written and what is left to choose are the chosen words. Assumes nothing.
 use mathlib.Core.Path.{_≡_, subst}
 use mathlib.Core.List.{List, [], _∷_}
-use Prim.Native.Nat.{ℕ, _+_, _-_, _≤_, _<_}
+use Prim.Native.Nat.{ℕ, _+_, _-_, _<_}
 use native.Mathlib.Omega.{arith}
 use lib.ListN.{length, getD, drop}
 use Rattle.records.proofs.Area.{Writing, begin, fits, room, next-byte, complete}
 use Rattle.sets.specs.Kept.{chosen}
-use Rattle.sets.proofs.KeptWords.{chosen-count, chosen-dropped, chosen-end, chosen-kept}
+use Rattle.sets.proofs.KeptBits.{chosen-length}
+use Rattle.sets.proofs.KeptWords.{chosen-dropped, chosen-end, chosen-kept}
 use Rattle.sets.proofs.kept.copy_kept.Statement.{statement}
 use Rattle.sets.proofs.kept.copy_kept.Tie as tie
 
@@ -18,15 +19,15 @@ abbrev μ-loop : tie.MeasureT-loop
 
 -- a kept word has a place
 space : (flags words area out : List ℕ) (i at : ℕ) → i < length flags → i < length words → (getD flags i 0 ≡ 0 → ⊥)
-    → Writing (chosen flags words) (chosen (drop i flags) (drop i words)) area out at → (at < length out) × (length out ≡ length area)
+    → Writing (chosen flags words) (chosen (drop i flags) (drop i words)) area out at → at < length out
 space flags words area out i at h k n w =
-    (omega (arith, fits (getD words i 0 ∷ []) (chosen (drop (i + 1) flags) (drop (i + 1) words)) w (chosen-kept flags words i h k n)), room w .1)
+    omega (arith, fits (getD words i 0 ∷ []) (chosen (drop (i + 1) flags) (drop (i + 1) words)) w (chosen-kept flags words i h k n))
 
 loop-holds : tie.Need-loop-holds Inv-loop μ-loop
 loop-holds c =
     let flags : List ℕ = c .args .flags .now in
     let words : List ℕ = c .args .words .now in
-    begin (chosen flags words) (c .args .area .now) (omega (arith, chosen-count flags words (c .pre .0)))
+    begin (chosen flags words) (c .args .area .now) (omega (arith, chosen-length flags words (c .pre .0)))
 
 add-next : tie.Need-add-next Inv-loop μ-loop
 add-next c = omega arith
@@ -40,26 +41,21 @@ mul-area c = omega (arith, c .before .before .before .before .good .1 .0 .1)
 shared-slice-read-area : tie.Need-shared-slice-read-area Inv-loop μ-loop
 shared-slice-read-area c = omega arith
 
-mul-area-2 : tie.Need-mul-area-2 Inv-loop μ-loop
-mul-area-2 c =
-    let s = c .before .before .before .before in
-    let a = s .before .args in
-    let p = space (a .flags .now) (a .words .now) (a .area .now) (s .loop .area) (s .loop .next) (s .loop .kept) (omega arith) (omega arith) (c .before .if1 .taken) (s .loop .inv) in
-    omega (arith, s .before .good .1 .1 .0 .1)
-
 slice-write-area : tie.Need-slice-write-area Inv-loop μ-loop
 slice-write-area c =
     let s = c .before .before .before .before in
     let a = s .before .args in
-    let p = space (a .flags .now) (a .words .now) (a .area .now) (s .loop .area) (s .loop .next) (s .loop .kept) (omega arith) (omega arith) (c .before .if1 .taken) (s .loop .inv) in
-    p .0
+    space (a .flags .now) (a .words .now) (a .area .now) (s .loop .area) (s .loop .next) (s .loop .kept) (omega arith) (omega arith) (c .before .if1 .taken) (s .loop .inv)
+
+mul-area-2 : tie.Need-mul-area-2 Inv-loop μ-loop
+mul-area-2 c =
+    let s = c .before .before .before .before in
+    omega (arith, slice-write-area c, room (s .loop .inv), s .before .good .1 .1 .0 .1)
 
 add-kept : tie.Need-add-kept Inv-loop μ-loop
 add-kept c =
     let s = c .before .before .before .before in
-    let a = s .before .args in
-    let p = space (a .flags .now) (a .words .now) (a .area .now) (s .loop .area) (s .loop .next) (s .loop .kept) (omega arith) (omega arith) (c .before .if1 .taken) (s .loop .inv) in
-    omega (arith, s .before .good .1 .1 .0 .1)
+    omega (arith, slice-write-area c, room (s .loop .inv), s .before .good .1 .1 .0 .1)
 
 loop-less : tie.Need-loop-less Inv-loop μ-loop
 loop-less c = omega arith

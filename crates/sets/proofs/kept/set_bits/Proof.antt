@@ -1,6 +1,6 @@
 -- `set_bits` meets its contract: the bits found and those of the rest are those of the word. Assumes nothing.
 use mathlib.Core.Path.{_≡_, ap, _∙_}
-use Prim.Native.Nat.{ℕ, _+_, _-_, _/_, _%_, _≤_}
+use Prim.Native.Nat.{ℕ, _+_, _≤_}
 use native.Mathlib.Omega.{arith}
 use Rattle.sets.specs.Kept.{bitsOf, countTrue}
 use Rattle.sets.proofs.KeptWords.{bits-none, bits-step, bits-zero}
