@@ -1,7 +1,7 @@
 -- Which segments of its source a rebuild keeps: a bit for each of 256 segments, in four words. Document 01, Rebuilt set: "Keeps chosen segments unmoved";
 -- questions: "keep flags (0 drops, else kept)"; "the kept segments' starts and lengths, numbered anew in order".
 -- Assumes nothing.
-use mathlib.Core.Bool.{Bool, true, false}
+use mathlib.Core.Bool.{Bool, false}
 use mathlib.Core.List.{List, [], _∷_, _++_}
 use Prim.Native.Nat.{ℕ, zero, suc, _+_, _*_, _/_, _%_}
 use lib.Dec.{eqb}
@@ -20,13 +20,6 @@ bitsOf (suc n) w = eqb (w % 2) 1 ∷ bitsOf n (w / 2)
 -- of each of 256 segments, whether it is kept
 unfoldable pub keptFlags : KeptSegments → List Bool
 keptFlags k = bitsOf 64 (k .w0) ++ (bitsOf 64 (k .w1) ++ (bitsOf 64 (k .w2) ++ bitsOf 64 (k .w3)))
-
--- the word of a group of 64 segments
-abbrev pub keptWord : KeptSegments → ℕ → ℕ
-keptWord k zero = k .w0
-keptWord k (suc zero) = k .w1
-keptWord k (suc (suc zero)) = k .w2
-keptWord k (suc (suc (suc n))) = k .w3
 
 abbrev pub countTrue : List Bool → ℕ
 countTrue [] = 0

@@ -1,10 +1,11 @@
 // Which segments of its source a rebuild keeps. The flags are lent at rebuild open alone, so the
 // state remembers them: a bit for each of 256 segments.
 ghost use mathlib.Core.Path.{_≡_};
-ghost use Prim.Native.Nat.{_≤_, _*_};
-ghost use lib.ListN.{length, drop, take};
+ghost use Prim.Native.Nat.{_≤_};
+ghost use mathlib.Core.Bool.{false};
+ghost use lib.ListN.{length, getD};
 ghost use Rattle.records.specs.Area.{over, part};
-ghost use Rattle.sets.specs.Kept.{bitsOf, chosen, countTrue, flagWord, isKept, keptCount, keptOf, keptWord, newNumber, retained};
+ghost use Rattle.sets.specs.Kept.{bitsOf, chosen, countTrue, flagWord, isKept, keptCount, keptOf, newNumber, retained};
 
 const WORD_BITS: usize = 64;
 
@@ -33,11 +34,19 @@ impl KeptSegments {
     pub(crate) fn is_kept(self, segment: usize) -> bool
         ensures { λ r. ⌜ r ≡ isKept self segment ⌝ }
     {
-        if segment >= 256 {
-            return false;
+        if segment < 64 {
+            return bit_set(self.w0, segment);
         }
-        let word = self.word(segment / WORD_BITS);
-        (word >> (segment % WORD_BITS)) % 2 == 1
+        if segment < 128 {
+            return bit_set(self.w1, segment - 64);
+        }
+        if segment < 192 {
+            return bit_set(self.w2, segment - 128);
+        }
+        if segment < 256 {
+            return bit_set(self.w3, segment - 192);
+        }
+        false
     }
 
     // How many segments are kept.
@@ -55,34 +64,32 @@ impl KeptSegments {
         requires { ⌜ segment ≤ 255 ⌝ }
         ensures { λ r. ⌜ r ≡ newNumber self segment ⌝ }
     {
-        let mut before = 0;
-        let mut word = 0;
-        while word < segment / WORD_BITS {
-            before += set_bits(self.word(word), WORD_BITS);
-            word += 1;
+        if segment < 64 {
+            return set_bits(self.w0, segment);
         }
-        before + set_bits(self.word(word), segment % WORD_BITS)
+        let first = set_bits(self.w0, WORD_BITS);
+        if segment < 128 {
+            return first + set_bits(self.w1, segment - 64);
+        }
+        let second = first + set_bits(self.w1, WORD_BITS);
+        if segment < 192 {
+            return second + set_bits(self.w2, segment - 128);
+        }
+        second + set_bits(self.w2, WORD_BITS) + set_bits(self.w3, segment - 192)
     }
+}
 
-    fn word(self, number: usize) -> u64
-        ensures { λ r. ⌜ r ≡ keptWord self number ⌝ }
-    {
-        if number == 0 {
-            return self.w0;
-        }
-        if number == 1 {
-            return self.w1;
-        }
-        if number == 2 {
-            return self.w2;
-        }
-        self.w3
-    }
+// Whether a bit of a word is set.
+fn bit_set(word: u64, at: usize) -> bool
+    requires { ⌜ at ≤ 63 ⌝ }
+    ensures { λ r. ⌜ r ≡ getD (bitsOf 64 word) at false ⌝ }
+{
+    (word >> at) % 2 == 1
 }
 
 // The set bits among the lowest bits of a word, so many.
 fn set_bits(word: u64, count: usize) -> usize
-    ensures { λ r. ⌜ r ≡ countTrue (bitsOf count word) ⌝ }
+    ensures { λ r. ⌜ (r ≡ countTrue (bitsOf count word)) × (r ≤ count) ⌝ }
 {
     let mut rest = word;
     let mut left = count;
@@ -145,12 +152,13 @@ pub(crate) fn copy_kept(flags: &[u8], words: &[u64], area: &mut [u64])
     ensures { λ r. ⌜ now (area .exit) ≡ over (chosen (now (flags .entry)) (now (words .entry))) (now (area .entry)) ⌝ }
 {
     let mut kept = 0;
-    let mut i = 0;
-    while i < flags.len() {
+    let mut next = 0;
+    while next < flags.len() {
+        let i = next;
+        next += 1;
         if flags[i] != 0 {
             area[kept] = words[i];
             kept += 1;
         }
-        i += 1;
     }
 }
