@@ -167,8 +167,8 @@ setWords s =
 -- ---- a rebuild: 22 words
 
 -- the four words of the kept segments
-abbrev pub keptOf : List ℕ → KeptSegments
-keptOf w = record { w0 = getD w 10 0; w1 = getD w 11 0; w2 = getD w 12 0; w3 = getD w 13 0 }
+abbrev pub keptAt : List ℕ → KeptSegments
+keptAt w = record { w0 = getD w 10 0; w1 = getD w 11 0; w2 = getD w 12 0; w3 = getD w 13 0 }
 
 abbrev pub rebuildOf : SegmentCacheConfig → List ℕ → SharedSegmentCacheBuilder
 rebuildOf c w =
@@ -178,7 +178,7 @@ rebuildOf c w =
       «inserted_entries» = getD w 7 0;
       «bucket_count» = getD w 8 0;
       «filter_words» = getD w 9 0;
-      kept = keptOf w;
+      kept = keptAt w;
       «source_filled» = getD w 14 0;
       «copied_bytes» = getD w 15 0;
       «logical_key_bytes» = getD w 16 0;
