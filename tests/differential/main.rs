@@ -10,6 +10,7 @@ mod finds;
 mod forged;
 mod forged_calls;
 mod forged_finds;
+mod forged_rebuilds;
 mod forged_states;
 mod hash;
 mod index_words;
@@ -24,6 +25,7 @@ mod port_lookups;
 #[cfg(not(stand_in))]
 mod port_rebuilds;
 mod port_sets;
+mod rebuild_stages;
 mod record_read;
 mod record_write;
 mod report;
@@ -115,6 +117,7 @@ fn sets(run: &mut Run) {
         small::line_lists::lists,
     );
     run.group("forged states and areas", forged_states::states);
+    run.group("forged rebuilds and areas", forged_rebuilds::states);
     run.group("forged words, records and segments", forged_calls::calls);
 }
 
