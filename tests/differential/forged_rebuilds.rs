@@ -12,8 +12,8 @@ use crate::stages::both;
 
 pub fn states(group: &mut Group, random: u64) {
     let mut rng = Rng::new(36);
-    let words = port_rebuilds::rebuild_words();
-    group.rule("words of a rebuild", words, 22, String::new);
+    let (words, wanted) = (port_rebuilds::rebuild_words(), model::rebuild_words());
+    group.rule("words of a rebuild", words, wanted, String::new);
     for stage in rebuild_stages(&mut rng) {
         for ask in stage.asks() {
             forged(group, &mut rng, &stage.stage, &ask, random / 6_000);
@@ -225,16 +225,17 @@ fn reused_orders(group: &mut Group, stage: &Rebuilding) {
     ];
     let longer = [right.value, b"x"].concat();
     let shorter = &right.value[..right.value.len().saturating_sub(1)];
+    let mut forged = vec![right];
+    forged.extend(locations.map(|location| Reused { location, ..right }));
+    forged.extend(headers.map(|header| Reused { header, ..right }));
+    forged.extend([shorter, &longer, b""].map(|value| Reused { value, ..right }));
+    forged.extend([right.value, b"", b"other"].map(|key| Reused { key, ..right }));
     for reasons in 0..4 {
         let world = room(&stage.stage.world, reasons & 1 == 1, reasons & 2 == 2);
-        let mut both = |reused: Reused| {
-            let about = format!("{}, reasons {reasons:b}", stage.stage.name);
+        let about = format!("{}, reasons {reasons:b}", stage.stage.name);
+        for &reused in &forged {
             both(group, &about, &world, &Ask::Reused(reused));
-        };
-        locations.map(|location| both(Reused { location, ..right }));
-        headers.map(|header| both(Reused { header, ..right }));
-        [shorter, &longer, b""].map(|value| both(Reused { value, ..right }));
-        [right.value, b"", b"other"].map(|key| both(Reused { key, ..right }));
+        }
     }
 }
 

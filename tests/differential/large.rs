@@ -16,7 +16,7 @@ mod line_lookups;
 #[path = "line_rebuilds.rs"]
 mod line_rebuilds;
 #[path = "lines.rs"]
-mod lines;
+pub mod lines;
 #[path = "one_set.rs"]
 mod one_set;
 #[path = "segments.rs"]

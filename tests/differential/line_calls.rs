@@ -1,7 +1,7 @@
 // Whole random lists of calls: one base set, then a line of rebuilds, with refused calls of every
 // kind between. After each call keys are looked up in all sets of the line. This file is a module
 // twice, once for each build of the Rust.
-use super::lines::{AS_IT_IS, Lend, Line};
+use super::lines::{Lend, Line};
 use super::oracle::access_index::Setting;
 use crate::call_lists::{lifetime, taken, too_long};
 use crate::line_records::Records;
@@ -16,7 +16,7 @@ use std::time::Duration;
 pub struct Shape {
     pub count: usize,
     pub target: u64,
-    // Records of two to four bytes.
+    // Keys of two bytes at most and no values.
     pub tiny: bool,
     pub depth: usize,
 }
@@ -64,6 +64,7 @@ pub fn list(group: &mut Group, rng: &mut Rng, shape: &Shape, seen: &mut Seen) {
     list.end(group);
 }
 
+// Half of the lists with expiry.
 fn any_setting(rng: &mut Rng) -> Setting {
     let ticks = [
         Duration::from_secs(1),
@@ -71,10 +72,7 @@ fn any_setting(rng: &mut Rng) -> Setting {
         Duration::new(60, 1),
     ];
     Setting {
-        tick: rng
-            .one_in(3)
-            .then_some(ticks[0])
-            .or(rng.one_in(2).then_some(rng.pick(&ticks))),
+        tick: rng.one_in(2).then_some(rng.pick(&ticks)),
         occupied: 1 + rng.below(7) as u8,
         packed: rng.one_in(2),
         bits: rng.pick(&[0, 1, 8, 255]),

@@ -39,9 +39,6 @@ pub fn lists(group: &mut Group, random: u64) {
     group.rule("lines of five rebuilds", deep > count / 2, true, || {
         format!("{deep}")
     });
-    if std::env::var("SEEN").is_ok() {
-        println!("{seen:?}");
-    }
 }
 
 // Now and then 256 segments or about as many, no records, or more than the Rust's small target.

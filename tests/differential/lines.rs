@@ -140,26 +140,15 @@ impl Line {
     fn close(&mut self, group: &mut Group, set: Option<Set>) {
         self.sides.close();
         let (at, own) = (At::Set(self.sets.len()), set.is_some());
-        let Some(set) = set.or_else(|| self.forged(at)) else {
+        let arena = &self.sides.wanted.arena;
+        let by_model = || Some(forged(self.setting, self.world(at)?, arena));
+        let Some(set) = set.or_else(by_model) else {
             return;
         };
         let set = Rc::new(set);
         self.sets.push(Known { set, own });
         self.same_set(group, self.sets.len() - 1);
         self.same_page(group, at);
-    }
-
-    fn forged(&self, at: At) -> Option<Set> {
-        let world = self.world(at)?;
-        let segments = world.set[9] as usize;
-        Some(Set::forged(&Parts {
-            setting: self.setting,
-            index: &world.index[..8 * world.set[7] as usize],
-            filter: &world.filter[..world.set[8] as usize],
-            arena: &self.sides.wanted.arena[..world.set[10] as usize],
-            starts: &world.starts[..segments],
-            lengths: &world.lengths[..segments],
-        }))
     }
 
     // The starts and the filled bytes that the book has of a set.
@@ -342,6 +331,20 @@ impl Line {
             known.segments(),
         );
     }
+}
+
+// The set of a world, put together from its areas; it has no statistics.
+pub fn forged(setting: Setting, world: &World, arena: &[u8]) -> Set {
+    let words = &world.set;
+    let segments = words[9] as usize;
+    Set::forged(&Parts {
+        setting,
+        index: &world.index[..8 * words[7] as usize],
+        filter: &world.filter[..words[8] as usize],
+        arena: &arena[..words[10] as usize],
+        starts: &world.starts[..segments],
+        lengths: &world.lengths[..segments],
+    })
 }
 
 // An area against what belongs at its front.

@@ -1,5 +1,5 @@
 // The exports of the crate `capi` that rebuild a set; as in port_sets.rs.
-use crate::set_world::{Opened, Reused, Source};
+use crate::set_world::{Opened, Pushed, Reused, Source};
 
 unsafe extern "C" {
     safe fn segment_cache_rebuild_words() -> usize;
@@ -177,10 +177,7 @@ pub fn push_reused(
 
 pub fn push_copied(
     rebuild: &mut [u64],
-    hash: u64,
-    key: &[u8],
-    value: &[u8],
-    lifetime: &[u64],
+    copied: &Pushed,
     index: &mut [u64],
     filter: &mut [u64],
     starts: &[u64],
@@ -192,13 +189,13 @@ pub fn push_copied(
         segment_cache_push_copied(
             rebuild.as_mut_ptr(),
             rebuild.len(),
-            hash,
-            key.as_ptr(),
-            key.len(),
-            value.as_ptr(),
-            value.len(),
-            lifetime.as_ptr(),
-            lifetime.len(),
+            copied.hash,
+            copied.key.as_ptr(),
+            copied.key.len(),
+            copied.value.as_ptr(),
+            copied.value.len(),
+            copied.lifetime.as_ptr(),
+            copied.lifetime.len(),
             index.as_mut_ptr(),
             index.len(),
             filter.as_mut_ptr(),

@@ -4,7 +4,7 @@ use crate::set_model::{
     segment_areas_pass, state, too_many_nanos,
 };
 use crate::set_rules::*;
-use crate::set_world::{Opened, Reused, Source};
+use crate::set_world::{Opened, Pushed, Reused, Source};
 
 pub const REBUILD_WORDS: usize = 22;
 
@@ -231,10 +231,7 @@ fn asked_reused(
 
 pub fn push_copied(
     rebuild: &mut [u64],
-    hash: u64,
-    key: &[u8],
-    value: &[u8],
-    lifetime: &[u64],
+    copied: &Pushed,
     index: &mut [u64],
     filter: &mut [u64],
     starts: &[u64],
@@ -242,14 +239,14 @@ pub fn push_copied(
     arena: &mut [u8],
     place: &mut [u64],
 ) -> u64 {
-    let form = (lifetime.is_empty() || lifetime.len() == 2) && place.len() == 2;
+    let form = matches!(copied.lifetime.len(), 0 | 2) && place.len() == 2;
     let given = passed(rebuild, index, Some(filter), starts, lengths, arena);
     let Some(given) = given.filter(|_| form) else {
         return STATE;
     };
-    let asked = asked_copied(&given, key, value, lifetime, arena);
+    let asked = asked_copied(&given, copied, arena);
     let asked = asked.and_then(|bytes| {
-        let slot = empty_slot(index, given.given.numbers[2], hash)?;
+        let slot = empty_slot(index, given.given.numbers[2], copied.hash)?;
         Ok((slot, bytes))
     });
     let (slot, bytes) = match asked {
@@ -257,32 +254,26 @@ pub fn push_copied(
         Err(refusal) => return refusal,
     };
     let location = (given.retained << 32) + given.given.numbers[9];
-    enter(&given.given, hash, location, slot, index, filter);
+    enter(&given.given, copied.hash, location, slot, index, filter);
     arena[given.end as usize..][..bytes.len()].copy_from_slice(&bytes);
     place.copy_from_slice(&[slot as u64, location]);
-    let header = bytes.len() - key.len() - value.len();
-    let parts = [key.len(), value.len(), header].map(|bytes| bytes as u64);
-    add(rebuild, bytes.len() as u64, parts, [0, 0]);
+    let (key, value) = (copied.key.len() as u64, copied.value.len() as u64);
+    let bytes = bytes.len() as u64;
+    add(rebuild, bytes, [key, value, bytes - key - value], [0, 0]);
     0
 }
 
 // The questions of a copied push between its state and its walk: the record's bytes.
-fn asked_copied(
-    passed: &Passed<'_>,
-    key: &[u8],
-    value: &[u8],
-    lifetime: &[u64],
-    arena: &[u8],
-) -> Result<Vec<u8>, u64> {
+fn asked_copied(passed: &Passed<'_>, copied: &Pushed, arena: &[u8]) -> Result<Vec<u8>, u64> {
     let (numbers, setting) = (passed.given.numbers, &passed.given.setting);
-    if too_many_nanos(lifetime) {
+    if too_many_nanos(copied.lifetime) {
         return Err(9);
     }
     if numbers[1] >= numbers[0] {
         return Err(3);
     }
-    let deadline = deadline(setting, numbers[15], lifetime)?;
-    let bytes = record_bytes(setting.on, key, value, deadline);
+    let deadline = deadline(setting, numbers[15], copied.lifetime)?;
+    let bytes = record_bytes(setting.on, copied.key, copied.value, deadline);
     if !holds(arena, u128::from(passed.end) + bytes.len() as u128) {
         return Err(10);
     }

@@ -252,14 +252,9 @@ macro_rules! ask_by {
             Ask::Reused(reused) => {
                 $calls::push_reused(rebuild, &reused, index, filter, starts, lengths, arena, out)
             }
-            Ask::Copied(Pushed {
-                hash,
-                key,
-                value,
-                lifetime,
-            }) => $calls::push_copied(
-                rebuild, hash, key, value, lifetime, index, filter, starts, lengths, arena, out,
-            ),
+            Ask::Copied(copied) => {
+                $calls::push_copied(rebuild, &copied, index, filter, starts, lengths, arena, out)
+            }
             Ask::RebuildFinish => {
                 $calls::rebuild_finish(rebuild, index, starts, lengths, scratch, arena, set, out)
             }
