@@ -43,7 +43,11 @@ impl Book {
     // A push, or a copied push; the base is 0 in a build.
     pub fn append(&mut self, key: &[u8], value: &[u8], lifetime: &[u64]) {
         let deadline = match *lifetime {
-            [secs, nanos] => self.base + self.setting.deadline(secs, nanos) as u64,
+            // What would be too much is never accepted.
+            [secs, nanos] => {
+                let ticks = self.setting.deadline(secs, nanos) as u64;
+                self.base.saturating_add(ticks)
+            }
             _ => NEVER,
         };
         self.places.push(self.tape.len() as u64);

@@ -175,17 +175,18 @@ impl List<'_> {
     // Most are taken; with expiry off none is.
     fn lifetime(&mut self) -> Vec<u64> {
         let rng = &mut *self.rng;
+        let nanos = rng.pick(&[1_000_000_000, u64::MAX]);
         let Some(tick) = self.line.setting.tick else {
-            return if rng.one_in(16) {
-                vec![rng.below(2), 0]
-            } else {
-                Vec::new()
+            return match rng.below(32) {
+                0 => vec![rng.below(2), nanos],
+                1 | 2 => vec![rng.below(2), 0],
+                _ => Vec::new(),
             };
         };
         let ticks = rng.below(12);
         match rng.below(16) {
             0 => too_long(rng, tick).unwrap_or_default(),
-            1 => vec![rng.below(2), rng.pick(&[1_000_000_000, u64::MAX])],
+            1 => vec![rng.below(2), nanos],
             2 => taken(rng, tick),
             3..9 => lifetime(u128::from(ticks) * tick.as_nanos()).unwrap_or_default(),
             _ => Vec::new(),

@@ -365,10 +365,15 @@ fn same_segments<B: AsRef<[u8]>>(
     arena: &[u8],
     segments: impl Iterator<Item = (u64, B)>,
 ) {
+    let mut count = 0;
     for (i, (start, bytes)) in segments.enumerate() {
+        count += 1;
         let (bytes, place) = (bytes.as_ref(), (world.starts[i], world.lengths[i]));
         group.rust("segment", place, (start, bytes.len() as u64), &about);
         let there = arena.get(start as usize..).unwrap_or(&[]);
         front(group, "segment's bytes", there, bytes, &about);
     }
+    let rest = [&world.starts[count..256], &world.lengths[count..256]].concat();
+    let zeros = rest.iter().all(|&word| word == 0);
+    group.rule("words behind the segments", zeros, true, about);
 }
