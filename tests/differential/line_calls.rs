@@ -196,7 +196,10 @@ impl List<'_> {
     // A rebuild from its open to its finish; others that are left unfinished may come before.
     fn rebuilt(&mut self, group: &mut Group, all: bool) -> bool {
         let depth = self.line.sets.len();
-        while !self.opened(group, all) {}
+        // Some are refused on the way; all of them only where the model is wrong.
+        if !(0..60).any(|_| self.opened(group, all)) {
+            return false;
+        }
         for _ in 0..140 {
             let missing = self.announced - self.line.book.list.len();
             let finish = missing == 0 && !self.rng.one_in(5) || self.rng.one_in(60);
