@@ -102,8 +102,9 @@ impl Book {
 
     // The location counts by the segments of the newest set.
     pub fn reuse(&mut self, key: &[u8], value: &[u8], location: u64) {
-        let start = self.newest().starts[(location >> 32) as usize];
-        let record = record_at(&self.tape, self.setting.on, start + location % (1 << 32));
+        let (segment, offset) = ((location >> 32) as usize, location % (1 << 32));
+        let start = self.newest().starts.get(segment);
+        let record = start.and_then(|start| record_at(&self.tape, self.setting.on, start + offset));
         let deadline = record.map_or(NEVER, |record| record.deadline);
         self.join(key, value, deadline);
     }

@@ -39,7 +39,11 @@ impl Line {
     ) {
         let entry = self.book.entry(set, key);
         let deadline = entry.map_or(0, |entry| entry.deadline);
-        let near = [deadline.saturating_sub(1), deadline, deadline + 1];
+        let near = [
+            deadline.saturating_sub(1),
+            deadline,
+            deadline.saturating_add(1),
+        ];
         let any = [0, 1, 65_534, 65_535, 65_536, u64::MAX];
         let tick = if rng.one_in(3) {
             rng.pick(&any)
