@@ -11,34 +11,34 @@ use Rattle.sets.specs.Build.{Opened, builderOpened, afterOpen}
 use Rattle.sets.proofs.Accepted.{OpenCase, open-made, open-refused, open-case}
 use Rattle.sets.specs.declared.builder.SegmentCacheBuilder.{SegmentCacheBuilder}
 use Rattle.sets.specs.declared.cache.FrozenSegmentCache.{FrozenSegmentCache}
-use Rattle.passage.specs.Session.{badText, opening, openStep, putting, putStep, closing, closeStep, Getting, getStep}
-use Rattle.passage.specs.declared.session.Session.{Session}
-use Rattle.passage.specs.declared.session.Session.the-variants.{Fresh, Building, Finished}
+use Rattle.passage.specs.Stage.{badText, opening, openStep, putting, putStep, closing, closeStep, Getting, getStep}
+use Rattle.passage.specs.declared.stage.Stage.{Stage}
+use Rattle.passage.specs.declared.stage.Stage.the-variants.{Fresh, Building, Finished}
 
 -- ---- out of turn
 
-pub open-out : (s : Session) (records : ℕ) (config : SegmentCacheConfig) (index filter starts lengths arena : List ℕ) → (s ≡ Fresh → ⊥)
+pub open-out : (s : Stage) (records : ℕ) (config : SegmentCacheConfig) (index filter starts lengths arena : List ℕ) → (s ≡ Fresh → ⊥)
     → opening s badText index filter ≡ openStep s records config index filter starts lengths arena
 unfolding openStep
 open-out Fresh records config index filter starts lengths arena n = absurd (n refl)
 open-out (Building b) records config index filter starts lengths arena n = refl
 open-out (Finished s) records config index filter starts lengths arena n = refl
 
-pub put-out : (s : Session) (hash : ℕ) (key value : List ℕ) (ttl : Lifetime) (index filter arena : List ℕ) → ((b : SegmentCacheBuilder) → s ≡ Building b → ⊥)
+pub put-out : (s : Stage) (hash : ℕ) (key value : List ℕ) (ttl : Lifetime) (index filter arena : List ℕ) → ((b : SegmentCacheBuilder) → s ≡ Building b → ⊥)
     → putting s badText index filter arena ≡ putStep s hash key value ttl index filter arena
 unfolding putStep
 put-out Fresh hash key value ttl index filter arena n = refl
 put-out (Building b) hash key value ttl index filter arena n = absurd (n b refl)
 put-out (Finished s) hash key value ttl index filter arena n = refl
 
-pub close-out : (s : Session) (target : ℕ) (index starts lengths scratch arena : List ℕ) → ((b : SegmentCacheBuilder) → s ≡ Building b → ⊥)
+pub close-out : (s : Stage) (target : ℕ) (index starts lengths scratch arena : List ℕ) → ((b : SegmentCacheBuilder) → s ≡ Building b → ⊥)
     → closing s badText index starts lengths scratch ≡ closeStep s target index starts lengths scratch arena
 unfolding closeStep
 close-out Fresh target index starts lengths scratch arena n = refl
 close-out (Building b) target index starts lengths scratch arena n = absurd (n b refl)
 close-out (Finished s) target index starts lengths scratch arena n = refl
 
-pub get-out : (s : Session) (hash : ℕ) (key : List ℕ) (tick : ℕ) (index filter starts lengths arena : List ℕ) → ((f : FrozenSegmentCache) → s ≡ Finished f → ⊥)
+pub get-out : (s : Stage) (hash : ℕ) (key : List ℕ) (tick : ℕ) (index filter starts lengths arena : List ℕ) → ((f : FrozenSegmentCache) → s ≡ Finished f → ⊥)
     → _≡_ {A = Getting} (record { text = badText; index = index }) (getStep s hash key tick index filter starts lengths arena)
 unfolding getStep
 get-out Fresh hash key tick index filter starts lengths arena n = refl

@@ -1,3 +1,3 @@
 pub mod Answer
 pub mod Program
-pub mod Session
+pub mod Stage

@@ -1,11 +1,11 @@
 // Answering a line of the input.
-use crate::session::Answer;
-use crate::session::Session;
-use crate::session::Step;
-use crate::session::close_set;
-use crate::session::get_value;
-use crate::session::open_set;
-use crate::session::put_record;
+use crate::stage::Answer;
+use crate::stage::Stage;
+use crate::stage::Step;
+use crate::stage::close_set;
+use crate::stage::get_value;
+use crate::stage::open_set;
+use crate::stage::put_record;
 use hash_parts::duration::Lifetime;
 use passage_lines::command::Command;
 use passage_lines::command::parse_line;
@@ -22,12 +22,12 @@ ghost use Rattle.records.specs.Area.{spanned};
 ghost use Rattle.passage_lines.specs.Hex.{bytesOfHex};
 ghost use Rattle.passage_lines.specs.Output.{appended, output};
 ghost use Rattle.passage.specs.Answer.{answeredBy, areas, getBytes, lineStep, putBytes, within};
-ghost use Rattle.passage.specs.Session.{answerText, got, put};
+ghost use Rattle.passage.specs.Stage.{answerText, got, put};
 
 // What a line does and prints. The areas for key and value hold their bytes while the line is
 // answered; 4,096 bytes in each are enough for every line.
 pub fn answer_line(
-    session: Session,
+    stage: Stage,
     line: &[u8],
     key: &mut [u8],
     value: &mut [u8],
@@ -38,11 +38,11 @@ pub fn answer_line(
     scratch: &mut [u64],
     arena: &mut [u8],
 ) -> Step
-    ensures { λ r. ⌜ answeredBy r (areas (now (index .exit)) (now (filter .exit)) (now (starts .exit)) (now (lengths .exit)) (now (scratch .exit)) (now (arena .exit))) ≡ lineStep session (now (line .entry)) (length (now (key .entry))) (length (now (value .entry))) (areas (now (index .entry)) (now (filter .entry)) (now (starts .entry)) (now (lengths .entry)) (now (scratch .entry)) (now (arena .entry))) ⌝ }
+    ensures { λ r. ⌜ answeredBy r (areas (now (index .exit)) (now (filter .exit)) (now (starts .exit)) (now (lengths .exit)) (now (scratch .exit)) (now (arena .exit))) ≡ lineStep stage (now (line .entry)) (length (now (key .entry))) (length (now (value .entry))) (areas (now (index .entry)) (now (filter .entry)) (now (starts .entry)) (now (lengths .entry)) (now (scratch .entry)) (now (arena .entry))) ⌝ }
 {
     match parse_line(line) {
         Command::Open { records, config } => open_set(
-            session,
+            stage,
             records,
             config,
             index,
@@ -57,7 +57,7 @@ pub fn answer_line(
             value: value_text,
             ttl,
         } => put_line(
-            session,
+            stage,
             hash,
             value_slice(line, key_text),
             value_slice(line, value_text),
@@ -69,16 +69,16 @@ pub fn answer_line(
             arena,
         ),
         Command::Close { target } => {
-            close_set(session, target, index, starts, lengths, scratch, &arena[..])
+            close_set(stage, target, index, starts, lengths, scratch, &arena[..])
         }
         Command::Get {
             hash,
             key: key_text,
             tick,
         } => Step {
-            session,
+            stage,
             answer: get_line(
-                session,
+                stage,
                 hash,
                 value_slice(line, key_text),
                 tick,
@@ -91,14 +91,14 @@ pub fn answer_line(
             ),
         },
         Command::Bad => Step {
-            session,
+            stage,
             answer: Answer::Line(Reply::Bad),
         },
     }
 }
 
 fn put_line(
-    session: Session,
+    stage: Stage,
     hash: u64,
     key_text: &[u8],
     value_text: &[u8],
@@ -109,22 +109,22 @@ fn put_line(
     filter: &mut [u64],
     arena: &mut [u8],
 ) -> Step
-    ensures { λ r. ⌜ put r (now (index .exit)) (now (filter .exit)) (now (arena .exit)) ≡ putBytes session hash ttl (now (index .entry)) (now (filter .entry)) (now (arena .entry)) (within (length (now (key .entry))) (bytesOfHex (now («key_text» .entry)))) (within (length (now (value .entry))) (bytesOfHex (now («value_text» .entry)))) ⌝ }
+    ensures { λ r. ⌜ put r (now (index .exit)) (now (filter .exit)) (now (arena .exit)) ≡ putBytes stage hash ttl (now (index .entry)) (now (filter .entry)) (now (arena .entry)) (within (length (now (key .entry))) (bytesOfHex (now («key_text» .entry)))) (within (length (now (value .entry))) (bytesOfHex (now («value_text» .entry)))) ⌝ }
 {
     let DecodeAnswer::Bytes(key_len) = decode_hex(key_text, key) else {
         return Step {
-            session,
+            stage,
             answer: Answer::Line(Reply::Bad),
         };
     };
     let DecodeAnswer::Bytes(value_len) = decode_hex(value_text, value) else {
         return Step {
-            session,
+            stage,
             answer: Answer::Line(Reply::Bad),
         };
     };
     put_record(
-        session,
+        stage,
         hash,
         &key[0..key_len],
         &value[0..value_len],
@@ -136,7 +136,7 @@ fn put_line(
 }
 
 fn get_line(
-    session: Session,
+    stage: Stage,
     hash: u64,
     key_text: &[u8],
     tick: u64,
@@ -147,13 +147,13 @@ fn get_line(
     lengths: &[u64],
     arena: &[u8],
 ) -> Answer
-    ensures { λ r. ⌜ got (now (arena .entry)) r (now (index .exit)) ≡ getBytes session hash tick (now (index .entry)) (now (filter .entry)) (now (starts .entry)) (now (lengths .entry)) (now (arena .entry)) (within (length (now (key .entry))) (bytesOfHex (now («key_text» .entry)))) ⌝ }
+    ensures { λ r. ⌜ got (now (arena .entry)) r (now (index .exit)) ≡ getBytes stage hash tick (now (index .entry)) (now (filter .entry)) (now (starts .entry)) (now (lengths .entry)) (now (arena .entry)) (within (length (now (key .entry))) (bytesOfHex (now («key_text» .entry)))) ⌝ }
 {
     let DecodeAnswer::Bytes(key_len) = decode_hex(key_text, key) else {
         return Answer::Line(Reply::Bad);
     };
     get_value(
-        session,
+        stage,
         hash,
         &key[0..key_len],
         tick,

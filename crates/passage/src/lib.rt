@@ -2,4 +2,4 @@
 // caller lends.
 pub mod answer;
 pub mod program;
-pub mod session;
+pub mod stage;

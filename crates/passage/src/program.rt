@@ -1,8 +1,8 @@
 // Reading the input in blocks, answering its lines, and writing the output in blocks.
 use crate::answer::answer_line;
 use crate::answer::put_answer;
-use crate::session::Answer;
-use crate::session::Session;
+use crate::stage::Answer;
+use crate::stage::Stage;
 use libc::STDIN_FILENO;
 use libc::STDOUT_FILENO;
 use passage_lines::input::Input;
@@ -22,7 +22,7 @@ const MAX_REPLY_BYTES: usize = 8_200;
 // What goes on from line to line: the set, what is unread of the block, and how many bytes of
 // output wait to be written.
 struct State {
-    session: Session,
+    stage: Stage,
     input: Input,
     waiting: usize,
 }
@@ -41,7 +41,7 @@ enum Refill {
 
 // What answering a line leaves.
 struct Response {
-    session: Session,
+    stage: Stage,
     waiting: usize,
 }
 
@@ -60,7 +60,7 @@ pub fn run(
     arena: &mut [u8],
 ) {
     let mut state = State {
-        session: Session::Fresh,
+        stage: Stage::Fresh,
         input: Input {
             at: 0,
             end: 0,
@@ -106,7 +106,7 @@ fn take_turn(
     requires { ⌜ state .waiting ≤ length (now out) ⌝ }
     ensures { λ r. ⌜ waitingIn r ≤ length (now (out .entry)) ⌝ }
 {
-    let session = state.session;
+    let stage = state.stage;
     let input = state.input;
     let waiting = state.waiting;
     match next_line(&block[..], input) {
@@ -116,7 +116,7 @@ fn take_turn(
             input: rest,
         } => {
             let response = respond(
-                session,
+                stage,
                 &block[from..to],
                 waiting,
                 key,
@@ -129,27 +129,27 @@ fn take_turn(
                 scratch,
                 arena,
             );
-            let answered = response.session;
+            let answered = response.stage;
             Turn::More(State {
-                session: answered,
+                stage: answered,
                 input: rest,
                 waiting: response.waiting,
             })
         }
         NextLine::TooLong(rest) => Turn::More(State {
-            session,
+            stage,
             input: rest,
             waiting: respond_bad(waiting, out),
         }),
         NextLine::Skipped(rest) => Turn::More(State {
-            session,
+            stage,
             input: rest,
             waiting,
         }),
         NextLine::More(rest) => {
             write_waiting(waiting, &out[..]);
             next_block(
-                session,
+                stage,
                 rest,
                 block,
                 key,
@@ -168,7 +168,7 @@ fn take_turn(
 
 // Reads more input; where there is none, answers the last line.
 fn next_block(
-    session: Session,
+    stage: Stage,
     input: Input,
     block: &mut [u8],
     key: &mut [u8],
@@ -185,13 +185,13 @@ fn next_block(
 {
     match read_more(block, input) {
         Refill::Read(next) => Turn::More(State {
-            session,
+            stage,
             input: next,
             waiting: 0,
         }),
         Refill::Ended(count) => {
             answer_last(
-                session,
+                stage,
                 count,
                 &block[..],
                 key,
@@ -211,7 +211,7 @@ fn next_block(
 
 // The last line, where it has bytes and no line feed.
 fn answer_last(
-    session: Session,
+    stage: Stage,
     count: usize,
     block: &[u8],
     key: &mut [u8],
@@ -230,7 +230,7 @@ fn answer_last(
         return;
     }
     let response = respond(
-        session,
+        stage,
         &block[0..count],
         0,
         key,
@@ -270,7 +270,7 @@ fn read_more(block: &mut [u8], input: Input) -> Refill
 }
 
 fn respond(
-    session: Session,
+    stage: Stage,
     line: &[u8],
     waiting: usize,
     key: &mut [u8],
@@ -287,7 +287,7 @@ fn respond(
     ensures { λ r. ⌜ r .waiting ≤ length (now (out .entry)) ⌝ }
 {
     let step = answer_line(
-        session,
+        stage,
         line,
         key,
         value,
@@ -299,9 +299,9 @@ fn respond(
         arena,
     );
     let answer = step.answer;
-    let next = step.session;
+    let next = step.stage;
     Response {
-        session: next,
+        stage: next,
         waiting: print_answer(waiting, out, answer, &arena[..]),
     }
 }

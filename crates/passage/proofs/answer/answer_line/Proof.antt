@@ -2,7 +2,7 @@
 use mathlib.Core.Path.{_≡_, sym, ap, _∙_}
 use Rattle.passage_lines.specs.Reply.{replyText}
 use Rattle.passage.specs.Answer.{Areas, areas, afterOpening, afterPutting, afterClosing, afterGetting, lineStep}
-use Rattle.passage.specs.Session.{answerText}
+use Rattle.passage.specs.Stage.{answerText}
 use borrow.Author.Needs.{needs}
 use Rattle.passage.proofs.answer.answer_line.Statement.{statement}
 use Rattle.passage.proofs.answer.answer_line.Tie as tie
@@ -129,7 +129,7 @@ same-length-21 c = search needs
 returns-4 : tie.Need-returns-4
 unfolding lineStep
 returns-4 c = rw (sym (c .before .before .before .before .before .before .before .before .before .before .before .before .before .before .before .parse-line .ensures) ∙ c .before .before .before .before .before .before .before .before .before .before .before .before .before .hash2 .given .1)
-    (ap (afterGetting (c .before .before .before .before .before .before .before .before .before .before .before .before .before .before .before .before .before .before .before .before .before .before .before .before .before .args .session) (areas-of (c .before .before .before .before .before .before .before .before .before .before .before .before .before .before .before .before .before .before .before .before .before .before .before .before .before))) (rw (c .before .before .before .before .before .before .before .before .before .before .before .value-slice3 .ensures) at (c .before .before .before .before .get-line .ensures)))
+    (ap (afterGetting (c .before .before .before .before .before .before .before .before .before .before .before .before .before .before .before .before .before .before .before .before .before .before .before .before .before .args .stage) (areas-of (c .before .before .before .before .before .before .before .before .before .before .before .before .before .before .before .before .before .before .before .before .before .before .before .before .before))) (rw (c .before .before .before .before .before .before .before .before .before .before .before .value-slice3 .ensures) at (c .before .before .before .before .get-line .ensures)))
 
 returns-5 : tie.Need-returns-5
 unfolding lineStep answerText replyText

@@ -4,7 +4,7 @@ use native.Mathlib.Omega.{arith}
 use Rattle.passage_lines.specs.Hex.{decodeResult}
 use Rattle.passage_lines.specs.Reply.{replyText}
 use Rattle.passage.specs.Answer.{getBytes, within}
-use Rattle.passage.specs.Session.{answerText}
+use Rattle.passage.specs.Stage.{answerText}
 use Rattle.passage.proofs.Decoding.{Decoding, decode-none, decode-some}
 use borrow.Author.Needs.{needs}
 use Rattle.passage.proofs.answer.get_line.Statement.{statement}

@@ -3,7 +3,7 @@ use mathlib.Core.Path.{_≡_, sym, ap, _∙_}
 use native.Mathlib.Omega.{arith}
 use Rattle.passage_lines.specs.Reply.{replyText}
 use Rattle.passage.specs.Answer.{putBytes, within}
-use Rattle.passage.specs.Session.{answerText}
+use Rattle.passage.specs.Stage.{answerText}
 use Rattle.passage.proofs.Decoding.{Decoding, decode-none, decode-some}
 use borrow.Author.Needs.{needs}
 use Rattle.passage.proofs.answer.put_line.Statement.{statement}

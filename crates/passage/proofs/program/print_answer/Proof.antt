@@ -1,7 +1,7 @@
 -- `print_answer` keeps the output's end inside. Assumes nothing.
 use mathlib.Core.Path.{_≡_}
 use native.Mathlib.Omega.{arith}
-use Rattle.passage.specs.Session.{answerText}
+use Rattle.passage.specs.Stage.{answerText}
 use Rattle.passage.proofs.Loop.{appended-within}
 use borrow.Author.Needs.{needs}
 use Rattle.passage.proofs.program.print_answer.Statement.{statement}

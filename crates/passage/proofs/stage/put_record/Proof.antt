@@ -4,21 +4,21 @@ use mathlib.Core.Path.{_≡_, ap}
 use native.Mathlib.Omega.{arith}
 use Rattle.passage_lines.specs.Reply.{replyText}
 use Rattle.sets.specs.declared.builder.SegmentCacheBuilder.{SegmentCacheBuilder}
-use Rattle.passage.specs.Session.{answerText, putAnswered, putStep}
-use Rattle.passage.specs.declared.session.Session.the-variants.{Building}
+use Rattle.passage.specs.Stage.{answerText, putAnswered, putStep}
+use Rattle.passage.specs.declared.stage.Stage.the-variants.{Building}
 use Rattle.passage.proofs.Turns.{put-out}
 use borrow.Author.Needs.{needs}
-use Rattle.passage.proofs.session.put_record.Statement.{statement}
-use Rattle.passage.proofs.session.put_record.Tie as tie
+use Rattle.passage.proofs.stage.put_record.Statement.{statement}
+use Rattle.passage.proofs.stage.put_record.Tie as tie
 
-enum-known-session : tie.Need-enum-known-session
-enum-known-session c = search needs
+enum-known-stage : tie.Need-enum-known-stage
+enum-known-stage c = search needs
 
 returns : tie.Need-returns
 unfolding answerText replyText
 returns c = let a = c .before .before .before .before .before .before .args in
-    let n : (b : SegmentCacheBuilder) → a .session ≡ Building b → ⊥ = λ b (f : a .session ≡ Building b). ⊎-elim (λ p. omega arith) (λ p. omega arith) (rw f at (c .match .keys2)) in
-    put-out (a .session) (a .hash) (a .key .now) (a .value .now) (a .ttl) (a .index .now) (a .filter .now) (a .arena .now) n
+    let n : (b : SegmentCacheBuilder) → a .stage ≡ Building b → ⊥ = λ b (f : a .stage ≡ Building b). ⊎-elim (λ p. omega arith) (λ p. omega arith) (rw f at (c .match .keys2)) in
+    put-out (a .stage) (a .hash) (a .key .now) (a .value .now) (a .ttl) (a .index .now) (a .filter .now) (a .arena .now) n
 
 push-requires : tie.Need-push-requires
 push-requires c κs = search needs
@@ -40,7 +40,7 @@ same-length-3 c = search needs
 
 returns-2 : tie.Need-returns-2
 unfolding answerText replyText putStep
-returns-2 c = rw (c .before .before .before .before .before .before .before .before .before .before .before .before .before .before .session .given .1) (ap putAnswered (rw (c .before .refusal .given .1) at (c .before .before .before .before .before .before .before .before .before .push .ensures)))
+returns-2 c = rw (c .before .before .before .before .before .before .before .before .before .before .before .before .before .before .stage .given .1) (ap putAnswered (rw (c .before .refusal .given .1) at (c .before .before .before .before .before .before .before .before .before .push .ensures)))
 
 same-length-4 : tie.Need-same-length-4
 same-length-4 c = search needs
@@ -53,13 +53,13 @@ same-length-6 c = search needs
 
 returns-3 : tie.Need-returns-3
 unfolding answerText replyText putStep
-returns-3 c = rw (c .before .before .before .before .before .before .before .before .before .before .before .before .before .before .session .given .1) (ap putAnswered (rw (c .before .grown .given .1) at (c .before .before .before .before .before .before .before .before .before .push .ensures)))
+returns-3 c = rw (c .before .before .before .before .before .before .before .before .before .before .before .before .before .before .stage .given .1) (ap putAnswered (rw (c .before .grown .given .1) at (c .before .before .before .before .before .before .before .before .before .push .ensures)))
 
 pub put-record-spec : {M : Type 1} → statement M
 put-record-spec =
     tie.close
     (tie.spec
-    enum-known-session
+    enum-known-stage
     returns
     push-requires
     enum-known-refusal

@@ -12,11 +12,11 @@ use sets::builder::SegmentCacheBuilder;
 use sets::cache::FrozenSegmentCache;
 use sets::cache::GetAnswer;
 ghost use mathlib.Core.Path.{_≡_};
-ghost use Rattle.passage.specs.Session.{closeStep, closed, getStep, got, openStep, opened, put, putStep};
+ghost use Rattle.passage.specs.Stage.{closeStep, closed, getStep, got, openStep, opened, put, putStep};
 
 // An open is in turn until one was good, put and close while a builder is open, get once the set is
 // finished.
-pub enum Session {
+pub enum Stage {
     Fresh,
     Building(SegmentCacheBuilder),
     Finished(FrozenSegmentCache),
@@ -29,13 +29,13 @@ pub enum Answer {
 }
 
 pub struct Step {
-    pub session: Session,
+    pub stage: Stage,
     pub answer: Answer,
 }
 
 // Each call below is bad and changes nothing where it is out of turn.
 pub fn open_set(
-    session: Session,
+    stage: Stage,
     records: usize,
     config: SegmentCacheConfig,
     index: &mut [u64],
@@ -44,24 +44,24 @@ pub fn open_set(
     lengths: &[u64],
     arena: &[u8],
 ) -> Step
-    ensures { λ r. ⌜ opened (now (arena .entry)) r (now (index .exit)) (now (filter .exit)) ≡ openStep session records config (now (index .entry)) (now (filter .entry)) (now (starts .entry)) (now (lengths .entry)) (now (arena .entry)) ⌝ }
+    ensures { λ r. ⌜ opened (now (arena .entry)) r (now (index .exit)) (now (filter .exit)) ≡ openStep stage records config (now (index .entry)) (now (filter .entry)) (now (starts .entry)) (now (lengths .entry)) (now (arena .entry)) ⌝ }
 {
-    let Session::Fresh = session else {
+    let Stage::Fresh = stage else {
         return Step {
-            session,
+            stage,
             answer: Answer::Line(Reply::Bad),
         };
     };
     match SegmentCacheBuilder::try_new(config, records, index, filter, starts, lengths, arena) {
         OpenAnswer::Refused(error) => Step {
-            session: Session::Fresh,
+            stage: Stage::Fresh,
             answer: Answer::Line(Reply::Refused {
                 word: Word::Open,
                 error,
             }),
         },
         OpenAnswer::Opened(builder) => Step {
-            session: Session::Building(builder),
+            stage: Stage::Building(builder),
             answer: Answer::Line(Reply::Accepted {
                 word: Word::Open,
                 first: builder.bucket_count,
@@ -72,7 +72,7 @@ pub fn open_set(
 }
 
 pub fn put_record(
-    session: Session,
+    stage: Stage,
     hash: u64,
     key: &[u8],
     value: &[u8],
@@ -81,11 +81,11 @@ pub fn put_record(
     filter: &mut [u64],
     arena: &mut [u8],
 ) -> Step
-    ensures { λ r. ⌜ put r (now (index .exit)) (now (filter .exit)) (now (arena .exit)) ≡ putStep session hash (now (key .entry)) (now (value .entry)) ttl (now (index .entry)) (now (filter .entry)) (now (arena .entry)) ⌝ }
+    ensures { λ r. ⌜ put r (now (index .exit)) (now (filter .exit)) (now (arena .exit)) ≡ putStep stage hash (now (key .entry)) (now (value .entry)) ttl (now (index .entry)) (now (filter .entry)) (now (arena .entry)) ⌝ }
 {
-    let Session::Building(builder) = session else {
+    let Stage::Building(builder) = stage else {
         return Step {
-            session,
+            stage,
             answer: Answer::Line(Reply::Bad),
         };
     };
@@ -94,7 +94,7 @@ pub fn put_record(
             refusal,
             builder: kept,
         } => Step {
-            session: Session::Building(kept),
+            stage: Stage::Building(kept),
             answer: Answer::Line(Reply::Refused {
                 word: Word::Put,
                 error: refusal,
@@ -105,7 +105,7 @@ pub fn put_record(
             slot,
             location,
         } => Step {
-            session: Session::Building(grown),
+            stage: Stage::Building(grown),
             answer: Answer::Line(Reply::Accepted {
                 word: Word::Put,
                 first: slot,
@@ -116,7 +116,7 @@ pub fn put_record(
 }
 
 pub fn close_set(
-    session: Session,
+    stage: Stage,
     target: usize,
     index: &mut [u64],
     starts: &mut [u64],
@@ -124,11 +124,11 @@ pub fn close_set(
     scratch: &mut [u64],
     arena: &[u8],
 ) -> Step
-    ensures { λ r. ⌜ closed (now (arena .entry)) r (now (index .exit)) (now (starts .exit)) (now (lengths .exit)) (now (scratch .exit)) ≡ closeStep session target (now (index .entry)) (now (starts .entry)) (now (lengths .entry)) (now (scratch .entry)) (now (arena .entry)) ⌝ }
+    ensures { λ r. ⌜ closed (now (arena .entry)) r (now (index .exit)) (now (starts .exit)) (now (lengths .exit)) (now (scratch .exit)) ≡ closeStep stage target (now (index .entry)) (now (starts .entry)) (now (lengths .entry)) (now (scratch .entry)) (now (arena .entry)) ⌝ }
 {
-    let Session::Building(builder) = session else {
+    let Stage::Building(builder) = stage else {
         return Step {
-            session,
+            stage,
             answer: Answer::Line(Reply::Bad),
         };
     };
@@ -137,14 +137,14 @@ pub fn close_set(
             refusal,
             builder: kept,
         } => Step {
-            session: Session::Building(kept),
+            stage: Stage::Building(kept),
             answer: Answer::Line(Reply::Refused {
                 word: Word::Close,
                 error: refusal,
             }),
         },
         FinishAnswer::Finished(set) => Step {
-            session: Session::Finished(set),
+            stage: Stage::Finished(set),
             answer: Answer::Line(Reply::Accepted {
                 word: Word::Close,
                 first: set.segments,
@@ -155,7 +155,7 @@ pub fn close_set(
 }
 
 pub fn get_value(
-    session: Session,
+    stage: Stage,
     hash: u64,
     key: &[u8],
     tick: u64,
@@ -165,9 +165,9 @@ pub fn get_value(
     lengths: &[u64],
     arena: &[u8],
 ) -> Answer
-    ensures { λ r. ⌜ got (now (arena .entry)) r (now (index .exit)) ≡ getStep session hash (now (key .entry)) tick (now (index .entry)) (now (filter .entry)) (now (starts .entry)) (now (lengths .entry)) (now (arena .entry)) ⌝ }
+    ensures { λ r. ⌜ got (now (arena .entry)) r (now (index .exit)) ≡ getStep stage hash (now (key .entry)) tick (now (index .entry)) (now (filter .entry)) (now (starts .entry)) (now (lengths .entry)) (now (arena .entry)) ⌝ }
 {
-    let Session::Finished(set) = session else {
+    let Stage::Finished(set) = stage else {
         return Answer::Line(Reply::Bad);
     };
     match set.get_at_tick(hash, key, tick, index, filter, starts, lengths, arena) {

@@ -4,12 +4,12 @@ use mathlib.Core.Path.{_≡_, sym, ap}
 use native.Mathlib.Omega.{arith}
 use Rattle.passage_lines.specs.Reply.{replyText}
 use Rattle.sets.specs.Build.{Opened}
-use Rattle.passage.specs.Session.{answerText, openAnswered, openStep}
-use Rattle.passage.specs.declared.session.Session.the-variants.{Fresh}
+use Rattle.passage.specs.Stage.{answerText, openAnswered, openStep}
+use Rattle.passage.specs.declared.stage.Stage.the-variants.{Fresh}
 use Rattle.passage.proofs.Turns.{open-out, open-slots}
 use borrow.Author.Needs.{needs}
-use Rattle.passage.proofs.session.open_set.Statement.{statement}
-use Rattle.passage.proofs.session.open_set.Tie as tie
+use Rattle.passage.proofs.stage.open_set.Statement.{statement}
+use Rattle.passage.proofs.stage.open_set.Tie as tie
 
 enum-told : tie.Need-enum-told
 enum-told c = search needs
@@ -17,8 +17,8 @@ enum-told c = search needs
 returns : tie.Need-returns
 unfolding answerText replyText
 returns c = let a = c .before .before .before .before .before .before .args in
-    let n : a .session ≡ Fresh → ⊥ = λ (f : a .session ≡ Fresh). ⊎-elim (λ p. omega arith) (λ p. omega arith) (rw f at (c .match .keys2)) in
-    open-out (a .session) (a .records) (a .config) (a .index .now) (a .filter .now) (a .starts .now) (a .lengths .now) (a .arena .now) n
+    let n : a .stage ≡ Fresh → ⊥ = λ (f : a .stage ≡ Fresh). ⊎-elim (λ p. omega arith) (λ p. omega arith) (rw f at (c .match .keys2)) in
+    open-out (a .stage) (a .records) (a .config) (a .index .now) (a .filter .now) (a .starts .now) (a .lengths .now) (a .arena .now) n
 
 try-new-requires : tie.Need-try-new-requires
 try-new-requires c κs = search needs

@@ -4,21 +4,21 @@ use mathlib.Core.Path.{_≡_, ap}
 use native.Mathlib.Omega.{arith}
 use Rattle.passage_lines.specs.Reply.{replyText}
 use Rattle.sets.specs.declared.builder.SegmentCacheBuilder.{SegmentCacheBuilder}
-use Rattle.passage.specs.Session.{answerText, closeAnswered, closeStep}
-use Rattle.passage.specs.declared.session.Session.the-variants.{Building}
+use Rattle.passage.specs.Stage.{answerText, closeAnswered, closeStep}
+use Rattle.passage.specs.declared.stage.Stage.the-variants.{Building}
 use Rattle.passage.proofs.Turns.{close-out}
 use borrow.Author.Needs.{needs}
-use Rattle.passage.proofs.session.close_set.Statement.{statement}
-use Rattle.passage.proofs.session.close_set.Tie as tie
+use Rattle.passage.proofs.stage.close_set.Statement.{statement}
+use Rattle.passage.proofs.stage.close_set.Tie as tie
 
-enum-known-session : tie.Need-enum-known-session
-enum-known-session c = search needs
+enum-known-stage : tie.Need-enum-known-stage
+enum-known-stage c = search needs
 
 returns : tie.Need-returns
 unfolding answerText replyText
 returns c = let a = c .before .before .before .before .before .before .args in
-    let n : (b : SegmentCacheBuilder) → a .session ≡ Building b → ⊥ = λ b (f : a .session ≡ Building b). ⊎-elim (λ p. omega arith) (λ p. omega arith) (rw f at (c .match .keys2)) in
-    close-out (a .session) (a .target) (a .index .now) (a .starts .now) (a .lengths .now) (a .scratch .now) (a .arena .now) n
+    let n : (b : SegmentCacheBuilder) → a .stage ≡ Building b → ⊥ = λ b (f : a .stage ≡ Building b). ⊎-elim (λ p. omega arith) (λ p. omega arith) (rw f at (c .match .keys2)) in
+    close-out (a .stage) (a .target) (a .index .now) (a .starts .now) (a .lengths .now) (a .scratch .now) (a .arena .now) n
 
 finish-requires : tie.Need-finish-requires
 finish-requires c κs = search needs
@@ -43,7 +43,7 @@ same-length-4 c = search needs
 
 returns-2 : tie.Need-returns-2
 unfolding answerText replyText closeStep
-returns-2 c = rw (c .before .before .before .before .before .before .before .before .before .before .before .before .before .before .before .before .before .session .given .1) (ap closeAnswered (rw (c .before .refusal .given .1) at (c .before .before .before .before .before .before .before .before .before .before .before .finish .ensures)))
+returns-2 c = rw (c .before .before .before .before .before .before .before .before .before .before .before .before .before .before .before .before .before .stage .given .1) (ap closeAnswered (rw (c .before .refusal .given .1) at (c .before .before .before .before .before .before .before .before .before .before .before .finish .ensures)))
 
 same-length-5 : tie.Need-same-length-5
 same-length-5 c = search needs
@@ -59,13 +59,13 @@ same-length-8 c = search needs
 
 returns-3 : tie.Need-returns-3
 unfolding answerText replyText closeStep
-returns-3 c = rw (c .before .before .before .before .before .before .before .before .before .before .before .before .before .before .before .before .before .session .given .1) (ap closeAnswered (rw (c .before .set .given .1) at (c .before .before .before .before .before .before .before .before .before .before .before .finish .ensures)))
+returns-3 c = rw (c .before .before .before .before .before .before .before .before .before .before .before .before .before .before .before .before .before .stage .given .1) (ap closeAnswered (rw (c .before .set .given .1) at (c .before .before .before .before .before .before .before .before .before .before .before .finish .ensures)))
 
 pub close-set-spec : {M : Type 1} → statement M
 close-set-spec =
     tie.close
     (tie.spec
-    enum-known-session
+    enum-known-stage
     returns
     finish-requires
     enum-known-refusal

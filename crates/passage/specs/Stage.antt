@@ -17,11 +17,11 @@ use Rattle.sets.specs.declared.cache.FrozenSegmentCache.{FrozenSegmentCache}
 use Rattle.passage_lines.specs.Ascii.{ascii}
 use Rattle.passage_lines.specs.Reply.{acceptedText, refusedText, replyText, valueText}
 use Rattle.passage_lines.specs.declared.reply.Word.the-variants as word
-use Rattle.passage.specs.declared.session.Answer.{Answer}
-use Rattle.passage.specs.declared.session.Answer.the-variants.{Line, Value}
-use Rattle.passage.specs.declared.session.Session.{Session}
-use Rattle.passage.specs.declared.session.Session.the-variants.{Fresh, Building, Finished}
-use Rattle.passage.specs.declared.session.Step.{Step}
+use Rattle.passage.specs.declared.stage.Answer.{Answer}
+use Rattle.passage.specs.declared.stage.Answer.the-variants.{Line, Value}
+use Rattle.passage.specs.declared.stage.Stage.{Stage}
+use Rattle.passage.specs.declared.stage.Stage.the-variants.{Fresh, Building, Finished}
+use Rattle.passage.specs.declared.stage.Step.{Step}
 
 -- the line of an answer
 unfoldable pub answerText : List ℕ → Answer → List ℕ
@@ -35,16 +35,16 @@ badText = ascii "bad\n"
 
 -- what open leaves: the state, its line, and the areas that it changes
 pub record Opening : Type 0 where
-  pub session : Session
+  pub stage : Stage
   pub text : List ℕ
   pub index : List ℕ
   pub filter : List ℕ
 
-abbrev pub opening : Session → List ℕ → List ℕ → List ℕ → Opening
-opening session text index filter = record { session = session; text = text; index = index; filter = filter }
+abbrev pub opening : Stage → List ℕ → List ℕ → List ℕ → Opening
+opening stage text index filter = record { stage = stage; text = text; index = index; filter = filter }
 
 abbrev pub opened : List ℕ → Step → List ℕ → List ℕ → Opening
-opened arena r index filter = opening (r .session) (answerText arena (r .answer)) index filter
+opened arena r index filter = opening (r .stage) (answerText arena (r .answer)) index filter
 
 -- "buckets slots"
 abbrev pub openedBy : Reply SegmentCacheBuilder (Unit {0}) → List ℕ → List ℕ → Opening
@@ -54,7 +54,7 @@ openedBy (refuse n u) index filter = opening Fresh (refusedText word.Open n) ind
 abbrev pub openAnswered : build.Opened → Opening
 openAnswered o = openedBy (o .answer) (o .index) (o .filter)
 
-unfoldable pub openStep : Session → ℕ → SegmentCacheConfig → List ℕ → List ℕ → List ℕ → List ℕ → List ℕ → Opening
+unfoldable pub openStep : Stage → ℕ → SegmentCacheConfig → List ℕ → List ℕ → List ℕ → List ℕ → List ℕ → Opening
 openStep Fresh records config index filter starts lengths arena = openAnswered (build.afterOpen config records index filter starts lengths arena)
 openStep (Building b) records config index filter starts lengths arena = opening (Building b) badText index filter
 openStep (Finished s) records config index filter starts lengths arena = opening (Finished s) badText index filter
@@ -62,17 +62,17 @@ openStep (Finished s) records config index filter starts lengths arena = opening
 -- ---- put
 
 pub record Putting : Type 0 where
-  pub session : Session
+  pub stage : Stage
   pub text : List ℕ
   pub index : List ℕ
   pub filter : List ℕ
   pub arena : List ℕ
 
-abbrev pub putting : Session → List ℕ → List ℕ → List ℕ → List ℕ → Putting
-putting session text index filter arena = record { session = session; text = text; index = index; filter = filter; arena = arena }
+abbrev pub putting : Stage → List ℕ → List ℕ → List ℕ → List ℕ → Putting
+putting stage text index filter arena = record { stage = stage; text = text; index = index; filter = filter; arena = arena }
 
 abbrev pub put : Step → List ℕ → List ℕ → List ℕ → Putting
-put r index filter arena = putting (r .session) (answerText arena (r .answer)) index filter arena
+put r index filter arena = putting (r .stage) (answerText arena (r .answer)) index filter arena
 
 -- "slot location"
 abbrev pub putBy : Reply Placed SegmentCacheBuilder → List ℕ → List ℕ → List ℕ → Putting
@@ -82,7 +82,7 @@ putBy (refuse n b) index filter arena = putting (Building b) (refusedText word.P
 abbrev pub putAnswered : build.Pushed → Putting
 putAnswered p = putBy (p .answer) (p .index) (p .filter) (p .arena)
 
-unfoldable pub putStep : Session → ℕ → List ℕ → List ℕ → Lifetime → List ℕ → List ℕ → List ℕ → Putting
+unfoldable pub putStep : Stage → ℕ → List ℕ → List ℕ → Lifetime → List ℕ → List ℕ → List ℕ → Putting
 putStep Fresh hash key value ttl index filter arena = putting Fresh badText index filter arena
 putStep (Building b) hash key value ttl index filter arena = putAnswered (build.afterPush b hash key value ttl index filter arena)
 putStep (Finished s) hash key value ttl index filter arena = putting (Finished s) badText index filter arena
@@ -90,18 +90,18 @@ putStep (Finished s) hash key value ttl index filter arena = putting (Finished s
 -- ---- close
 
 pub record Closing : Type 0 where
-  pub session : Session
+  pub stage : Stage
   pub text : List ℕ
   pub index : List ℕ
   pub starts : List ℕ
   pub lengths : List ℕ
   pub scratch : List ℕ
 
-abbrev pub closing : Session → List ℕ → List ℕ → List ℕ → List ℕ → List ℕ → Closing
-closing session text index starts lengths scratch = record { session = session; text = text; index = index; starts = starts; lengths = lengths; scratch = scratch }
+abbrev pub closing : Stage → List ℕ → List ℕ → List ℕ → List ℕ → List ℕ → Closing
+closing stage text index starts lengths scratch = record { stage = stage; text = text; index = index; starts = starts; lengths = lengths; scratch = scratch }
 
 abbrev pub closed : List ℕ → Step → List ℕ → List ℕ → List ℕ → List ℕ → Closing
-closed arena r index starts lengths scratch = closing (r .session) (answerText arena (r .answer)) index starts lengths scratch
+closed arena r index starts lengths scratch = closing (r .stage) (answerText arena (r .answer)) index starts lengths scratch
 
 -- "segments record-bytes"
 abbrev pub closedBy : Reply FrozenSegmentCache SegmentCacheBuilder → List ℕ → List ℕ → List ℕ → List ℕ → Closing
@@ -111,7 +111,7 @@ closedBy (refuse n b) index starts lengths scratch = closing (Building b) (refus
 abbrev pub closeAnswered : build.Finished → Closing
 closeAnswered f = closedBy (f .answer) (f .index) (f .starts) (f .lengths) (f .scratch)
 
-unfoldable pub closeStep : Session → ℕ → List ℕ → List ℕ → List ℕ → List ℕ → List ℕ → Closing
+unfoldable pub closeStep : Stage → ℕ → List ℕ → List ℕ → List ℕ → List ℕ → List ℕ → Closing
 closeStep Fresh target index starts lengths scratch arena = closing Fresh badText index starts lengths scratch
 closeStep (Building b) target index starts lengths scratch arena = closeAnswered (build.afterFinish b target index starts lengths scratch arena)
 closeStep (Finished s) target index starts lengths scratch arena = closing (Finished s) badText index starts lengths scratch
@@ -134,7 +134,7 @@ gotText arena (refuse n u) = refusedText word.Get n
 abbrev pub getAnswered : List ℕ → lookup.Got → Getting
 getAnswered arena g = record { text = gotText arena (g .answer); index = g .index }
 
-unfoldable pub getStep : Session → ℕ → List ℕ → ℕ → List ℕ → List ℕ → List ℕ → List ℕ → List ℕ → Getting
+unfoldable pub getStep : Stage → ℕ → List ℕ → ℕ → List ℕ → List ℕ → List ℕ → List ℕ → List ℕ → Getting
 getStep Fresh hash key tick index filter starts lengths arena = record { text = badText; index = index }
 getStep (Building b) hash key tick index filter starts lengths arena = record { text = badText; index = index }
 getStep (Finished s) hash key tick index filter starts lengths arena =
