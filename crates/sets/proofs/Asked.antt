@@ -11,6 +11,7 @@ use Rattle.hash_parts.specs.Choice.{pick}
 use Rattle.hash_parts.specs.declared.duration.Lifetime.{Lifetime}
 use Rattle.hash_parts.specs.declared.setting.SegmentCacheConfig.{SegmentCacheConfig}
 use Rattle.index.specs.Build.{cleared}
+use Rattle.index.specs.Segments.{locationsInside}
 use Rattle.index.specs.declared.build.BuildSlot.{BuildSlot}
 use Rattle.index.specs.declared.build.BuildSlot.the-variants.{Empty, Duplicate, Full}
 use Rattle.sets.specs.Answers.{accept}
@@ -113,6 +114,7 @@ module _ (b : SegmentCacheBuilder) (target : ℕ) (index : List ℕ) (starts len
     pub complete : b .«inserted_entries» ≡ b .«expected_entries»
     pub some-target : 1 ≤ target
     pub scratch-holds : scratchHolds (b .config) (b .«bucket_count») scratch ≡ true
+    pub located : locationsInside index (b .«bucket_count») (b .filled) ≡ true
 
   pub finish-asked : firstNo (askFinish b target index starts lengths scratch arena) ≡ 0 → FinishAsked
   unfolding askFinish segmentAreasHold targetFits
@@ -122,6 +124,7 @@ module _ (b : SegmentCacheBuilder) (target : ℕ) (index : List ℕ) (starts len
       let v = then (eqb (b .«inserted_entries») (b .«expected_entries»)) 3 _ (omega arith) (u .1) in
       let w = then (targetFits target) 8 _ (omega arith) (v .1) in
       let x = then (scratchHolds (b .config) (b .«bucket_count») scratch) 10 _ (omega arith) (w .1) in
+      let y = then (locationsInside index (b .«bucket_count») (b .filled)) 11 _ (omega arith) (x .1) in
       let segments = both (leb 256 starts) _ (u .0) in
       record {
         areas = builder-areas-asked b (length index) arena (t .0);
@@ -130,4 +133,5 @@ module _ (b : SegmentCacheBuilder) (target : ℕ) (index : List ℕ) (starts len
         complete = eqb-true _ _ (v .0);
         some-target = leb-true _ _ (both (leb 1 target) _ (w .0) .0);
         scratch-holds = x .0;
+        located = y .0;
       }

@@ -13,5 +13,6 @@ pub mod RebuildAccepted
 pub mod RebuildAsked
 pub mod RebuildClosure
 pub mod RebuildSteps
+pub mod SourceClosure
 pub mod Splitting
 pub mod WalkSteps

@@ -86,17 +86,24 @@ chosen-inside filled (f ∷ flags) (a ∷ starts) (b ∷ lengths) hs hl each g h
 filled-at : (l area : List ℕ) (g : ℕ) → length l ≤ 256 → g < length l → getD (replaced (padded l) area) g 0 ≡ getD l g 0
 filled-at l area g h k = sym (getD-take (length l) (replaced (padded l) area) g 0 k) ∙ ap (λ (m : List ℕ). getD m g 0) (filled-back l area h)
 
+-- segments that were filled in from two lists lie where those of the lists do
+pub filled-inside : (filled n : ℕ) (ss ls starts lengths : List ℕ) → n ≤ 256 → length ss ≡ n → length ls ≡ n → EachInside filled ss ls n
+    → EachInside filled (replaced (padded ss) starts) (replaced (padded ls) lengths) n
+filled-inside filled n ss ls starts lengths few s l each g h =
+    omega (arith, each g h, filled-at ss starts g (omega arith) (omega arith), filled-at ls lengths g (omega arith) (omega arith))
+
 module _ (s : FrozenSegmentCache) (sourceStarts sourceLengths : List ℕ) (arena records copied : ℕ) (flags : List ℕ) (tick index filter : ℕ)
     (starts lengths : List ℕ) (a : ReopenAsked s sourceStarts sourceLengths arena records copied flags index filter (length starts) (length lengths)) where
   reopened-inside : EachInside (s .filled) (replaced (padded (chosen flags sourceStarts)) starts) (replaced (padded (chosen flags sourceLengths)) lengths) (keptCount flags)
-  reopened-inside g h =
-      let few : length flags ≤ 256 = omega (arith, a .same-count, a .areas .few) in
-      let ls = chosen-length flags sourceStarts (omega (arith, a .areas .starts-hold)) in
-      let ll = chosen-length flags sourceLengths (omega (arith, a .areas .lengths-hold)) in
-      let kept : keptCount flags ≤ 256 = omega (arith, a .few) in
-      let each = chosen-inside (s .filled) flags sourceStarts sourceLengths (omega (arith, a .areas .starts-hold)) (omega (arith, a .areas .lengths-hold))
-      (λ (i : ℕ) (k : i < length flags). a .areas .inside i (omega (arith, a .same-count))) g h in
-      omega (arith, each, filled-at (chosen flags sourceStarts) starts g (omega (arith, ls)) (omega (arith, ls)), filled-at (chosen flags sourceLengths) lengths g (omega (arith, ll)) (omega (arith, ll)))
+  reopened-inside =
+      let in-starts : length flags ≤ length sourceStarts = omega (arith, a .same-count, a .areas .few, a .areas .starts-hold) in
+      let in-lengths : length flags ≤ length sourceLengths = omega (arith, a .same-count, a .areas .few, a .areas .lengths-hold) in
+      filled-inside (s .filled) (keptCount flags) (chosen flags sourceStarts) (chosen flags sourceLengths) starts lengths
+      (omega (arith, a .few))
+      (chosen-length flags sourceStarts in-starts)
+      (chosen-length flags sourceLengths in-lengths)
+      (chosen-inside (s .filled) flags sourceStarts sourceLengths in-starts in-lengths
+      (λ (i : ℕ) (k : i < length flags). a .areas .inside i (omega (arith, a .same-count))))
 
   reopened-areas : AreasHoldRebuild (rebuildOpened s records flags tick) index (replaced (padded (chosen flags sourceStarts)) starts) (replaced (padded (chosen flags sourceLengths)) lengths) arena
   reopened-areas =
