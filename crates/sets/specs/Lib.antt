@@ -4,4 +4,5 @@ pub mod Kept
 pub mod Lookup
 pub mod Questions
 pub mod Rebuild
+pub mod RebuildPlans
 pub mod Stats

@@ -7,4 +7,6 @@ mod lookup;
 mod marks;
 mod questions;
 pub mod rebuild;
+mod rebuild_finish;
+mod rebuild_questions;
 pub mod stats;
