@@ -1,3 +1,7 @@
+-- `segment_count` meets its contract. Assumes nothing.
+use mathlib.Core.Path.{_≡_, refl, sym, ap, _∙_}
+use native.Mathlib.Omega.{arith}
+use Rattle.sets.proofs.KeptBits.{retained-256}
 use borrow.Author.Needs.{needs}
 use Rattle.sets.proofs.rebuild.SharedSegmentCacheBuilder.segment_count.Statement.{
   statement,
@@ -8,25 +12,22 @@ use Rattle.sets.proofs.rebuild.SharedSegmentCacheBuilder.segment_count.
 use Rattle.sets.proofs.kept.KeptSegments.retained.Reads as retained-reads
 use Rattle.sets.proofs.rebuild.SharedSegmentCacheBuilder.adds_segment.Reads as adds-segment-reads
 
--- src/rebuild.rt:416:13
 retained-requires : tie.Need-retained-requires
 retained-requires c κs = search needs
 
--- src/rebuild.rt:417:12
 adds-segment-requires : tie.Need-adds-segment-requires
 adds-segment-requires c κs = search needs
 
--- src/rebuild.rt:418:20
 add-result : tie.Need-add-result
-add-result c = ?
+add-result c = omega (arith, c .before .before .retained .ensures, retained-256 (c .before .before .before .before .args .self .kept))
 
--- src/rebuild.rt:418:13
 returns : tie.Need-returns
-returns c = ?
+returns c = rw (sym (c .before .adds-segment .ensures) ∙ c .if1 .taken, c .before .before .retained .ensures)
 
--- src/rebuild.rt:412:5
 returns-2 : tie.Need-returns-2
-returns-2 c = ?
+returns-2 c =
+    let none = sym (c .before .adds-segment .ensures) ∙ c .if1 .left in
+    rw none (omega (arith, c .before .before .retained .ensures))
 
 pub segment-count-spec : {M : Type 1} → statement M
 segment-count-spec =
