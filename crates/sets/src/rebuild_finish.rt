@@ -6,11 +6,12 @@ use crate::rebuild::SharedSegmentCacheBuild;
 use crate::rebuild::SharedSegmentCacheBuilder;
 use hash_parts::error::SegmentCacheBuildError;
 ghost use mathlib.Core.Path.{_≡_};
+ghost use mathlib.Core.Bool.{true};
 ghost use Prim.Native.Nat.{_+_, _<_, _≤_, _^_};
 ghost use lib.ListN.{length};
 ghost use Rattle.hash_parts.specs.Choice.{pick};
 ghost use Rattle.sets.specs.Kept.{retained};
-ghost use Rattle.sets.specs.Questions.{checkNumber, firstNo};
+ghost use Rattle.sets.specs.Questions.{checkNumber, countsFit, firstNo};
 ghost use Rattle.sets.specs.Rebuild.{addsSegment, askRebuildFinish, buildOf, filledIn, rebuiltSet, sumOf, withLast};
 
 impl SharedSegmentCacheBuilder {
@@ -63,7 +64,7 @@ impl SharedSegmentCacheBuilder {
 
     // The finished set, and what it took.
     pub(crate) fn into_build(self, lengths: &[u64]) -> SharedSegmentCacheBuild
-        requires { ⌜ (retained (self .kept) ≤ length (now lengths)) × (sumOf (retained (self .kept)) (now lengths) ≤ 2 ^ 38) × (filledIn self ≤ 2 ^ 30) × (self .«bucket_count» ≤ 2 ^ 40) × (self .«filter_words» ≤ 2 ^ 40) ⌝ }
+        requires { ⌜ (retained (self .kept) ≤ length (now lengths)) × (sumOf (retained (self .kept)) (now lengths) ≤ 2 ^ 38) × (filledIn self ≤ 2 ^ 30) × (countsFit (self .config) (self .«expected_entries») (self .«bucket_count») (self .«filter_words») ≡ true) ⌝ }
         ensures { λ r. ⌜ r ≡ buildOf self (now (lengths .entry)) ⌝ }
     {
         let index_bytes = self.bucket_count * 64 + self.filter_words * 8;

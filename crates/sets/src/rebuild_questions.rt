@@ -136,11 +136,11 @@ impl SharedSegmentCacheBuilder {
         if !self.holds_record(key, value, source, starts, lengths, arena) {
             return SlotPlan::Refused(SegmentCacheBuildError::RecordMismatch);
         }
-        let found = find_empty_build_slot(index, self.bucket_count, hash);
-        let BuildSlot::Empty(slot) = found else {
-            return SlotPlan::Refused(SegmentCacheBuildError::CapacityOverflow);
-        };
-        SlotPlan::Slot(slot)
+        match find_empty_build_slot(index, self.bucket_count, hash) {
+            BuildSlot::Duplicate => SlotPlan::Refused(SegmentCacheBuildError::CapacityOverflow),
+            BuildSlot::Full => SlotPlan::Refused(SegmentCacheBuildError::CapacityOverflow),
+            BuildSlot::Empty(slot) => SlotPlan::Slot(slot),
+        }
     }
 
     // Whether a kept segment holds this record where the source held it.
@@ -249,11 +249,11 @@ impl SharedSegmentCacheBuilder {
         if kept.retained() >= MAX_RECORD_SEGMENTS {
             return PushPlan::Refused(SegmentCacheBuildError::ArenaTooLarge);
         }
-        let found = find_empty_build_slot(index, self.bucket_count, hash);
-        let BuildSlot::Empty(slot) = found else {
-            return PushPlan::Refused(SegmentCacheBuildError::CapacityOverflow);
-        };
-        PushPlan::Place(slot, expires_at)
+        match find_empty_build_slot(index, self.bucket_count, hash) {
+            BuildSlot::Duplicate => PushPlan::Refused(SegmentCacheBuildError::CapacityOverflow),
+            BuildSlot::Full => PushPlan::Refused(SegmentCacheBuildError::CapacityOverflow),
+            BuildSlot::Empty(slot) => PushPlan::Place(slot, expires_at),
+        }
     }
 }
 

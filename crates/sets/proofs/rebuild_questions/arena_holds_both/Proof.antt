@@ -1,3 +1,9 @@
+-- `arena_holds_both` meets its contract. Assumes nothing.
+use mathlib.Core.Path.{_≡_, refl, sym, ap, ap₂, _∙_}
+use borrow.Author.Tests.{lt-ltb, le-ltb, le-leb, lt-leb, eq-eqb, ne-eqb, not-true, not-false}
+use Prim.Native.Nat.{ℕ, _+_, _-_, _*_, _/_, _%_, _^_, _≤_, _<_}
+use native.Mathlib.Omega.{arith}
+use Rattle.sets.specs.Questions.{arenaHolds}
 use borrow.Author.Needs.{needs}
 use Rattle.sets.proofs.rebuild_questions.arena_holds_both.Statement.{statement}
 use Rattle.sets.proofs.rebuild_questions.arena_holds_both.Tie as tie
@@ -7,11 +13,19 @@ use Rattle.sets.proofs.questions.arena_holds.Reads as arena-holds-reads
 
 -- src/rebuild_questions.rt:316:9
 returns : tie.Need-returns
-returns c = ?
+unfolding arenaHolds
+returns c =
+    let a = c .before .args in
+    let n : a .arena-len < a .source-filled + a .copied = omega (arith, c .if1 .taken) in
+    rw (lt-leb _ _ n)
 
 -- src/rebuild_questions.rt:319:9
 returns-2 : tie.Need-returns-2
-returns-2 c = ?
+unfolding arenaHolds
+returns-2 c =
+    let a = c .before .before .args in
+    let n : a .arena-len < a .source-filled + a .copied = omega (arith, c .before .if1 .left, c .if2 .taken) in
+    rw (lt-leb _ _ n)
 
 -- src/rebuild_questions.rt:321:17
 add-arena-holds : tie.Need-add-arena-holds

@@ -1,3 +1,11 @@
+-- `record_fits` meets its contract. Assumes nothing.
+use mathlib.Core.Path.{_≡_, refl, sym, ap, ap₂, _∙_}
+use borrow.Author.Tests.{lt-ltb, le-ltb, le-leb, lt-leb, eq-eqb, ne-eqb, not-true, not-false}
+use Prim.Native.Nat.{ℕ, _+_, _-_, _*_, _/_, _%_, _^_, _≤_, _<_}
+use native.Mathlib.Omega.{arith}
+use lib.Dec.{leb}
+use Rattle.records.specs.Record.{recordSize, sizeOutcome}
+use Rattle.sets.proofs.RebuildSteps.{size-large, size-told}
 use borrow.Author.Needs.{needs}
 use Rattle.sets.proofs.rebuild_questions.record_fits.Statement.{statement}
 use Rattle.sets.proofs.rebuild_questions.record_fits.Tie as tie
@@ -19,11 +27,19 @@ enum-told c = search needs
 
 -- src/rebuild_questions.rt:409:9
 returns : tie.Need-returns
-returns c = ?
+returns c =
+    let a = c .before .before .before .args in
+    let encoded-record-bytes = c .before .before .encoded-record-bytes in
+    let q = size-large (a .expiry) (a .key-bytes) (a .value-bytes) (c .enum-told .given .0 .0) (ap sizeOutcome (sym (c .enum-told .given .1)) ∙ encoded-record-bytes .ensures) in
+    let n : a .rest < recordSize (a .expiry) (a .key-bytes) (a .value-bytes) = omega (arith, q, c .before .before .before .fits .rest .fits) in
+    sym (lt-leb _ _ n)
 
 -- src/rebuild_questions.rt:405:1
 returns-2 : tie.Need-returns-2
-returns-2 c = ?
+returns-2 c =
+    let a = c .before .before .before .before .args in
+    let encoded-record-bytes = c .before .before .before .encoded-record-bytes in
+    ap (λ (n : ℕ). leb n (a .rest)) (size-told (a .expiry) (a .key-bytes) (a .value-bytes) (c .before .size .given .0 .0) (ap sizeOutcome (sym (c .before .size .given .1)) ∙ encoded-record-bytes .ensures))
 
 pub record-fits-spec : {M : Type 1} → statement M
 record-fits-spec =

@@ -1,3 +1,14 @@
+-- `areas_hold` meets its contract. Assumes nothing.
+use mathlib.Core.Path.{_≡_, refl, sym, ap, ap₂, _∙_}
+use borrow.Author.Tests.{lt-ltb, le-ltb, le-leb, lt-leb, eq-eqb, ne-eqb, not-true, not-false}
+use Prim.Native.Nat.{ℕ, _+_, _-_, _*_, _/_, _%_, _^_, _≤_, _<_}
+use native.Mathlib.Omega.{arith}
+use lib.ListN.{length, set, getD}
+use mathlib.Core.List.{List}
+use Rattle.sets.specs.Kept.{retained}
+use Rattle.sets.specs.Rebuild.{areasHoldRebuild, filledIn, segmentsInside}
+use Rattle.sets.proofs.KeptBits.{retained-256}
+use Rattle.sets.proofs.RebuildSteps.{areas-256, arena-held}
 use borrow.Author.Needs.{needs}
 use Rattle.sets.proofs.rebuild.SharedSegmentCacheBuilder.areas_hold.Statement.{statement}
 use Rattle.sets.proofs.rebuild.SharedSegmentCacheBuilder.areas_hold.Tie as tie
@@ -15,11 +26,18 @@ fits-requires c κs = search needs
 
 -- src/rebuild_questions.rt:90:13
 returns : tie.Need-returns
-returns c = ?
+unfolding areasHoldRebuild
+returns c = rw (sym (c .before .fits2 .ensures) ∙ not-true (c .before .fits2 .result) (c .if1 .taken))
 
 -- src/rebuild_questions.rt:93:13
 returns-2 : tie.Need-returns-2
-returns-2 c = ?
+unfolding areasHoldRebuild
+returns-2 c =
+    let a = c .before .before .before .before .before .before .args in
+    let fits2 = c .before .before .before .fits2 in
+    let if1 = c .before .before .if1 in
+    let short : a .index-len < 8 * a .self .«bucket_count» = omega (arith, c .if2 .taken) in
+    rw (sym (fits2 .ensures) ∙ not-false (fits2 .result) (if1 .left), lt-leb _ _ short)
 
 -- src/rebuild_questions.rt:95:13
 segment-areas-hold-requires : tie.Need-segment-areas-hold-requires
@@ -27,7 +45,14 @@ segment-areas-hold-requires c κs = search needs
 
 -- src/rebuild_questions.rt:96:13
 returns-3 : tie.Need-returns-3
-returns-3 c = ?
+unfolding areasHoldRebuild
+returns-3 c =
+    let a = c .before .before .before .before .before .before .before .before .args in
+    let fits2 = c .before .before .before .before .before .fits2 in
+    let if1 = c .before .before .before .before .if1 in
+    let if2 = c .before .before .if2 in
+    let long : 8 * a .self .«bucket_count» ≤ a .index-len = omega (arith, if2 .left) in
+    rw (sym (fits2 .ensures) ∙ not-false (fits2 .result) (if1 .left), le-leb _ _ long, sym (c .before .segment-areas-hold .ensures) ∙ not-true (c .before .segment-areas-hold .result) (c .if3 .taken))
 
 -- src/rebuild_questions.rt:100:13
 arena-holds-both-requires : tie.Need-arena-holds-both-requires
@@ -35,7 +60,16 @@ arena-holds-both-requires c κs = search needs
 
 -- src/rebuild_questions.rt:101:13
 returns-4 : tie.Need-returns-4
-returns-4 c = ?
+unfolding areasHoldRebuild
+returns-4 c =
+    let a = c .before .before .before .before .before .before .before .before .before .before .args in
+    let fits2 = c .before .before .before .before .before .before .before .fits2 in
+    let if1 = c .before .before .before .before .before .before .if1 in
+    let if2 = c .before .before .before .before .if2 in
+    let segment-areas-hold = c .before .before .before .segment-areas-hold in
+    let if3 = c .before .before .if3 in
+    let long : 8 * a .self .«bucket_count» ≤ a .index-len = omega (arith, if2 .left) in
+    rw (sym (fits2 .ensures) ∙ not-false (fits2 .result) (if1 .left), le-leb _ _ long, sym (segment-areas-hold .ensures) ∙ not-false (segment-areas-hold .result) (if3 .left), sym (c .before .arena-holds-both .ensures) ∙ not-true (c .before .arena-holds-both .result) (c .if4 .taken))
 
 -- src/rebuild_questions.rt:104:25
 retained-requires : tie.Need-retained-requires
@@ -43,15 +77,38 @@ retained-requires c κs = search needs
 
 -- src/rebuild_questions.rt:104:42
 add-segments-inside : tie.Need-add-segments-inside
-add-segments-inside c = ?
+add-segments-inside c =
+    let a = c .before .before .before .before .before .before .before .before .before .before .before .before .args in
+    let arena-holds-both = c .before .before .before .arena-holds-both in
+    let if4 = c .before .before .if4 in
+    let held = arena-held (filledIn (a .self)) (a .arena-len) (sym (arena-holds-both .ensures) ∙ not-false (arena-holds-both .result) (if4 .left)) in
+    omega (arith, held .0, held .1)
 
 -- src/rebuild_questions.rt:104:9
 segments-inside-requires : tie.Need-segments-inside-requires
-segments-inside-requires c κs = ?
+segments-inside-requires c κs =
+    let a = c .before .before .before .before .before .before .before .before .before .before .before .before .args in
+    let segment-areas-hold = c .before .before .before .before .before .segment-areas-hold in
+    let if3 = c .before .before .before .before .if3 in
+    let held = areas-256 (length (a .starts .now)) (length (a .lengths .now)) (sym (segment-areas-hold .ensures) ∙ not-false (segment-areas-hold .result) (if3 .left)) in
+    let few : c .retained .result ≤ 256 = omega (arith, c .retained .ensures, retained-256 (a .self .kept)) in
+    (omega (arith, held .0), omega (arith, held .1))
 
 -- src/rebuild_questions.rt:86:5
 returns-5 : tie.Need-returns-5
-returns-5 c = ?
+unfolding areasHoldRebuild
+returns-5 c =
+    let a = c .before .before .before .before .before .before .before .before .before .before .before .before .before .args in
+    let fits2 = c .before .before .before .before .before .before .before .before .before .before .fits2 in
+    let if1 = c .before .before .before .before .before .before .before .before .before .if1 in
+    let if2 = c .before .before .before .before .before .before .before .if2 in
+    let segment-areas-hold = c .before .before .before .before .before .before .segment-areas-hold in
+    let if3 = c .before .before .before .before .before .if3 in
+    let arena-holds-both = c .before .before .before .before .arena-holds-both in
+    let if4 = c .before .before .before .if4 in
+    let long : 8 * a .self .«bucket_count» ≤ a .index-len = omega (arith, if2 .left) in
+    rw (sym (fits2 .ensures) ∙ not-false (fits2 .result) (if1 .left), le-leb _ _ long, sym (segment-areas-hold .ensures) ∙ not-false (segment-areas-hold .result) (if3 .left), sym (arena-holds-both .ensures) ∙ not-false (arena-holds-both .result) (if4 .left))
+    (c .segments-inside .ensures ∙ ap (λ (n : ℕ). segmentsInside n (filledIn (a .self)) (a .starts .now) (a .lengths .now)) (c .before .retained .ensures))
 
 pub areas-hold-spec : {M : Type 1} → statement M
 areas-hold-spec =

@@ -1,3 +1,16 @@
+-- `finish` meets its contract. Assumes nothing.
+use mathlib.Core.Path.{_≡_, refl, sym, ap, ap₂, _∙_}
+use borrow.Author.Tests.{lt-ltb, le-ltb, le-leb, lt-leb, eq-eqb, ne-eqb, not-true, not-false}
+use Prim.Native.Nat.{ℕ, _+_, _-_, _*_, _/_, _%_, _^_, _≤_, _<_}
+use native.Mathlib.Omega.{arith}
+use lib.ListN.{length, set, getD}
+use Rattle.sets.specs.Kept.{retained}
+use Rattle.sets.specs.Questions.{checkNumber}
+use Rattle.sets.specs.Rebuild.{afterRebuildFinish, filledIn}
+use Rattle.sets.proofs.Decides.{decided-refused}
+use Rattle.sets.proofs.KeptBits.{retained-256}
+use Rattle.sets.proofs.RebuildAsked.{refinish-asked}
+use Rattle.sets.proofs.RebuildSteps.{adds-few, refinish-left, sum-inside}
 use borrow.Author.Needs.{needs}
 use Rattle.sets.proofs.rebuild.SharedSegmentCacheBuilder.finish.Statement.{statement}
 use Rattle.sets.proofs.rebuild.SharedSegmentCacheBuilder.finish.Tie as tie
@@ -26,18 +39,35 @@ same-length-2 c = search needs
 
 -- src/rebuild.rt:232:13
 returns : tie.Need-returns
-returns c = ?
+unfolding afterRebuildFinish
+returns c =
+    let check-finish = c .before .before .before .check-finish in
+    rw (sym (check-finish .ensures) ∙ ap checkNumber (c .before .refusal .given .1)) (sym (decided-refused (c .before .refusal .given .0 .0) _ _))
 
 enum-told : tie.Need-enum-told
 enum-told c = search needs
 
 -- src/rebuild.rt:237:13
 into-build-requires : tie.Need-into-build-requires
-into-build-requires c κs = ?
+into-build-requires c κs =
+    let a = c .before .before .before .before .before .before .before .before .before .before .before .args in
+    let check-finish = c .before .before .before .check-finish in
+    let q = refinish-asked (a .self) (length (a .index .now)) (a .starts .now) (a .lengths .now) (length (a .scratch .now)) (length (a .arena .now)) (sym (check-finish .ensures) ∙ ap checkNumber (c .before .enum-told .given .1)) in
+    let n = q .areas .numbers in
+    let few = retained-256 (a .self .kept) in
+    let short : filledIn (a .self) ≤ 2 ^ 30 = omega (arith, q .areas .filled-held, q .areas .arena-short) in
+    let sum = sum-inside (filledIn (a .self)) (a .starts .now) (a .lengths .now) (retained (a .self .kept)) short (q .areas .inside) in
+    (omega (arith, few, q .areas .lengths-hold), omega (arith, few, sum), short, n .counts)
 
 -- src/rebuild.rt:238:9
 add-segment-requires : tie.Need-add-segment-requires
-add-segment-requires c κs = ?
+add-segment-requires c κs =
+    let a = c .before .before .before .before .before .before .before .before .before .before .before .before .before .before .args in
+    let check-finish = c .before .before .before .before .before .before .check-finish in
+    let enum-told = c .before .before .before .before .enum-told in
+    let q = refinish-asked (a .self) (length (a .index .now)) (a .starts .now) (a .lengths .now) (length (a .scratch .now)) (length (a .arena .now)) (sym (check-finish .ensures) ∙ ap checkNumber (enum-told .given .1)) in
+    let n = q .areas .numbers in
+    (q .areas .starts-hold, q .areas .lengths-hold, adds-few (a .self) (n .few))
 
 -- src/rebuild.rt:240:9
 pack-index-requires : tie.Need-pack-index-requires
@@ -61,7 +91,16 @@ same-length-6 c = search needs
 
 -- src/rebuild.rt:215:5
 returns-2 : tie.Need-returns-2
-returns-2 c = ?
+unfolding afterRebuildFinish
+returns-2 c =
+    let a = c .before .before .before .before .before .before .before .before .before .before .before .before .before .before .before .before .before .before .before .before .before .before .before .before .before .before .args in
+    let check-finish = c .before .before .before .before .before .before .before .before .before .before .before .before .before .before .before .before .before .before .check-finish in
+    let enum-told = c .before .before .before .before .before .before .before .before .before .before .before .before .before .before .before .before .enum-told in
+    let into-build = c .before .before .before .before .before .before .before .before .before .before .before .before .before .before .into-build in
+    let add-segment = c .before .before .before .before .before .before .before .before .before .before .before .add-segment in
+    let pack-index = c .before .before .before .before .pack-index in
+    rw (sym (check-finish .ensures) ∙ ap checkNumber (enum-told .given .1))
+    (refinish-left (a .self) (a .index .now) (a .starts .now) (a .lengths .now) (a .scratch .now) _ _ _ _ (into-build .result) (into-build .ensures) (add-segment .ensures .0) (add-segment .ensures .1) (pack-index .ensures .0) (pack-index .ensures .1))
 
 pub finish-spec : {M : Type 1} → statement M
 finish-spec =

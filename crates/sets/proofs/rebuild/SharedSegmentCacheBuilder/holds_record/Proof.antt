@@ -1,3 +1,12 @@
+-- `holds_record` meets its contract. Assumes nothing.
+use mathlib.Core.Path.{_≡_, refl, sym, ap, ap₂, _∙_}
+use borrow.Author.Tests.{lt-ltb, le-ltb, le-leb, lt-leb, eq-eqb, ne-eqb, not-true, not-false}
+use Prim.Native.Nat.{ℕ, _+_, _-_, _*_, _/_, _%_, _^_, _≤_, _<_}
+use native.Mathlib.Omega.{arith}
+use Rattle.index.specs.View.{recordIn}
+use Rattle.index.specs.declared.view.SegmentView.{SegmentView}
+use Rattle.sets.specs.Rebuild.{holdsRecord}
+use Rattle.sets.proofs.KeptBits.{number-below, retained-256}
 use borrow.Author.Needs.{needs}
 use Rattle.sets.proofs.rebuild.SharedSegmentCacheBuilder.holds_record.Statement.{statement}
 use Rattle.sets.proofs.rebuild.SharedSegmentCacheBuilder.holds_record.Tie as tie
@@ -10,15 +19,17 @@ use Rattle.sets.proofs.rebuild_questions.same_record.Reads as same-reco
 
 -- src/rebuild_questions.rt:157:22
 moved-location-requires : tie.Need-moved-location-requires
-moved-location-requires c κs = search needs
+moved-location-requires c κs = c .before .before .before .before .before .pre .0
 
 -- src/rebuild_questions.rt:157:22
 add-stored : tie.Need-add-stored
-add-stored c = ?
+add-stored c =
+    let a = c .before .before .before .before .before .before .args in
+    omega (arith, c .moved-location .ensures, number-below (a .self .kept) (a .source .location / 2 ^ 32) (c .before .before .before .before .before .before .pre .0), retained-256 (a .self .kept))
 
 -- src/rebuild_questions.rt:158:39
 view-requires : tie.Need-view-requires
-view-requires c κs = search needs
+view-requires c κs = c .before .before .before .before .before .before .pre .1
 
 -- src/rebuild_questions.rt:158:13
 record-at-location-requires : tie.Need-record-at-location-requires
@@ -34,7 +45,14 @@ enum-told c = search needs
 
 -- src/rebuild_questions.rt:160:13
 returns : tie.Need-returns
-returns c = ?
+unfolding holdsRecord
+returns c =
+    let a = c .before .before .before .before .before .before .before .before .before .before .args in
+    let moved-location = c .before .before .before .before .moved-location in
+    let view = c .before .before .before .view in
+    let record-at-location = c .before .before .record-at-location in
+    let same = ap₂ (λ (v : SegmentView) (n : ℕ). recordIn v (a .arena .now) (a .starts .now) (a .lengths .now) (n + 1)) (view .ensures) (moved-location .ensures) in
+    sym (ap (holdsRecord (a .key .now) (a .value .now) (a .source .«header_bytes») (a .arena .now)) (sym (record-at-location .ensures ∙ same) ∙ c .enum-told .given .1))
 
 -- src/rebuild_questions.rt:162:9
 same-record-requires : tie.Need-same-record-requires
@@ -42,7 +60,15 @@ same-record-requires c κs = search needs
 
 -- src/rebuild_questions.rt:145:5
 returns-2 : tie.Need-returns-2
-returns-2 c = ?
+unfolding holdsRecord
+returns-2 c =
+    let a = c .before .before .before .before .before .before .before .before .before .before .before .before .args in
+    let moved-location = c .before .before .before .before .before .before .moved-location in
+    let view = c .before .before .before .before .before .view in
+    let record-at-location = c .before .before .before .before .record-at-location in
+    let read = c .before .before .read in
+    let same = ap₂ (λ (v : SegmentView) (n : ℕ). recordIn v (a .arena .now) (a .starts .now) (a .lengths .now) (n + 1)) (view .ensures) (moved-location .ensures) in
+    c .same-record .ensures ∙ sym (ap (holdsRecord (a .key .now) (a .value .now) (a .source .«header_bytes») (a .arena .now)) (sym (record-at-location .ensures ∙ same) ∙ read .given .1))
 
 pub holds-record-spec : {M : Type 1} → statement M
 holds-record-spec =

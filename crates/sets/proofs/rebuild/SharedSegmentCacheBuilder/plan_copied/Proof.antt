@@ -1,3 +1,16 @@
+-- `plan_copied` meets its contract. Assumes nothing.
+use mathlib.Core.Path.{_≡_, refl, sym, ap, ap₂, _∙_}
+use borrow.Author.Tests.{lt-ltb, le-ltb, le-leb, lt-leb, eq-eqb, ne-eqb, not-true, not-false}
+use Prim.Native.Nat.{ℕ, _+_, _-_, _*_, _/_, _%_, _^_, _≤_, _<_}
+use native.Mathlib.Omega.{arith}
+use lib.ListN.{length, set, getD}
+use Rattle.hash_parts.specs.Duration.{expiryOutcome}
+use Rattle.hash_parts.specs.Error.{errorNumber}
+use Rattle.hash_parts.proofs.Refusals.{refusal-pos}
+use Rattle.sets.specs.Rebuild.{askCopied}
+use Rattle.sets.specs.RebuildPlans.{askRoom, planCopied, planRoom}
+use Rattle.sets.proofs.Decides.{decided-refused}
+use Rattle.sets.proofs.RebuildAsked.{rebuild-areas-asked}
 use borrow.Author.Needs.{needs}
 use Rattle.sets.proofs.rebuild.SharedSegmentCacheBuilder.plan_copied.Statement.{statement}
 use Rattle.sets.proofs.rebuild.SharedSegmentCacheBuilder.plan_copied.Tie as tie
@@ -14,11 +27,16 @@ areas-hold-requires c κs = search needs
 
 -- src/rebuild_questions.rt:207:13
 returns : tie.Need-returns
-returns c = ?
+unfolding planCopied askCopied planRoom askRoom
+returns c = rw (sym (c .before .areas-hold .ensures) ∙ not-true (c .before .areas-hold .result) (c .if1 .taken))
 
 -- src/rebuild_questions.rt:210:13
 returns-2 : tie.Need-returns-2
-returns-2 c = ?
+unfolding planCopied askCopied planRoom askRoom
+returns-2 c =
+    let areas-hold = c .before .before .before .areas-hold in
+    let if1 = c .before .before .if1 in
+    rw (sym (areas-hold .ensures) ∙ not-false (areas-hold .result) (if1 .left), lt-leb _ _ (c .if2 .taken))
 
 -- src/rebuild_questions.rt:212:13
 lifetime-fits-requires : tie.Need-lifetime-fits-requires
@@ -26,11 +44,23 @@ lifetime-fits-requires c κs = search needs
 
 -- src/rebuild_questions.rt:213:13
 returns-3 : tie.Need-returns-3
-returns-3 c = ?
+unfolding planCopied askCopied planRoom askRoom
+returns-3 c =
+    let areas-hold = c .before .before .before .before .before .areas-hold in
+    let if1 = c .before .before .before .before .if1 in
+    let if2 = c .before .before .if2 in
+    rw (sym (areas-hold .ensures) ∙ not-false (areas-hold .result) (if1 .left), le-leb _ _ (if2 .left), sym (c .before .lifetime-fits .ensures) ∙ not-true (c .before .lifetime-fits .result) (c .if3 .taken))
 
 -- src/rebuild_questions.rt:216:13
 returns-4 : tie.Need-returns-4
-returns-4 c = ?
+unfolding planCopied askCopied planRoom askRoom
+returns-4 c =
+    let areas-hold = c .before .before .before .before .before .before .before .areas-hold in
+    let if1 = c .before .before .before .before .before .before .if1 in
+    let if2 = c .before .before .before .before .if2 in
+    let lifetime-fits = c .before .before .before .lifetime-fits in
+    let if3 = c .before .before .if3 in
+    rw (sym (areas-hold .ensures) ∙ not-false (areas-hold .result) (if1 .left), le-leb _ _ (if2 .left), sym (lifetime-fits .ensures) ∙ not-false (lifetime-fits .result) (if3 .left), le-ltb _ _ (c .if4 .taken))
 
 -- src/rebuild_questions.rt:220:15
 encode-expiry-at-tick-requires : tie.Need-encode-expiry-at-tick-requires
@@ -46,15 +76,40 @@ enum-known-expires-at c = search needs
 
 -- src/rebuild_questions.rt:223:17
 plan-room-requires : tie.Need-plan-room-requires
-plan-room-requires c κs = ?
+plan-room-requires c κs =
+    let a = c .before .before .before .before .before .before .before .before .before .before .before .before .before .before .before .before .args in
+    let areas-hold = c .before .before .before .before .before .before .before .before .before .before .before .before .areas-hold in
+    let if1 = c .before .before .before .before .before .before .before .before .before .before .before .if1 in
+    rebuild-areas-asked (a .self) (length (a .index .now)) (a .starts .now) (a .lengths .now) (a .arena-len) (sym (areas-hold .ensures) ∙ not-false (areas-hold .result) (if1 .left)) .filled-held
 
 -- src/rebuild_questions.rt:192:5
 returns-5 : tie.Need-returns-5
-returns-5 c = ?
+unfolding planCopied askCopied planRoom askRoom
+returns-5 c =
+    let areas-hold = c .before .before .before .before .before .before .before .before .before .before .before .before .areas-hold in
+    let if1 = c .before .before .before .before .before .before .before .before .before .before .before .if1 in
+    let if2 = c .before .before .before .before .before .before .before .before .before .if2 in
+    let lifetime-fits = c .before .before .before .before .before .before .before .before .lifetime-fits in
+    let if3 = c .before .before .before .before .before .before .before .if3 in
+    let if4 = c .before .before .before .before .before .if4 in
+    let encode-expiry-at-tick = c .before .before .before .encode-expiry-at-tick in
+    let e = c .before .refusal .given .0 .0 in
+    rw (sym (areas-hold .ensures) ∙ not-false (areas-hold .result) (if1 .left), le-leb _ _ (if2 .left), sym (lifetime-fits .ensures) ∙ not-false (lifetime-fits .result) (if3 .left), lt-ltb _ _ (if4 .left), sym (encode-expiry-at-tick .ensures) ∙ ap expiryOutcome (c .before .refusal .given .1), ne-eqb (errorNumber e) 0 (λ (z : errorNumber e ≡ 0). omega (arith, refusal-pos e)))
+    (sym (decided-refused e _ _))
 
 -- src/rebuild_questions.rt:192:5
 returns-6 : tie.Need-returns-6
-returns-6 c = ?
+unfolding planCopied askCopied planRoom askRoom
+returns-6 c =
+    let areas-hold = c .before .before .before .before .before .before .before .before .before .before .before .before .before .areas-hold in
+    let if1 = c .before .before .before .before .before .before .before .before .before .before .before .before .if1 in
+    let if2 = c .before .before .before .before .before .before .before .before .before .before .if2 in
+    let lifetime-fits = c .before .before .before .before .before .before .before .before .before .lifetime-fits in
+    let if3 = c .before .before .before .before .before .before .before .before .if3 in
+    let if4 = c .before .before .before .before .before .before .if4 in
+    let encode-expiry-at-tick = c .before .before .before .before .encode-expiry-at-tick in
+    let expires-at = c .before .before .expires-at in
+    rw (sym (areas-hold .ensures) ∙ not-false (areas-hold .result) (if1 .left), le-leb _ _ (if2 .left), sym (lifetime-fits .ensures) ∙ not-false (lifetime-fits .result) (if3 .left), lt-ltb _ _ (if4 .left), sym (encode-expiry-at-tick .ensures) ∙ ap expiryOutcome (expires-at .given .1)) (c .plan-room .ensures)
 
 pub plan-copied-spec : {M : Type 1} → statement M
 plan-copied-spec =

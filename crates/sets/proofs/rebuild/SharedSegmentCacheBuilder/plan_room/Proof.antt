@@ -1,3 +1,12 @@
+-- `plan_room` meets its contract. Assumes nothing.
+use mathlib.Core.Path.{_≡_, refl, sym, ap, ap₂, _∙_}
+use borrow.Author.Tests.{lt-ltb, le-ltb, le-leb, lt-leb, eq-eqb, ne-eqb, not-true, not-false}
+use Prim.Native.Nat.{ℕ, _+_, _-_, _*_, _/_, _%_, _^_, _≤_, _<_}
+use native.Mathlib.Omega.{arith}
+use Rattle.sets.specs.Kept.{retained}
+use Rattle.sets.specs.Rebuild.{copiedSize, filledIn}
+use Rattle.sets.specs.RebuildPlans.{askRoom, planRoom}
+use Rattle.sets.proofs.RebuildSteps.{room}
 use borrow.Author.Needs.{needs}
 use Rattle.sets.proofs.rebuild.SharedSegmentCacheBuilder.plan_room.Statement.{statement}
 use Rattle.sets.proofs.rebuild.SharedSegmentCacheBuilder.plan_room.Tie as tie
@@ -21,7 +30,10 @@ record-fits-requires c κs = search needs
 
 -- src/rebuild_questions.rt:245:13
 returns : tie.Need-returns
-returns c = ?
+unfolding planRoom askRoom
+returns c =
+    let a = c .before .before .before .before .before .args in
+    rw (room (filledIn (a .self)) (copiedSize (a .self) (a .key-bytes) (a .value-bytes)) (a .arena-len) (c .before .before .before .before .before .pre) ∙ sym (c .before .record-fits .ensures) ∙ not-true (c .before .record-fits .result) (c .if1 .taken))
 
 -- src/rebuild_questions.rt:248:12
 retained-requires : tie.Need-retained-requires
@@ -29,23 +41,68 @@ retained-requires c κs = search needs
 
 -- src/rebuild_questions.rt:249:13
 returns-2 : tie.Need-returns-2
-returns-2 c = ?
+unfolding planRoom askRoom
+returns-2 c =
+    let a = c .before .before .before .before .before .before .before .before .args in
+    let record-fits = c .before .before .before .before .record-fits in
+    let if1 = c .before .before .before .if1 in
+    let n : 256 ≤ retained (a .self .kept) = omega (arith, c .if2 .taken, c .before .retained .ensures) in
+    rw (room (filledIn (a .self)) (copiedSize (a .self) (a .key-bytes) (a .value-bytes)) (a .arena-len) (c .before .before .before .before .before .before .before .before .pre) ∙ sym (record-fits .ensures) ∙ not-false (record-fits .result) (if1 .left), le-ltb _ _ n)
 
 -- src/rebuild_questions.rt:251:13
 find-empty-build-slot-requires : tie.Need-find-empty-build-slot-requires
 find-empty-build-slot-requires c κs = search needs
 
--- src/rebuild_questions.rt:252:30
-enum-known-found : tie.Need-enum-known-found
-enum-known-found c = search needs
+-- src
+enum-told : tie.Need-enum-told
+enum-told c = search needs
 
--- src/rebuild_questions.rt:253:13
+-- src
+enum-told-2 : tie.Need-enum-told-2
+enum-told-2 c = search needs
+
+-- src
+enum-known-slot : tie.Need-enum-known-slot
+enum-known-slot c = search needs
+
+-- src
 returns-3 : tie.Need-returns-3
-returns-3 c = ?
+unfolding planRoom askRoom
+returns-3 c =
+    let a = c .before .before .before .before .before .before .before .before .before .before .before .args in
+    let record-fits = c .before .before .before .before .before .before .before .record-fits in
+    let if1 = c .before .before .before .before .before .before .if1 in
+    let retained = c .before .before .before .before .retained in
+    let if2 = c .before .before .before .if2 in
+    let find-empty-build-slot = c .before .before .find-empty-build-slot in
+    let n : retained (a .self .kept) < 256 = omega (arith, if2 .left, retained .ensures) in
+    rw (room (filledIn (a .self)) (copiedSize (a .self) (a .key-bytes) (a .value-bytes)) (a .arena-len) (c .before .before .before .before .before .before .before .before .before .before .before .pre) ∙ sym (record-fits .ensures) ∙ not-false (record-fits .result) (if1 .left), lt-ltb _ _ n, sym (find-empty-build-slot .ensures) ∙ c .enum-told .given .1)
 
--- src/rebuild_questions.rt:229:5
+-- src
 returns-4 : tie.Need-returns-4
-returns-4 c = ?
+unfolding planRoom askRoom
+returns-4 c =
+    let a = c .before .before .before .before .before .before .before .before .before .before .before .args in
+    let record-fits = c .before .before .before .before .before .before .before .record-fits in
+    let if1 = c .before .before .before .before .before .before .if1 in
+    let retained = c .before .before .before .before .retained in
+    let if2 = c .before .before .before .if2 in
+    let find-empty-build-slot = c .before .before .find-empty-build-slot in
+    let n : retained (a .self .kept) < 256 = omega (arith, if2 .left, retained .ensures) in
+    rw (room (filledIn (a .self)) (copiedSize (a .self) (a .key-bytes) (a .value-bytes)) (a .arena-len) (c .before .before .before .before .before .before .before .before .before .before .before .pre) ∙ sym (record-fits .ensures) ∙ not-false (record-fits .result) (if1 .left), lt-ltb _ _ n, sym (find-empty-build-slot .ensures) ∙ c .enum-told2 .given .1)
+
+-- src
+returns-5 : tie.Need-returns-5
+unfolding planRoom askRoom
+returns-5 c =
+    let a = c .before .before .before .before .before .before .before .before .before .before .before .before .args in
+    let record-fits = c .before .before .before .before .before .before .before .before .record-fits in
+    let if1 = c .before .before .before .before .before .before .before .if1 in
+    let retained = c .before .before .before .before .before .retained in
+    let if2 = c .before .before .before .before .if2 in
+    let find-empty-build-slot = c .before .before .before .find-empty-build-slot in
+    let n : retained (a .self .kept) < 256 = omega (arith, if2 .left, retained .ensures) in
+    rw (room (filledIn (a .self)) (copiedSize (a .self) (a .key-bytes) (a .value-bytes)) (a .arena-len) (c .before .before .before .before .before .before .before .before .before .before .before .before .pre) ∙ sym (record-fits .ensures) ∙ not-false (record-fits .result) (if1 .left), lt-ltb _ _ n, sym (find-empty-build-slot .ensures) ∙ c .before .slot .given .1)
 
 pub plan-room-spec : {M : Type 1} → statement M
 plan-room-spec =
@@ -58,6 +115,9 @@ plan-room-spec =
     retained-requires
     returns-2
     find-empty-build-slot-requires
-    enum-known-found
+    enum-told
+    enum-told-2
+    enum-known-slot
     returns-3
-    returns-4)
+    returns-4
+    returns-5)

@@ -1,3 +1,8 @@
+-- `view` meets its contract. Assumes nothing.
+use mathlib.Core.Path.{_≡_, refl, sym, ap, ap₂, _∙_}
+use borrow.Author.Tests.{lt-ltb, le-ltb, le-leb, lt-leb, eq-eqb, ne-eqb, not-true, not-false}
+use Prim.Native.Nat.{ℕ, _+_, _-_, _*_, _/_, _%_, _^_, _≤_, _<_}
+use native.Mathlib.Omega.{arith}
 use borrow.Author.Needs.{needs}
 use Rattle.sets.proofs.rebuild.SharedSegmentCacheBuilder.view.Statement.{statement}
 use Rattle.sets.proofs.rebuild.SharedSegmentCacheBuilder.view.Tie as tie
@@ -15,7 +20,7 @@ retained-requires c κs = search needs
 
 -- src/rebuild_questions.rt:167:5
 returns : tie.Need-returns
-returns c = ?
+returns c = rw (c .retained .ensures)
 
 pub view-spec : {M : Type 1} → statement M
 view-spec = tie.close (tie.spec add-t5 retained-requires returns)
