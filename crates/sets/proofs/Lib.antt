@@ -8,5 +8,9 @@ pub mod EmptySlots
 pub mod Finding
 pub mod KeptBits
 pub mod KeptWords
+pub mod ReadInside
+pub mod RebuildAccepted
+pub mod RebuildAsked
+pub mod RebuildClosure
 pub mod Splitting
 pub mod WalkSteps
