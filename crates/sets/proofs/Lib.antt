@@ -12,5 +12,6 @@ pub mod ReadInside
 pub mod RebuildAccepted
 pub mod RebuildAsked
 pub mod RebuildClosure
+pub mod RebuildSteps
 pub mod Splitting
 pub mod WalkSteps

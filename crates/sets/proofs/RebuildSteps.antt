@@ -88,7 +88,7 @@ sum-most i (suc n) words h = go (leb i n) refl (λ (k : i ≤ n). sum-most i n w
         let s : sumOf i words ≤ sumOf n words = less (leb-true _ _ e) in
         omega arith
     go false e less =
-        let s : i ≡ suc n = omega (arith, leb-false _ _ e) in
+        let s : i ≡ suc n = omega (arith, leb-false i n e) in
         rw s (omega arith)
 
 -- ---- the new segment areas
@@ -179,8 +179,8 @@ pub room : (filled n arena : ℕ) → filled ≤ arena → leb (filled + n) aren
 room filled n arena h = go (leb n (arena - filled)) refl
   where
     go : (b : Bool) → leb n (arena - filled) ≡ b → leb (filled + n) arena ≡ b
-    go true e = le-leb _ _ (omega (arith, leb-true n (arena - filled) e))
-    go false e = lt-leb _ _ (omega (arith, leb-false n (arena - filled) e))
+    go true e = le-leb (filled + n) arena (omega (arith, leb-true n (arena - filled) e))
+    go false e = lt-leb (filled + n) arena (omega (arith, leb-false n (arena - filled) e))
 
 -- a size that was told, and one that passes 64 bits
 module _ (e : SegmentExpiry) (key value : ℕ) where
@@ -256,13 +256,13 @@ module _ (r : SharedSegmentCacheBuilder) where
   adds-few h = go (eqb (r .«copied_bytes») 0) (eqb (retained (r .kept)) 0) refl h
     where
       go : (b d : Bool) → eqb (retained (r .kept)) 0 ≡ d → retained (r .kept) + pick b 0 1 ≤ 256 → retained (r .kept) + pick (pick b d true) 1 0 ≤ 256
-      go true true e k = omega (arith, eqb-true _ _ e)
+      go true true e k = omega (arith, eqb-true (retained (r .kept)) 0 e)
       go true false e k = omega arith
       go false d e k = omega arith
 
   pub adds-below : addsSegment r ≡ true → retained (r .kept) + pick (addsSegment r) 1 0 ≤ 256 → retained (r .kept) < 256
   adds-below e h =
-      let one : pick (addsSegment r) 1 0 ≡ 1 = rw e in
+      let one : _≡_ {A = ℕ} (pick (addsSegment r) 1 0) 1 = rw e in
       omega (arith, one, h)
 
 pub refinish-left : (r : SharedSegmentCacheBuilder) (index starts lengths scratch laid starts′ lengths′ left : List ℕ) (build : SharedSegmentCacheBuild) → build ≡ buildOf r lengths
