@@ -5,7 +5,7 @@ use mathlib.Core.List.{List, [], _∷_, _++_, append-assoc}
 use Prim.Native.Nat.{ℕ, zero, suc, _+_, _-_, _*_, _/_, _%_, _^_, _≤_, _<_}
 use native.Mathlib.Omega.{arith}
 use lib.Dec.{eqb, leb, ltb}
-use lib.ListN.{length, drop, replicate, set, getD, length-append, length-replicate}
+use lib.ListN.{length, take, drop, replicate, set, getD, length-append, length-drop, length-replicate, length-take}
 use lib.Seq.{take-all}
 use borrow.Author.Tests.{le-leb, leb-true, leb-false, lt-leb, ltb-false, eqb-true}
 use borrow.Rule.Slice.PartMut.{putMid}
@@ -232,6 +232,19 @@ module _ (slot deadline : ℕ) (r : SharedSegmentCacheBuilder) (h : ℕ) (key va
       (copiedMade slot deadline r h key value index filter arena)
   copied-left n grown location indexed marked size wrote same placed word mark =
       rw (same, size ∙ size-is (r .config .expiry) key value deadline, word, mark, placed, part-home bytes arena out (filledIn r) wrote)
+
+-- the arena is as long as it was
+pub home-length : (s area out : List ℕ) (at : ℕ) → at + length s ≤ length area → out ≡ over s (rest at area) → length (putMid at (length area - at) area out) ≡ length area
+home-length s area out at fits e =
+    ap length (part-home s area out at e)
+    ∙ omega (
+      arith,
+      length-append (take at area) (over s (drop at area)),
+      length-append s (drop (length s) (drop at area)),
+      length-take at area,
+      length-drop (length s) (drop at area),
+      length-drop at area,
+    )
 
 -- ---- what rebuild open and finish leave
 

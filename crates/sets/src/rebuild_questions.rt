@@ -84,7 +84,13 @@ impl SharedSegmentCacheBuilder {
     }
 
     // Question 1: index, segment areas and arena.
-    pub(crate) fn areas_hold(self, index_len: usize, starts: &[u64], lengths: &[u64], arena_len: usize) -> bool
+    pub(crate) fn areas_hold(
+        self,
+        index_len: usize,
+        starts: &[u64],
+        lengths: &[u64],
+        arena_len: usize,
+    ) -> bool
         ensures { λ r. ⌜ r ≡ areasHoldRebuild self «index_len» (now (starts .entry)) (now (lengths .entry)) «arena_len» ⌝ }
     {
         if !self.fits() {

@@ -1,9 +1,9 @@
 -- `keep_words` meets its contract. Assumes nothing.
-use mathlib.Core.Path.{_≡_, refl, sym, ap, _∙_}
-use Prim.Native.Nat.{ℕ, _≤_}
+use mathlib.Core.Path.{_≡_, refl, sym, ap, ap₂, _∙_}
+use borrow.Author.Tests.{lt-ltb, le-ltb, le-leb, lt-leb, eq-eqb, ne-eqb, not-true, not-false}
+use Prim.Native.Nat.{ℕ, _+_, _-_, _*_, _/_, _%_, _^_, _≤_, _<_}
 use native.Mathlib.Omega.{arith}
-use mathlib.Core.List.{List}
-use lib.ListN.{length}
+use lib.ListN.{length, set, getD}
 use Rattle.sets.specs.Kept.{chosen}
 use Rattle.sets.proofs.KeptBits.{chosen-length}
 use Rattle.sets.proofs.RebuildSteps.{kept-most, over-cleared}
@@ -15,25 +15,29 @@ use Rattle.sets.proofs.rebuild.keep_words.Lts as lts
 use Rattle.index.proofs.build.clear_words.Reads as clear-words-reads
 use Rattle.sets.proofs.kept.copy_kept.Reads as copy-kept-reads
 
+-- src/rebuild.rt:458:5
 clear-words-requires : tie.Need-clear-words-requires
 clear-words-requires c κs = search needs
 
+-- src/rebuild.rt:459:5
 copy-kept-requires : tie.Need-copy-kept-requires
 copy-kept-requires c κs =
-    let s = c .before .before .before .before .before .before .before .before in
-    (s .pre .0, omega (arith, kept-most (s .args .flags .now)))
+    let a = c .before .before .before .before .before .before .before .before .args in
+    (omega arith, omega (arith, kept-most (a .flags .now)))
 
+-- src/rebuild.rt:454:1
 same-length : tie.Need-same-length
 same-length c = search needs
 
+-- src/rebuild.rt:454:1
 returns : tie.Need-returns
 returns c =
-    let s = c .before .before .before .before .before .before .before .before .before .before .before in
-    let flags : List ℕ = s .args .flags .now in
-    let words : List ℕ = s .args .words .now in
-    let few : length (chosen flags words) ≤ 256 = omega (arith, chosen-length flags words (s .pre .0), kept-most flags) in
-    c .before .before .copy-kept .ensures
-    ∙ over-cleared (chosen flags words) (s .args .area .now) (c .before .before .before .before .before .before .clear-words .last .0) few (s .pre .2) (c .before .before .before .before .before .before .clear-words .ensures)
+    let a = c .before .before .before .before .before .before .before .before .before .before .before .args in
+    let clear-words = c .before .before .before .before .before .before .clear-words in
+    let copy-kept = c .before .before .copy-kept in
+    let s = chosen (a .flags .now) (a .words .now) in
+    let few : length s ≤ 256 = omega (arith, chosen-length (a .flags .now) (a .words .now) (c .before .before .before .before .before .before .before .before .before .before .before .pre .0), kept-most (a .flags .now), c .before .before .before .before .before .before .before .before .before .before .before .pre .1) in
+    copy-kept .ensures ∙ over-cleared s (a .area .now) _ few (c .before .before .before .before .before .before .before .before .before .before .before .pre .2) (clear-words .ensures)
 
 pub keep-words-spec : {M : Type 1} → statement M
 keep-words-spec = tie.close (tie.spec clear-words-requires copy-kept-requires same-length returns)

@@ -1,8 +1,9 @@
--- `sum_of` meets its contract: the words before a position are summed. Assumes nothing.
-use mathlib.Core.Path.{_≡_, refl, sym, ap, _∙_}
-use Prim.Native.Nat.{ℕ, _+_, _-_, _≤_}
+-- `sum_of` meets its contract. Assumes nothing.
+use mathlib.Core.Path.{_≡_, refl, sym, ap, ap₂, _∙_}
+use borrow.Author.Tests.{lt-ltb, le-ltb, le-leb, lt-leb, eq-eqb, ne-eqb, not-true, not-false}
+use Prim.Native.Nat.{ℕ, _+_, _-_, _*_, _/_, _%_, _^_, _≤_, _<_}
 use native.Mathlib.Omega.{arith}
-use mathlib.Core.List.{List}
+use lib.ListN.{length, set, getD}
 use Rattle.sets.specs.Rebuild.{sumOf}
 use Rattle.sets.proofs.RebuildSteps.{sum-more, sum-most}
 use Rattle.sets.proofs.rebuild_finish.sum_of.Statement.{statement}
@@ -16,38 +17,48 @@ Inv-loop words count sum₀ i₀ sum i = (i ≤ count) × (sum ≡ sumOf i words
 abbrev μ-loop : tie.MeasureT-loop
 μ-loop words count sum₀ i₀ sum i = count - i
 
+-- src/rebuild.rt:469:5
 loop-holds : tie.Need-loop-holds Inv-loop μ-loop
 unfolding sumOf
 loop-holds c = (omega arith, refl)
 
+-- src/rebuild.rt:470:16
 mul-sum : tie.Need-mul-sum Inv-loop μ-loop
-mul-sum c = omega (arith, c .before .before .good .0 .1)
+mul-sum c = omega arith
 
+-- src/rebuild.rt:470:16
 shared-slice-read-sum : tie.Need-shared-slice-read-sum Inv-loop μ-loop
 shared-slice-read-sum c = omega arith
 
+-- src/rebuild.rt:470:9
 add-sum : tie.Need-add-sum Inv-loop μ-loop
 add-sum c =
-    let words : List ℕ = c .before .before .before .args .words .now in
-    let i = c .before .before .loop .i in
-    omega (arith, sum-more i words, sum-most (i + 1) (c .before .before .before .args .count) words (omega arith))
+    let a = c .before .before .before .args in
+    let loop = c .before .before .loop in
+    let i = loop .i in
+    omega (arith, loop .inv .1, sum-more i (a .words .now), sum-most (i + 1) (a .count) (a .words .now) (omega arith), c .before .before .before .pre .1)
 
+-- src/rebuild.rt:471:9
 add-i : tie.Need-add-i Inv-loop μ-loop
 add-i c = omega arith
 
+-- src/rebuild.rt:469:5
 loop-less : tie.Need-loop-less Inv-loop μ-loop
 loop-less c = omega arith
 
+-- src/rebuild.rt:469:5
 loop-again : tie.Need-loop-again Inv-loop μ-loop
 loop-again c =
-    let l = c .before .before .loop in
-    (omega arith, omega (arith, l .inv .1, sum-more (l .i) (c .before .before .before .args .words .now)))
+    let a = c .before .before .before .args in
+    let loop = c .before .before .loop in
+    (omega arith, omega (arith, loop .inv .1, sum-more (loop .i) (a .words .now)))
 
+-- src/rebuild.rt:463:1
 returns : tie.Need-returns Inv-loop μ-loop
 returns c =
-    let l = c .before .loop in
-    let e : l .i ≡ c .before .before .args .count = omega arith in
-    l .inv .1 ∙ ap (λ (n : ℕ). sumOf n (c .before .before .args .words .now)) e
+    let a = c .before .before .args in
+    let e : c .before .loop .i ≡ a .count = omega arith in
+    c .before .loop .inv .1 ∙ ap (λ (n : ℕ). sumOf n (a .words .now)) e
 
 pub sum-of-spec : {M : Type 1} → statement M
 sum-of-spec =

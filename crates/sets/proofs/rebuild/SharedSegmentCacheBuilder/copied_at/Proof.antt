@@ -1,15 +1,16 @@
 -- `copied_at` meets its contract. Assumes nothing.
-use mathlib.Core.Path.{_≡_, refl, sym, ap, _∙_}
-use Prim.Native.Nat.{ℕ, _+_, _*_, _^_}
+use Rattle.sets.proofs.RebuildSteps.{copied-left, home-length}
+use mathlib.Core.Path.{_≡_, refl, sym, ap, ap₂, _∙_}
+use borrow.Author.Tests.{lt-ltb, le-ltb, le-leb, lt-leb, eq-eqb, ne-eqb, not-true, not-false}
+use Prim.Native.Nat.{ℕ, _+_, _-_, _*_, _/_, _%_, _^_, _≤_, _<_}
 use native.Mathlib.Omega.{arith}
 use lib.ListN.{length}
 use Rattle.records.specs.Area.{writeResult}
 use Rattle.records.specs.Record.{recordBytes}
 use Rattle.records.specs.declared.varint.WriteAnswer.{WriteAnswer}
 use Rattle.records.proofs.Parts.{size-is}
-use Rattle.sets.specs.Rebuild.{filledIn}
+use Rattle.sets.specs.Rebuild.{copiedLocation, filledIn}
 use Rattle.sets.proofs.Appends.{append-in, append-out, rest, rest-length, size-holds}
-use Rattle.sets.proofs.RebuildSteps.{copied-left}
 use borrow.Author.Needs.{needs}
 use Rattle.sets.proofs.rebuild.SharedSegmentCacheBuilder.copied_at.Statement.{statement}
 use Rattle.sets.proofs.rebuild.SharedSegmentCacheBuilder.copied_at.Tie as tie
@@ -20,83 +21,112 @@ use Rattle.sets.proofs.kept.KeptSegments.retained.Reads as retained-rea
 use Rattle.sets.proofs.rebuild.SharedSegmentCacheBuilder.copied_grown.Reads as copied-grown-reads
 use Rattle.sets.proofs.rebuild.SharedSegmentCacheBuilder.push_index.Reads as push-index-reads
 
+-- src/rebuild.rt:282:22
 add-filled : tie.Need-add-filled
 add-filled c = search needs
 
+-- src/rebuild.rt:285:37
 sub-append-record : tie.Need-sub-append-record
 sub-append-record c = search needs
 
+-- src/rebuild.rt:285:37
 part-append-record-start : tie.Need-part-append-record-start
 part-append-record-start c = search needs
 
+-- src/rebuild.rt:285:37
 part-append-record-end : tie.Need-part-append-record-end
 part-append-record-end c = search needs
 
+-- src/rebuild.rt:285:13
 append-record-requires : tie.Need-append-record-requires
 append-record-requires c κs = search needs
 
+-- src/rebuild.rt:286:34
 enum-known-written : tie.Need-enum-known-written
 enum-known-written c = search needs
 
+-- src/rebuild.rt:288:26
 enum-told : tie.Need-enum-told
 enum-told c = search needs
 
+-- src/rebuild.rt:287:13
 same-length : tie.Need-same-length
 same-length c = search needs
 
+-- src/rebuild.rt:287:13
 returns : tie.Need-returns
 returns c =
     let a = c .before .before .before .before .before .before .before .before .before .before .before .before .before .args in
-    let w = c .before .before .before .before .append-record in
+    let append-record = c .before .before .before .before .append-record in
     let bytes = recordBytes (a .self .config .expiry) (a .key .now) (a .value .now) (a .expires-at) in
-    let q = append-out bytes (rest (filledIn (a .self)) (a .arena .now)) (w .last .0) (c .enum-told .given .0 .0) (ap (λ (r : WriteAnswer). writeResult r (w .last .0)) (sym (c .enum-told .given .1)) ∙ w .ensures) in
-    let s = size-is (a .self .config .expiry) (a .key .now) (a .value .now) (a .expires-at) in
-    absurd (omega (arith, q .0, s, rest-length (filledIn (a .self)) (a .arena .now)))
+    let whole = rest (filledIn (a .self)) (a .arena .now) in
+    let q = append-out bytes whole (append-record .last .0) (c .enum-told .given .0 .0) (ap (λ (r : WriteAnswer). writeResult r (append-record .last .0)) (sym (c .enum-told .given .1)) ∙ append-record .ensures) in
+    absurd (omega (arith, q .0, rest-length (filledIn (a .self)) (a .arena .now), size-is (a .self .config .expiry) (a .key .now) (a .value .now) (a .expires-at), c .before .before .before .before .before .before .before .before .before .before .before .before .before .pre .0))
 
+-- src/rebuild.rt:293:24
 retained-requires : tie.Need-retained-requires
 retained-requires c κs = search needs
 
+-- src/rebuild.rt:293:24
 mul-location : tie.Need-mul-location
 mul-location c = search needs
 
+-- src/rebuild.rt:293:24
 add-location : tie.Need-add-location
 add-location c = search needs
 
+-- src/rebuild.rt:294:9
 push-index-requires : tie.Need-push-index-requires
 push-index-requires c κs = search needs
 
+-- src/rebuild.rt:296:22
 copied-grown-requires : tie.Need-copied-grown-requires
 copied-grown-requires c κs =
-    let pre = c .before .before .before .before .before .before .before .before .before .before .before .before .before .before .before .before .before .before .before .before .before .before .before .before .pre in
     let a = c .before .before .before .before .before .before .before .before .before .before .before .before .before .before .before .before .before .before .before .before .before .before .before .before .args in
-    let w = c .before .before .before .before .before .before .before .before .before .before .before .before .before .before .before .append-record in
-    let bytes = recordBytes (a .self .config .expiry) (a .key .now) (a .value .now) (a .expires-at) in
+    let append-record = c .before .before .before .before .before .before .before .before .before .before .before .before .before .before .before .append-record in
     let written = c .before .before .before .before .before .before .before .before .before .before .before .written in
-    let q = append-in bytes (rest (filledIn (a .self)) (a .arena .now)) (w .last .0) (written .given .0 .0) (ap (λ (r : WriteAnswer). writeResult r (w .last .0)) (sym (written .given .1)) ∙ w .ensures) in
-    let s = size-is (a .self .config .expiry) (a .key .now) (a .value .now) (a .expires-at) in
-    let h = size-holds (a .self .config .expiry) (length (a .key .now)) (length (a .value .now)) in
-    (pre .4, omega (arith, pre .0, pre .1, q .1, s), omega (arith, q .1, s, h), pre .5, pre .6, pre .7)
+    let bytes = recordBytes (a .self .config .expiry) (a .key .now) (a .value .now) (a .expires-at) in
+    let whole = rest (filledIn (a .self)) (a .arena .now) in
+    let q = append-in bytes whole (append-record .last .0) (written .given .0 .0) (ap (λ (r : WriteAnswer). writeResult r (append-record .last .0)) (sym (written .given .1)) ∙ append-record .ensures) in
+    let long = size-is (a .self .config .expiry) (a .key .now) (a .value .now) (a .expires-at) in
+    let held = rest-length (filledIn (a .self)) (a .arena .now) in
+    let holds = size-holds (a .self .config .expiry) (length (a .key .now)) (length (a .value .now)) in
+    let pre = c .before .before .before .before .before .before .before .before .before .before .before .before .before .before .before .before .before .before .before .before .before .before .before .before .pre in
+    (pre .4, omega (arith, pre .0, pre .1, q .1, long), omega (arith, q .1, long, holds), pre .5, pre .6, pre .7)
 
+-- src/rebuild.rt:268:5
 same-length-2 : tie.Need-same-length-2
 same-length-2 c = search needs
 
+-- src/rebuild.rt:268:5
 same-length-3 : tie.Need-same-length-3
 same-length-3 c = search needs
 
+-- src/rebuild.rt:268:5
 same-length-4 : tie.Need-same-length-4
-same-length-4 c = c .before .before .before .before .before .before .before .before .before .before .before .before .before .before .before .arena .given .1
+same-length-4 c =
+    let a = c .before .before .before .before .before .before .before .before .before .before .before .before .before .before .before .before .before .before .before .before .before .before .before .before .before .args in
+    let append-record = c .before .before .before .before .before .before .before .before .before .before .before .before .before .before .before .before .append-record in
+    let written = c .before .before .before .before .before .before .before .before .before .before .before .before .written in
+    let bytes = recordBytes (a .self .config .expiry) (a .key .now) (a .value .now) (a .expires-at) in
+    let whole = rest (filledIn (a .self)) (a .arena .now) in
+    let q = append-in bytes whole (append-record .last .0) (written .given .0 .0) (ap (λ (r : WriteAnswer). writeResult r (append-record .last .0)) (sym (written .given .1)) ∙ append-record .ensures) in
+    home-length bytes (a .arena .now) (append-record .last .0) (filledIn (a .self)) (omega (arith, c .before .before .before .before .before .before .before .before .before .before .before .before .before .before .before .before .before .before .before .before .before .before .before .before .before .pre .0, size-is (a .self .config .expiry) (a .key .now) (a .value .now) (a .expires-at))) (q .2)
 
+-- src/rebuild.rt:268:5
 returns-2 : tie.Need-returns-2
 returns-2 c =
     let a = c .before .before .before .before .before .before .before .before .before .before .before .before .before .before .before .before .before .before .before .before .before .before .before .before .before .args in
-    let w = c .before .before .before .before .before .before .before .before .before .before .before .before .before .before .before .before .append-record in
-    let bytes = recordBytes (a .self .config .expiry) (a .key .now) (a .value .now) (a .expires-at) in
+    let append-record = c .before .before .before .before .before .before .before .before .before .before .before .before .before .before .before .before .append-record in
     let written = c .before .before .before .before .before .before .before .before .before .before .before .before .written in
-    let q = append-in bytes (rest (filledIn (a .self)) (a .arena .now)) (w .last .0) (written .given .0 .0) (ap (λ (r : WriteAnswer). writeResult r (w .last .0)) (sym (written .given .1)) ∙ w .ensures) in
+    let counted = c .before .before .before .before .before .before .before .before .before .retained in
     let push-index = c .before .before .before .before .before .push-index in
-    let location = ap (λ (n : ℕ). n * 2 ^ 32 + a .self .«copied_bytes») (c .before .before .before .before .before .before .before .before .before .retained .ensures) in
-    copied-left (a .slot) (a .expires-at) (a .self) (a .hash) (a .key .now) (a .value .now) (a .index .now) (a .filter .now) (a .arena .now) (w .last .0) _ (c .copied-grown .result) _ _ _ (q .1) (q .2)
-    (c .copied-grown .ensures) location (push-index .ensures .0) (push-index .ensures .1)
+    let bytes = recordBytes (a .self .config .expiry) (a .key .now) (a .value .now) (a .expires-at) in
+    let whole = rest (filledIn (a .self)) (a .arena .now) in
+    let q = append-in bytes whole (append-record .last .0) (written .given .0 .0) (ap (λ (r : WriteAnswer). writeResult r (append-record .last .0)) (sym (written .given .1)) ∙ append-record .ensures) in
+    let placed : counted .result * 2 ^ 32 + a .self .«copied_bytes» ≡ copiedLocation (a .self) = omega (arith, counted .ensures) in
+    copied-left (a .slot) (a .expires-at) (a .self) (a .hash) (a .key .now) (a .value .now) (a .index .now) (a .filter .now) (a .arena .now) (append-record .last .0) _ (c .copied-grown .result) _ _ _ (q .1) (q .2)
+    (c .copied-grown .ensures) placed (push-index .ensures .0) (push-index .ensures .1)
 
 pub copied-at-spec : {M : Type 1} → statement M
 copied-at-spec =

@@ -57,8 +57,8 @@ returns-3 c =
     let counts-fit = c .before .before .before .before .before .before .before .counts-fit in
     let if1 = c .before .before .before .before .before .before .if1 in
     let if2 = c .before .before .before .before .if2 in
-    let retained = c .before .before .retained in
-    let n : 256 < retained (a .self .kept) + segmentFor (a .self .«copied_bytes») = omega (arith, c .if3 .taken, retained .ensures, c .before .segment-for .ensures) in
+    let counted = c .before .before .retained in
+    let n : 256 < retained (a .self .kept) + segmentFor (a .self .«copied_bytes») = omega (arith, c .if3 .taken, counted .ensures, c .before .segment-for .ensures) in
     rw (sym (counts-fit .ensures) ∙ not-false (counts-fit .result) (if1 .left), le-leb _ _ (if2 .left), lt-leb _ _ n)
 
 -- src/rebuild_questions.rt:76:13
@@ -77,10 +77,10 @@ returns-4 c =
     let counts-fit = c .before .before .before .before .before .before .before .before .before .counts-fit in
     let if1 = c .before .before .before .before .before .before .before .before .if1 in
     let if2 = c .before .before .before .before .before .before .if2 in
-    let retained = c .before .before .before .before .retained in
+    let counted = c .before .before .before .before .retained in
     let segment-for = c .before .before .before .segment-for in
     let if3 = c .before .before .if3 in
-    let n : retained (a .self .kept) + segmentFor (a .self .«copied_bytes») ≤ 256 = omega (arith, if3 .left, retained .ensures, segment-for .ensures) in
+    let n : retained (a .self .kept) + segmentFor (a .self .«copied_bytes») ≤ 256 = omega (arith, if3 .left, counted .ensures, segment-for .ensures) in
     rw (sym (counts-fit .ensures) ∙ not-false (counts-fit .result) (if1 .left), le-leb _ _ (if2 .left), le-leb _ _ n, sym (c .before .bytes-fit .ensures) ∙ not-true (c .before .bytes-fit .result) (c .if4 .taken))
 
 -- src/rebuild_questions.rt:79:13
@@ -99,12 +99,12 @@ returns-5 c =
     let counts-fit = c .before .before .before .before .before .before .before .before .before .before .before .counts-fit in
     let if1 = c .before .before .before .before .before .before .before .before .before .before .if1 in
     let if2 = c .before .before .before .before .before .before .before .before .if2 in
-    let retained = c .before .before .before .before .before .before .retained in
+    let counted = c .before .before .before .before .before .before .retained in
     let segment-for = c .before .before .before .before .before .segment-for in
     let if3 = c .before .before .before .before .if3 in
     let bytes-fit = c .before .before .before .bytes-fit in
     let if4 = c .before .before .if4 in
-    let n : retained (a .self .kept) + segmentFor (a .self .«copied_bytes») ≤ 256 = omega (arith, if3 .left, retained .ensures, segment-for .ensures) in
+    let n : retained (a .self .kept) + segmentFor (a .self .«copied_bytes») ≤ 256 = omega (arith, if3 .left, counted .ensures, segment-for .ensures) in
     rw (sym (counts-fit .ensures) ∙ not-false (counts-fit .result) (if1 .left), le-leb _ _ (if2 .left), le-leb _ _ n, sym (bytes-fit .ensures) ∙ not-false (bytes-fit .result) (if4 .left), sym (c .before .bytes-fit2 .ensures) ∙ not-true (c .before .bytes-fit2 .result) (c .if5 .taken))
 
 -- src/rebuild_questions.rt:82:9
@@ -123,13 +123,13 @@ returns-6 c =
     let counts-fit = c .before .before .before .before .before .before .before .before .before .before .before .before .counts-fit in
     let if1 = c .before .before .before .before .before .before .before .before .before .before .before .if1 in
     let if2 = c .before .before .before .before .before .before .before .before .before .if2 in
-    let retained = c .before .before .before .before .before .before .before .retained in
+    let counted = c .before .before .before .before .before .before .before .retained in
     let segment-for = c .before .before .before .before .before .before .segment-for in
     let if3 = c .before .before .before .before .before .if3 in
     let bytes-fit = c .before .before .before .before .bytes-fit in
     let if4 = c .before .before .before .if4 in
     let bytes-fit2 = c .before .before .bytes-fit2 in
-    let n : retained (a .self .kept) + segmentFor (a .self .«copied_bytes») ≤ 256 = omega (arith, if3 .left, retained .ensures, segment-for .ensures) in
+    let n : retained (a .self .kept) + segmentFor (a .self .«copied_bytes») ≤ 256 = omega (arith, if3 .left, counted .ensures, segment-for .ensures) in
     rw (sym (counts-fit .ensures) ∙ not-false (counts-fit .result) (if1 .left), le-leb _ _ (if2 .left), le-leb _ _ n, sym (bytes-fit .ensures) ∙ not-false (bytes-fit .result) (if4 .left), sym (bytes-fit2 .ensures) ∙ not-false (bytes-fit2 .result) (c .before .if5 .left)) (c .bytes-fit3 .ensures)
 
 pub fits-spec : {M : Type 1} → statement M

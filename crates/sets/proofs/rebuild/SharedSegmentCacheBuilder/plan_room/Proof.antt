@@ -72,10 +72,10 @@ returns-3 c =
     let a = c .before .before .before .before .before .before .before .before .before .before .before .args in
     let record-fits = c .before .before .before .before .before .before .before .record-fits in
     let if1 = c .before .before .before .before .before .before .if1 in
-    let retained = c .before .before .before .before .retained in
+    let counted = c .before .before .before .before .retained in
     let if2 = c .before .before .before .if2 in
     let find-empty-build-slot = c .before .before .find-empty-build-slot in
-    let n : retained (a .self .kept) < 256 = omega (arith, if2 .left, retained .ensures) in
+    let n : retained (a .self .kept) < 256 = omega (arith, if2 .left, counted .ensures) in
     rw (room (filledIn (a .self)) (copiedSize (a .self) (a .key-bytes) (a .value-bytes)) (a .arena-len) (c .before .before .before .before .before .before .before .before .before .before .before .pre) ∙ sym (record-fits .ensures) ∙ not-false (record-fits .result) (if1 .left), lt-ltb _ _ n, sym (find-empty-build-slot .ensures) ∙ c .enum-told .given .1)
 
 -- src
@@ -85,10 +85,10 @@ returns-4 c =
     let a = c .before .before .before .before .before .before .before .before .before .before .before .args in
     let record-fits = c .before .before .before .before .before .before .before .record-fits in
     let if1 = c .before .before .before .before .before .before .if1 in
-    let retained = c .before .before .before .before .retained in
+    let counted = c .before .before .before .before .retained in
     let if2 = c .before .before .before .if2 in
     let find-empty-build-slot = c .before .before .find-empty-build-slot in
-    let n : retained (a .self .kept) < 256 = omega (arith, if2 .left, retained .ensures) in
+    let n : retained (a .self .kept) < 256 = omega (arith, if2 .left, counted .ensures) in
     rw (room (filledIn (a .self)) (copiedSize (a .self) (a .key-bytes) (a .value-bytes)) (a .arena-len) (c .before .before .before .before .before .before .before .before .before .before .before .pre) ∙ sym (record-fits .ensures) ∙ not-false (record-fits .result) (if1 .left), lt-ltb _ _ n, sym (find-empty-build-slot .ensures) ∙ c .enum-told2 .given .1)
 
 -- src
@@ -98,10 +98,10 @@ returns-5 c =
     let a = c .before .before .before .before .before .before .before .before .before .before .before .before .args in
     let record-fits = c .before .before .before .before .before .before .before .before .record-fits in
     let if1 = c .before .before .before .before .before .before .before .if1 in
-    let retained = c .before .before .before .before .before .retained in
+    let counted = c .before .before .before .before .before .retained in
     let if2 = c .before .before .before .before .if2 in
     let find-empty-build-slot = c .before .before .before .find-empty-build-slot in
-    let n : retained (a .self .kept) < 256 = omega (arith, if2 .left, retained .ensures) in
+    let n : retained (a .self .kept) < 256 = omega (arith, if2 .left, counted .ensures) in
     rw (room (filledIn (a .self)) (copiedSize (a .self) (a .key-bytes) (a .value-bytes)) (a .arena-len) (c .before .before .before .before .before .before .before .before .before .before .before .before .pre) ∙ sym (record-fits .ensures) ∙ not-false (record-fits .result) (if1 .left), lt-ltb _ _ n, sym (find-empty-build-slot .ensures) ∙ c .before .slot .given .1)
 
 pub plan-room-spec : {M : Type 1} → statement M
