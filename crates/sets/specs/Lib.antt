@@ -1,4 +1,5 @@
 pub mod Answers
+pub mod Areas
 pub mod Build
 pub mod Kept
 pub mod Lookup

@@ -1,5 +1,6 @@
 // Sets of records: a builder that is opened, filled and finished, and the finished set that answers.
 // The fourth of four crates.
+pub mod areas;
 pub mod builder;
 pub mod cache;
 pub mod kept;
