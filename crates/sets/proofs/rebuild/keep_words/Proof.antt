@@ -1,35 +1,26 @@
 -- `keep_words` meets its contract. Assumes nothing.
-use mathlib.Core.Path.{_≡_, refl, sym, ap, ap₂, _∙_}
-use borrow.Author.Tests.{lt-ltb, le-ltb, le-leb, lt-leb, eq-eqb, ne-eqb, not-true, not-false}
-use Prim.Native.Nat.{ℕ, _+_, _-_, _*_, _/_, _%_, _^_, _≤_, _<_}
+use mathlib.Core.Path.{_∙_}
+use Prim.Native.Nat.{_≤_}
 use native.Mathlib.Omega.{arith}
-use lib.ListN.{length, set, getD}
+use lib.ListN.{length}
 use Rattle.sets.specs.Kept.{chosen}
 use Rattle.sets.proofs.KeptBits.{chosen-length}
 use Rattle.sets.proofs.RebuildSteps.{kept-most, over-cleared}
 use borrow.Author.Needs.{needs}
 use Rattle.sets.proofs.rebuild.keep_words.Statement.{statement}
 use Rattle.sets.proofs.rebuild.keep_words.Tie as tie
-use Rattle.sets.proofs.rebuild.keep_words.Reads as reads
-use Rattle.sets.proofs.rebuild.keep_words.Lts as lts
-use Rattle.index.proofs.build.clear_words.Reads as clear-words-reads
-use Rattle.sets.proofs.kept.copy_kept.Reads as copy-kept-reads
 
--- src/rebuild.rt:458:5
 clear-words-requires : tie.Need-clear-words-requires
 clear-words-requires c κs = search needs
 
--- src/rebuild.rt:459:5
 copy-kept-requires : tie.Need-copy-kept-requires
 copy-kept-requires c κs =
     let a = c .before .before .before .before .before .before .before .before .args in
     (omega arith, omega (arith, kept-most (a .flags .now)))
 
--- src/rebuild.rt:454:1
 same-length : tie.Need-same-length
 same-length c = search needs
 
--- src/rebuild.rt:454:1
 returns : tie.Need-returns
 returns c =
     let a = c .before .before .before .before .before .before .before .before .before .before .before .args in

@@ -1,15 +1,11 @@
 -- `sum_of` meets its contract. Assumes nothing.
-use mathlib.Core.Path.{_≡_, refl, sym, ap, ap₂, _∙_}
-use borrow.Author.Tests.{lt-ltb, le-ltb, le-leb, lt-leb, eq-eqb, ne-eqb, not-true, not-false}
-use Prim.Native.Nat.{ℕ, _+_, _-_, _*_, _/_, _%_, _^_, _≤_, _<_}
+use mathlib.Core.Path.{_≡_, refl, ap, _∙_}
+use Prim.Native.Nat.{ℕ, _+_, _-_, _≤_}
 use native.Mathlib.Omega.{arith}
-use lib.ListN.{length, set, getD}
 use Rattle.sets.specs.Rebuild.{sumOf}
 use Rattle.sets.proofs.RebuildSteps.{sum-more, sum-most}
 use Rattle.sets.proofs.rebuild_finish.sum_of.Statement.{statement}
 use Rattle.sets.proofs.rebuild_finish.sum_of.Tie as tie
-use Rattle.sets.proofs.rebuild_finish.sum_of.Reads as reads
-use Rattle.sets.proofs.rebuild_finish.sum_of.Lts as lts
 
 abbrev Inv-loop : tie.InvT-loop
 Inv-loop words count sum₀ i₀ sum i = (i ≤ count) × (sum ≡ sumOf i words)
@@ -17,20 +13,16 @@ Inv-loop words count sum₀ i₀ sum i = (i ≤ count) × (sum ≡ sumOf i words
 abbrev μ-loop : tie.MeasureT-loop
 μ-loop words count sum₀ i₀ sum i = count - i
 
--- src/rebuild.rt:469:5
 loop-holds : tie.Need-loop-holds Inv-loop μ-loop
 unfolding sumOf
 loop-holds c = (omega arith, refl)
 
--- src/rebuild.rt:470:16
 mul-sum : tie.Need-mul-sum Inv-loop μ-loop
 mul-sum c = omega arith
 
--- src/rebuild.rt:470:16
 shared-slice-read-sum : tie.Need-shared-slice-read-sum Inv-loop μ-loop
 shared-slice-read-sum c = omega arith
 
--- src/rebuild.rt:470:9
 add-sum : tie.Need-add-sum Inv-loop μ-loop
 add-sum c =
     let a = c .before .before .before .args in
@@ -38,22 +30,18 @@ add-sum c =
     let i = loop .i in
     omega (arith, loop .inv .1, sum-more i (a .words .now), sum-most (i + 1) (a .count) (a .words .now) (omega arith), c .before .before .before .pre .1)
 
--- src/rebuild.rt:471:9
 add-i : tie.Need-add-i Inv-loop μ-loop
 add-i c = omega arith
 
--- src/rebuild.rt:469:5
 loop-less : tie.Need-loop-less Inv-loop μ-loop
 loop-less c = omega arith
 
--- src/rebuild.rt:469:5
 loop-again : tie.Need-loop-again Inv-loop μ-loop
 loop-again c =
     let a = c .before .before .before .args in
     let loop = c .before .before .loop in
     (omega arith, omega (arith, loop .inv .1, sum-more (loop .i) (a .words .now)))
 
--- src/rebuild.rt:463:1
 returns : tie.Need-returns Inv-loop μ-loop
 returns c =
     let a = c .before .before .args in

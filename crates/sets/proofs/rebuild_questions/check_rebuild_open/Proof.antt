@@ -1,9 +1,8 @@
 -- `check_rebuild_open` meets its contract. Assumes nothing.
-use mathlib.Core.Path.{_≡_, refl, sym, ap, ap₂, _∙_}
-use borrow.Author.Tests.{lt-ltb, le-ltb, le-leb, lt-leb, eq-eqb, ne-eqb, not-true, not-false}
-use Prim.Native.Nat.{ℕ, _+_, _-_, _*_, _/_, _%_, _^_, _≤_, _<_}
+use mathlib.Core.Path.{sym, _∙_}
+use borrow.Author.Tests.{le-leb, lt-leb, eq-eqb, ne-eqb, not-true, not-false}
+use Prim.Native.Nat.{_+_, _≤_, _<_}
 use native.Mathlib.Omega.{arith}
-use lib.ListN.{length, set, getD}
 use Rattle.sets.specs.Kept.{keptCount}
 use Rattle.sets.specs.Rebuild.{askRebuildOpen, segmentFor}
 use Rattle.sets.proofs.RebuildAsked.{source-areas-asked}
@@ -11,24 +10,14 @@ use Rattle.sets.proofs.RebuildSteps.{kept-most, segment-most}
 use borrow.Author.Needs.{needs}
 use Rattle.sets.proofs.rebuild_questions.check_rebuild_open.Statement.{statement}
 use Rattle.sets.proofs.rebuild_questions.check_rebuild_open.Tie as tie
-use Rattle.sets.proofs.rebuild_questions.check_rebuild_open.Reads as reads
-use Rattle.sets.proofs.rebuild_questions.check_rebuild_open.Lts as lts
-use Rattle.sets.proofs.kept.kept_count.Reads as kept-count-reads
-use Rattle.sets.proofs.questions.open_areas_hold.Reads as open-areas-hold-reads
-use Rattle.sets.proofs.questions.segment_areas_hold.Reads as segment-areas-hold-reads
-use Rattle.sets.proofs.rebuild_questions.segment_for.Reads as segment-for-reads
-use Rattle.sets.proofs.rebuild_questions.source_holds.Reads as source-holds-reads
 
--- src/rebuild_questions.rt:361:9
 source-holds-requires : tie.Need-source-holds-requires
 source-holds-requires c κs = search needs
 
--- src/rebuild_questions.rt:362:9
 returns : tie.Need-returns
 unfolding askRebuildOpen
 returns c = rw (sym (c .before .source-holds .ensures) ∙ not-true (c .before .source-holds .result) (c .if1 .taken))
 
--- src/rebuild_questions.rt:365:9
 returns-2 : tie.Need-returns-2
 unfolding askRebuildOpen
 returns-2 c =
@@ -36,7 +25,6 @@ returns-2 c =
     let if1 = c .before .before .if1 in
     rw (sym (source-holds .ensures) ∙ not-false (source-holds .result) (if1 .left), ne-eqb _ _ (c .if2 .taken))
 
--- src/rebuild_questions.rt:368:9
 returns-3 : tie.Need-returns-3
 unfolding askRebuildOpen
 returns-3 c =
@@ -44,15 +32,12 @@ returns-3 c =
     let if1 = c .before .before .before .if1 in
     rw (sym (source-holds .ensures) ∙ not-false (source-holds .result) (if1 .left), eq-eqb _ _ (c .before .if2 .left), lt-leb _ _ (c .if3 .taken))
 
--- src/rebuild_questions.rt:370:9
 kept-count-requires : tie.Need-kept-count-requires
 kept-count-requires c κs = search needs
 
--- src/rebuild_questions.rt:371:19
 segment-for-requires : tie.Need-segment-for-requires
 segment-for-requires c κs = search needs
 
--- src/rebuild_questions.rt:371:8
 add-if4 : tie.Need-add-if4
 add-if4 c =
     let a = c .before .before .before .before .before .before .before .before .before .before .args in
@@ -62,7 +47,6 @@ add-if4 c =
     let few = source-areas-asked (a .source) (a .source-starts .now) (a .source-lengths .now) (a .arena-len) (sym (source-holds .ensures) ∙ not-false (source-holds .result) (if1 .left)) .few in
     omega (arith, few, if2 .left, c .before .kept-count .ensures, c .segment-for .ensures, kept-most (a .used-source-segments .now), segment-most (a .copied-record-capacity))
 
--- src/rebuild_questions.rt:372:9
 returns-4 : tie.Need-returns-4
 unfolding askRebuildOpen
 returns-4 c =
@@ -75,11 +59,9 @@ returns-4 c =
     let n : 256 < keptCount (a .used-source-segments .now) + segmentFor (a .copied-record-capacity) = omega (arith, c .if4 .taken, kept-count .ensures, c .before .segment-for .ensures) in
     rw (sym (source-holds .ensures) ∙ not-false (source-holds .result) (if1 .left), eq-eqb _ _ (if2 .left), le-leb _ _ (if3 .left), lt-leb _ _ n)
 
--- src/rebuild_questions.rt:374:9
 open-areas-hold-requires : tie.Need-open-areas-hold-requires
 open-areas-hold-requires c κs = search needs
 
--- src/rebuild_questions.rt:375:9
 returns-5 : tie.Need-returns-5
 unfolding askRebuildOpen
 returns-5 c =
@@ -94,11 +76,9 @@ returns-5 c =
     let n : keptCount (a .used-source-segments .now) + segmentFor (a .copied-record-capacity) ≤ 256 = omega (arith, if4 .left, kept-count .ensures, segment-for .ensures) in
     rw (sym (source-holds .ensures) ∙ not-false (source-holds .result) (if1 .left), eq-eqb _ _ (if2 .left), le-leb _ _ (if3 .left), le-leb _ _ n, sym (c .before .open-areas-hold .ensures) ∙ not-true (c .before .open-areas-hold .result) (c .if5 .taken))
 
--- src/rebuild_questions.rt:377:9
 segment-areas-hold-requires : tie.Need-segment-areas-hold-requires
 segment-areas-hold-requires c κs = search needs
 
--- src/rebuild_questions.rt:378:9
 returns-6 : tie.Need-returns-6
 unfolding askRebuildOpen
 returns-6 c =
@@ -115,7 +95,6 @@ returns-6 c =
     let n : keptCount (a .used-source-segments .now) + segmentFor (a .copied-record-capacity) ≤ 256 = omega (arith, if4 .left, kept-count .ensures, segment-for .ensures) in
     rw (sym (source-holds .ensures) ∙ not-false (source-holds .result) (if1 .left), eq-eqb _ _ (if2 .left), le-leb _ _ (if3 .left), le-leb _ _ n, sym (open-areas-hold .ensures) ∙ not-false (open-areas-hold .result) (if5 .left), sym (c .before .segment-areas-hold .ensures) ∙ not-true (c .before .segment-areas-hold .result) (c .if6 .taken))
 
--- src/rebuild_questions.rt:346:1
 returns-7 : tie.Need-returns-7
 unfolding askRebuildOpen
 returns-7 c =

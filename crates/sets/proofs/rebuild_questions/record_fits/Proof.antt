@@ -1,7 +1,7 @@
 -- `record_fits` meets its contract. Assumes nothing.
-use mathlib.Core.Path.{_≡_, refl, sym, ap, ap₂, _∙_}
-use borrow.Author.Tests.{lt-ltb, le-ltb, le-leb, lt-leb, eq-eqb, ne-eqb, not-true, not-false}
-use Prim.Native.Nat.{ℕ, _+_, _-_, _*_, _/_, _%_, _^_, _≤_, _<_}
+use mathlib.Core.Path.{sym, ap, _∙_}
+use borrow.Author.Tests.{lt-leb}
+use Prim.Native.Nat.{ℕ, _<_}
 use native.Mathlib.Omega.{arith}
 use lib.Dec.{leb}
 use Rattle.records.specs.Record.{recordSize, sizeOutcome}
@@ -9,23 +9,16 @@ use Rattle.sets.proofs.RebuildSteps.{size-large, size-told}
 use borrow.Author.Needs.{needs}
 use Rattle.sets.proofs.rebuild_questions.record_fits.Statement.{statement}
 use Rattle.sets.proofs.rebuild_questions.record_fits.Tie as tie
-use Rattle.sets.proofs.rebuild_questions.record_fits.Reads as reads
-use Rattle.sets.proofs.rebuild_questions.record_fits.Lts as lts
-use Rattle.records.proofs.record.encoded_record_bytes.Reads as encoded-record-bytes-reads
 
--- src/rebuild_questions.rt:408:35
 encoded-record-bytes-requires : tie.Need-encoded-record-bytes-requires
 encoded-record-bytes-requires c κs = search needs
 
--- src/rebuild_questions.rt:408:27
 enum-known-size : tie.Need-enum-known-size
 enum-known-size c = search needs
 
--- src/rebuild_questions.rt:409:9
 enum-told : tie.Need-enum-told
 enum-told c = search needs
 
--- src/rebuild_questions.rt:409:9
 returns : tie.Need-returns
 returns c =
     let a = c .before .before .before .args in
@@ -34,7 +27,6 @@ returns c =
     let n : a .rest < recordSize (a .expiry) (a .key-bytes) (a .value-bytes) = omega (arith, q, c .before .before .before .fits .rest .fits) in
     sym (lt-leb _ _ n)
 
--- src/rebuild_questions.rt:405:1
 returns-2 : tie.Need-returns-2
 returns-2 c =
     let a = c .before .before .before .before .args in

@@ -1,33 +1,24 @@
 -- `same_record` meets its contract. Assumes nothing.
-use mathlib.Core.Path.{_≡_, refl, sym, ap, ap₂, _∙_}
-use borrow.Author.Tests.{lt-ltb, le-ltb, le-leb, lt-leb, eq-eqb, ne-eqb, not-true, not-false}
-use Prim.Native.Nat.{ℕ, _+_, _-_, _*_, _/_, _%_, _^_, _≤_, _<_}
-use native.Mathlib.Omega.{arith}
+use mathlib.Core.Path.{sym, ap, _∙_}
+use borrow.Author.Tests.{eq-eqb, ne-eqb, not-true, not-false}
+use Prim.Native.Nat.{ℕ}
 use mathlib.Core.List.{List}
 use Rattle.records.specs.Area.{sameBytes}
 use Rattle.sets.specs.Rebuild.{holdsRecord}
 use borrow.Author.Needs.{needs}
 use Rattle.sets.proofs.rebuild_questions.same_record.Statement.{statement}
 use Rattle.sets.proofs.rebuild_questions.same_record.Tie as tie
-use Rattle.sets.proofs.rebuild_questions.same_record.Reads as reads
-use Rattle.sets.proofs.rebuild_questions.same_record.Lts as lts
-use Rattle.records.proofs.record.same_bytes.Reads as same-bytes-reads
-use Rattle.records.proofs.record.value_slice.Reads as value-slice-reads
 
--- src/rebuild_questions.rt:394:9
 returns : tie.Need-returns
 unfolding holdsRecord
 returns c = rw (ne-eqb _ _ (c .if1 .taken))
 
--- src/rebuild_questions.rt:397:20
 value-slice-requires : tie.Need-value-slice-requires
 value-slice-requires c κs = search needs
 
--- src/rebuild_questions.rt:397:9
 same-bytes-requires : tie.Need-same-bytes-requires
 same-bytes-requires c κs = search needs
 
--- src/rebuild_questions.rt:398:9
 returns-2 : tie.Need-returns-2
 unfolding holdsRecord
 returns-2 c =
@@ -36,15 +27,12 @@ returns-2 c =
     let value-slice = c .before .before .value-slice in
     rw (eq-eqb _ _ (if1 .left), ap (λ (l : List ℕ). sameBytes l (a .key .now)) (sym (value-slice .ensures)) ∙ sym (c .before .same-bytes .ensures) ∙ not-true (c .before .same-bytes .result) (c .if2 .taken))
 
--- src/rebuild_questions.rt:401:16
 value-slice-requires-2 : tie.Need-value-slice-requires-2
 value-slice-requires-2 c κs = search needs
 
--- src/rebuild_questions.rt:401:5
 same-bytes-requires-2 : tie.Need-same-bytes-requires-2
 same-bytes-requires-2 c κs = search needs
 
--- src/rebuild_questions.rt:384:1
 returns-3 : tie.Need-returns-3
 unfolding holdsRecord
 returns-3 c =

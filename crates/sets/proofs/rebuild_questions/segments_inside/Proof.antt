@@ -1,16 +1,12 @@
 -- `segments_inside` meets its contract. Assumes nothing.
-use mathlib.Core.Path.{_≡_, refl, sym, ap, ap₂, _∙_}
-use borrow.Author.Tests.{lt-ltb, le-ltb, le-leb, lt-leb, eq-eqb, ne-eqb, not-true, not-false}
-use Prim.Native.Nat.{ℕ, _+_, _-_, _*_, _/_, _%_, _^_, _≤_, _<_}
+use mathlib.Core.Path.{_≡_, refl, sym, ap, _∙_}
+use Prim.Native.Nat.{ℕ, _-_, _≤_}
 use native.Mathlib.Omega.{arith}
-use lib.ListN.{length, set, getD}
 use mathlib.Core.Bool.{true}
 use Rattle.sets.specs.Rebuild.{segmentsInside}
 use Rattle.sets.proofs.RebuildSteps.{segments-more, segments-not}
 use Rattle.sets.proofs.rebuild_questions.segments_inside.Statement.{statement}
 use Rattle.sets.proofs.rebuild_questions.segments_inside.Tie as tie
-use Rattle.sets.proofs.rebuild_questions.segments_inside.Reads as reads
-use Rattle.sets.proofs.rebuild_questions.segments_inside.Lts as lts
 
 abbrev Inv-loop : tie.InvT-loop
 Inv-loop count filled starts lengths end i₀ i = (i ≤ count) × (segmentsInside i filled starts lengths ≡ true)
@@ -18,47 +14,37 @@ Inv-loop count filled starts lengths end i₀ i = (i ≤ count) × (segmentsInsi
 abbrev μ-loop : tie.MeasureT-loop
 μ-loop count filled starts lengths end i₀ i = count - i
 
--- src/rebuild_questions.rt:299:5
 loop-holds : tie.Need-loop-holds Inv-loop μ-loop
 unfolding segmentsInside
 loop-holds c = (omega arith, refl)
 
--- src/rebuild_questions.rt:300:12
 mul-if1 : tie.Need-mul-if1 Inv-loop μ-loop
 mul-if1 c = omega arith
 
--- src/rebuild_questions.rt:300:12
 shared-slice-read-if1 : tie.Need-shared-slice-read-if1 Inv-loop μ-loop
 shared-slice-read-if1 c = omega arith
 
--- src/rebuild_questions.rt:301:13
 returns : tie.Need-returns Inv-loop μ-loop
 returns c =
     let a = c .before .before .before .before .args in
     let loop = c .before .before .before .loop in
     sym (segments-not (a .filled) (a .starts .now) (a .lengths .now) (a .count) (loop .i) (omega arith) (omega (arith, c .if1 .taken)))
 
--- src/rebuild_questions.rt:303:12
 mul-if2 : tie.Need-mul-if2 Inv-loop μ-loop
 mul-if2 c = omega arith
 
--- src/rebuild_questions.rt:303:12
 shared-slice-read-if2 : tie.Need-shared-slice-read-if2 Inv-loop μ-loop
 shared-slice-read-if2 c = omega arith
 
--- src/rebuild_questions.rt:303:30
 mul-if2-2 : tie.Need-mul-if2-2 Inv-loop μ-loop
 mul-if2-2 c = omega arith
 
--- src/rebuild_questions.rt:303:30
 shared-slice-read-if2-2 : tie.Need-shared-slice-read-if2-2 Inv-loop μ-loop
 shared-slice-read-if2-2 c = omega arith
 
--- src/rebuild_questions.rt:303:24
 sub-if2 : tie.Need-sub-if2 Inv-loop μ-loop
 sub-if2 c = omega arith
 
--- src/rebuild_questions.rt:304:13
 returns-2 : tie.Need-returns-2 Inv-loop μ-loop
 returns-2 c =
     let a = c .before .before .before .before .before .before .before .args in
@@ -66,15 +52,12 @@ returns-2 c =
     let if1 = c .before .before .before .if1 in
     sym (segments-not (a .filled) (a .starts .now) (a .lengths .now) (a .count) (loop .i) (omega arith) (omega (arith, if1 .left, c .if2 .taken)))
 
--- src/rebuild_questions.rt:306:9
 add-i : tie.Need-add-i Inv-loop μ-loop
 add-i c = omega arith
 
--- src/rebuild_questions.rt:299:5
 loop-less : tie.Need-loop-less Inv-loop μ-loop
 loop-less c = omega arith
 
--- src/rebuild_questions.rt:299:5
 loop-again : tie.Need-loop-again Inv-loop μ-loop
 loop-again c =
     let a = c .before .before .before .before .before .before .before .args in
@@ -82,7 +65,6 @@ loop-again c =
     let if1 = c .before .before .before .if1 in
     (omega arith, segments-more (a .filled) (a .starts .now) (a .lengths .now) (loop .i) (loop .inv .1) (omega (arith, if1 .left, c .if2 .left)))
 
--- src/rebuild_questions.rt:293:1
 returns-3 : tie.Need-returns-3 Inv-loop μ-loop
 returns-3 c =
     let a = c .before .before .args in

@@ -1,35 +1,24 @@
 -- `source_holds` meets its contract. Assumes nothing.
-use mathlib.Core.Path.{_≡_, refl, sym, ap, ap₂, _∙_}
-use borrow.Author.Tests.{lt-ltb, le-ltb, le-leb, lt-leb, eq-eqb, ne-eqb, not-true, not-false}
-use Prim.Native.Nat.{ℕ, _+_, _-_, _*_, _/_, _%_, _^_, _≤_, _<_}
+use mathlib.Core.Path.{sym, _∙_}
+use borrow.Author.Tests.{not-true, not-false}
 use native.Mathlib.Omega.{arith}
-use lib.ListN.{length, set, getD}
+use lib.ListN.{length}
 use Rattle.sets.specs.Rebuild.{areasHoldSource}
 use Rattle.sets.proofs.RebuildSteps.{areas-256, set-few}
 use borrow.Author.Needs.{needs}
 use Rattle.sets.proofs.rebuild_questions.source_holds.Statement.{statement}
 use Rattle.sets.proofs.rebuild_questions.source_holds.Tie as tie
-use Rattle.sets.proofs.rebuild_questions.source_holds.Reads as reads
-use Rattle.sets.proofs.rebuild_questions.source_holds.Lts as lts
-use Rattle.sets.proofs.cache.FrozenSegmentCache.fits.Reads as fits-reads
-use Rattle.sets.proofs.questions.arena_holds.Reads as arena-holds-reads
-use Rattle.sets.proofs.questions.segment_areas_hold.Reads as segment-areas-hold-reads
-use Rattle.sets.proofs.rebuild_questions.segments_inside.Reads as segments-inside-reads
 
--- src/rebuild_questions.rt:333:9
 fits-requires : tie.Need-fits-requires
 fits-requires c κs = search needs
 
--- src/rebuild_questions.rt:334:9
 returns : tie.Need-returns
 unfolding areasHoldSource
 returns c = rw (sym (c .before .fits2 .ensures) ∙ not-true (c .before .fits2 .result) (c .if1 .taken))
 
--- src/rebuild_questions.rt:336:9
 segment-areas-hold-requires : tie.Need-segment-areas-hold-requires
 segment-areas-hold-requires c κs = search needs
 
--- src/rebuild_questions.rt:337:9
 returns-2 : tie.Need-returns-2
 unfolding areasHoldSource
 returns-2 c =
@@ -37,11 +26,9 @@ returns-2 c =
     let if1 = c .before .before .if1 in
     rw (sym (fits2 .ensures) ∙ not-false (fits2 .result) (if1 .left), sym (c .before .segment-areas-hold .ensures) ∙ not-true (c .before .segment-areas-hold .result) (c .if2 .taken))
 
--- src/rebuild_questions.rt:339:9
 arena-holds-requires : tie.Need-arena-holds-requires
 arena-holds-requires c κs = search needs
 
--- src/rebuild_questions.rt:340:9
 returns-3 : tie.Need-returns-3
 unfolding areasHoldSource
 returns-3 c =
@@ -51,7 +38,6 @@ returns-3 c =
     let if2 = c .before .before .if2 in
     rw (sym (fits2 .ensures) ∙ not-false (fits2 .result) (if1 .left), sym (segment-areas-hold .ensures) ∙ not-false (segment-areas-hold .result) (if2 .left), sym (c .before .arena-holds .ensures) ∙ not-true (c .before .arena-holds .result) (c .if3 .taken))
 
--- src/rebuild_questions.rt:342:5
 segments-inside-requires : tie.Need-segments-inside-requires
 segments-inside-requires c κs =
     let a = c .before .before .before .before .before .before .before .before .args in
@@ -63,7 +49,6 @@ segments-inside-requires c κs =
     let few = set-few (a .source) (sym (fits2 .ensures) ∙ not-false (fits2 .result) (if1 .left)) in
     (omega (arith, held .0, few), omega (arith, held .1, few))
 
--- src/rebuild_questions.rt:325:1
 returns-4 : tie.Need-returns-4
 unfolding areasHoldSource
 returns-4 c =

@@ -1,30 +1,20 @@
 -- `add_segment` meets its contract. Assumes nothing.
-use mathlib.Core.Path.{_≡_, refl, sym, ap, ap₂, _∙_}
-use borrow.Author.Tests.{lt-ltb, le-ltb, le-leb, lt-leb, eq-eqb, ne-eqb, not-true, not-false}
-use Prim.Native.Nat.{ℕ, _+_, _-_, _*_, _/_, _%_, _^_, _≤_, _<_}
+use mathlib.Core.Path.{refl, sym, _∙_}
 use native.Mathlib.Omega.{arith}
 use Rattle.sets.proofs.RebuildSteps.{adds-below}
 use borrow.Author.Needs.{needs}
 use Rattle.sets.proofs.rebuild.SharedSegmentCacheBuilder.add_segment.Statement.{statement}
 use Rattle.sets.proofs.rebuild.SharedSegmentCacheBuilder.add_segment.Tie as tie
-use Rattle.sets.proofs.rebuild.SharedSegmentCacheBuilder.add_segment.Reads as reads
-use Rattle.sets.proofs.rebuild.SharedSegmentCacheBuilder.add_segment.Lts as lts
-use Rattle.sets.proofs.kept.KeptSegments.retained.Reads as retained-reads
-use Rattle.sets.proofs.rebuild.SharedSegmentCacheBuilder.adds_segment.Reads as adds-segment-reads
 
--- src/rebuild.rt:368:12
 adds-segment-requires : tie.Need-adds-segment-requires
 adds-segment-requires c κs = search needs
 
--- src/rebuild.rt:370:17
 retained-requires : tie.Need-retained-requires
 retained-requires c κs = search needs
 
--- src/rebuild.rt:371:13
 mul-starts : tie.Need-mul-starts
 mul-starts c = search needs
 
--- src/rebuild.rt:371:13
 slice-write-starts : tie.Need-slice-write-starts
 slice-write-starts c =
     let a = c .before .before .before .before .before .before .args in
@@ -33,11 +23,9 @@ slice-write-starts c =
     let few = adds-below (a .self) (sym (adds-segment .ensures) ∙ if1 .taken) (c .before .before .before .before .before .before .pre .2) in
     omega (arith, few, c .retained .ensures)
 
--- src/rebuild.rt:372:13
 mul-lengths : tie.Need-mul-lengths
 mul-lengths c = search needs
 
--- src/rebuild.rt:372:13
 slice-write-lengths : tie.Need-slice-write-lengths
 slice-write-lengths c =
     let a = c .before .before .before .before .before .before .args in
@@ -46,22 +34,18 @@ slice-write-lengths c =
     let few = adds-below (a .self) (sym (adds-segment .ensures) ∙ if1 .taken) (c .before .before .before .before .before .before .pre .2) in
     omega (arith, few, c .retained .ensures)
 
--- src/rebuild.rt:364:5
 same-length : tie.Need-same-length
 same-length c = search needs
 
--- src/rebuild.rt:364:5
 same-length-2 : tie.Need-same-length-2
 same-length-2 c = search needs
 
--- src/rebuild.rt:364:5
 returns : tie.Need-returns
 returns c =
     let adds-segment = c .before .before .before .adds-segment in
     let if1 = c .before .before .if1 in
     rw (sym (adds-segment .ensures) ∙ if1 .taken, c .retained .ensures) (refl, refl)
 
--- src/rebuild.rt:364:5
 returns-2 : tie.Need-returns-2
 returns-2 c = rw (sym (c .before .adds-segment .ensures) ∙ c .if1 .left) (refl, refl)
 

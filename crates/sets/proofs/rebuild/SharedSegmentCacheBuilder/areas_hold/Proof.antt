@@ -1,35 +1,23 @@
 -- `areas_hold` meets its contract. Assumes nothing.
-use mathlib.Core.Path.{_≡_, refl, sym, ap, ap₂, _∙_}
-use borrow.Author.Tests.{lt-ltb, le-ltb, le-leb, lt-leb, eq-eqb, ne-eqb, not-true, not-false}
-use Prim.Native.Nat.{ℕ, _+_, _-_, _*_, _/_, _%_, _^_, _≤_, _<_}
+use mathlib.Core.Path.{sym, ap, _∙_}
+use borrow.Author.Tests.{le-leb, lt-leb, not-true, not-false}
+use Prim.Native.Nat.{ℕ, _*_, _≤_, _<_}
 use native.Mathlib.Omega.{arith}
-use lib.ListN.{length, set, getD}
-use mathlib.Core.List.{List}
-use Rattle.sets.specs.Kept.{retained}
+use lib.ListN.{length}
 use Rattle.sets.specs.Rebuild.{areasHoldRebuild, filledIn, segmentsInside}
 use Rattle.sets.proofs.KeptBits.{retained-256}
 use Rattle.sets.proofs.RebuildSteps.{areas-256, arena-held}
 use borrow.Author.Needs.{needs}
 use Rattle.sets.proofs.rebuild.SharedSegmentCacheBuilder.areas_hold.Statement.{statement}
 use Rattle.sets.proofs.rebuild.SharedSegmentCacheBuilder.areas_hold.Tie as tie
-use Rattle.sets.proofs.rebuild.SharedSegmentCacheBuilder.areas_hold.Reads as reads
-use Rattle.sets.proofs.rebuild.SharedSegmentCacheBuilder.areas_hold.Lts as lts
-use Rattle.sets.proofs.kept.KeptSegments.retained.Reads as retained-reads
-use Rattle.sets.proofs.questions.segment_areas_hold.Reads as segment-areas-hold-reads
-use Rattle.sets.proofs.rebuild.SharedSegmentCacheBuilder.fits.Reads as fits-reads
-use Rattle.sets.proofs.rebuild_questions.arena_holds_both.Reads as arena-holds-both-reads
-use Rattle.sets.proofs.rebuild_questions.segments_inside.Reads as segments-inside-reads
 
--- src/rebuild_questions.rt:89:13
 fits-requires : tie.Need-fits-requires
 fits-requires c κs = search needs
 
--- src/rebuild_questions.rt:90:13
 returns : tie.Need-returns
 unfolding areasHoldRebuild
 returns c = rw (sym (c .before .fits2 .ensures) ∙ not-true (c .before .fits2 .result) (c .if1 .taken))
 
--- src/rebuild_questions.rt:93:13
 returns-2 : tie.Need-returns-2
 unfolding areasHoldRebuild
 returns-2 c =
@@ -39,11 +27,9 @@ returns-2 c =
     let short : a .index-len < 8 * a .self .«bucket_count» = omega (arith, c .if2 .taken) in
     rw (sym (fits2 .ensures) ∙ not-false (fits2 .result) (if1 .left), lt-leb _ _ short)
 
--- src/rebuild_questions.rt:95:13
 segment-areas-hold-requires : tie.Need-segment-areas-hold-requires
 segment-areas-hold-requires c κs = search needs
 
--- src/rebuild_questions.rt:96:13
 returns-3 : tie.Need-returns-3
 unfolding areasHoldRebuild
 returns-3 c =
@@ -54,11 +40,9 @@ returns-3 c =
     let long : 8 * a .self .«bucket_count» ≤ a .index-len = omega (arith, if2 .left) in
     rw (sym (fits2 .ensures) ∙ not-false (fits2 .result) (if1 .left), le-leb _ _ long, sym (c .before .segment-areas-hold .ensures) ∙ not-true (c .before .segment-areas-hold .result) (c .if3 .taken))
 
--- src/rebuild_questions.rt:100:13
 arena-holds-both-requires : tie.Need-arena-holds-both-requires
 arena-holds-both-requires c κs = search needs
 
--- src/rebuild_questions.rt:101:13
 returns-4 : tie.Need-returns-4
 unfolding areasHoldRebuild
 returns-4 c =
@@ -71,11 +55,9 @@ returns-4 c =
     let long : 8 * a .self .«bucket_count» ≤ a .index-len = omega (arith, if2 .left) in
     rw (sym (fits2 .ensures) ∙ not-false (fits2 .result) (if1 .left), le-leb _ _ long, sym (segment-areas-hold .ensures) ∙ not-false (segment-areas-hold .result) (if3 .left), sym (c .before .arena-holds-both .ensures) ∙ not-true (c .before .arena-holds-both .result) (c .if4 .taken))
 
--- src/rebuild_questions.rt:104:25
 retained-requires : tie.Need-retained-requires
 retained-requires c κs = search needs
 
--- src/rebuild_questions.rt:104:42
 add-segments-inside : tie.Need-add-segments-inside
 add-segments-inside c =
     let a = c .before .before .before .before .before .before .before .before .before .before .before .before .args in
@@ -84,7 +66,6 @@ add-segments-inside c =
     let held = arena-held (filledIn (a .self)) (a .arena-len) (sym (arena-holds-both .ensures) ∙ not-false (arena-holds-both .result) (if4 .left)) in
     omega (arith, held .0, held .1)
 
--- src/rebuild_questions.rt:104:9
 segments-inside-requires : tie.Need-segments-inside-requires
 segments-inside-requires c κs =
     let a = c .before .before .before .before .before .before .before .before .before .before .before .before .args in
@@ -94,7 +75,6 @@ segments-inside-requires c κs =
     let few : c .retained .result ≤ 256 = omega (arith, c .retained .ensures, retained-256 (a .self .kept)) in
     (omega (arith, held .0), omega (arith, held .1))
 
--- src/rebuild_questions.rt:86:5
 returns-5 : tie.Need-returns-5
 unfolding areasHoldRebuild
 returns-5 c =

@@ -1,27 +1,18 @@
 -- `check_finish` meets its contract. Assumes nothing.
-use mathlib.Core.Path.{_≡_, refl, sym, ap, ap₂, _∙_}
-use borrow.Author.Tests.{lt-ltb, le-ltb, le-leb, lt-leb, eq-eqb, ne-eqb, not-true, not-false}
-use Prim.Native.Nat.{ℕ, _+_, _-_, _*_, _/_, _%_, _^_, _≤_, _<_}
-use native.Mathlib.Omega.{arith}
+use mathlib.Core.Path.{sym, _∙_}
+use borrow.Author.Tests.{eq-eqb, ne-eqb, not-true, not-false}
 use Rattle.sets.specs.Rebuild.{askRebuildFinish}
 use borrow.Author.Needs.{needs}
 use Rattle.sets.proofs.rebuild.SharedSegmentCacheBuilder.check_finish.Statement.{statement}
 use Rattle.sets.proofs.rebuild.SharedSegmentCacheBuilder.check_finish.Tie as tie
-use Rattle.sets.proofs.rebuild.SharedSegmentCacheBuilder.check_finish.Reads as reads
-use Rattle.sets.proofs.rebuild.SharedSegmentCacheBuilder.check_finish.Lts as lts
-use Rattle.sets.proofs.questions.scratch_holds.Reads as scratch-holds-reads
-use Rattle.sets.proofs.rebuild.SharedSegmentCacheBuilder.areas_hold.Reads as areas-hold-reads
 
--- src/rebuild_questions.rt:269:13
 areas-hold-requires : tie.Need-areas-hold-requires
 areas-hold-requires c κs = search needs
 
--- src/rebuild_questions.rt:270:13
 returns : tie.Need-returns
 unfolding askRebuildFinish
 returns c = rw (sym (c .before .areas-hold .ensures) ∙ not-true (c .before .areas-hold .result) (c .if1 .taken))
 
--- src/rebuild_questions.rt:273:13
 returns-2 : tie.Need-returns-2
 unfolding askRebuildFinish
 returns-2 c =
@@ -29,11 +20,9 @@ returns-2 c =
     let if1 = c .before .before .if1 in
     rw (sym (areas-hold .ensures) ∙ not-false (areas-hold .result) (if1 .left), ne-eqb _ _ (c .if2 .taken))
 
--- src/rebuild_questions.rt:275:13
 scratch-holds-requires : tie.Need-scratch-holds-requires
 scratch-holds-requires c κs = search needs
 
--- src/rebuild_questions.rt:276:13
 returns-3 : tie.Need-returns-3
 unfolding askRebuildFinish
 returns-3 c =
@@ -42,7 +31,6 @@ returns-3 c =
     let if2 = c .before .before .if2 in
     rw (sym (areas-hold .ensures) ∙ not-false (areas-hold .result) (if1 .left), eq-eqb _ _ (if2 .left), sym (c .before .scratch-holds .ensures) ∙ not-true (c .before .scratch-holds .result) (c .if3 .taken))
 
--- src/rebuild_questions.rt:259:5
 returns-4 : tie.Need-returns-4
 unfolding askRebuildFinish
 returns-4 c =

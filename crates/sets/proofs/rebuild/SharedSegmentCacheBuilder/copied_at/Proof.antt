@@ -1,8 +1,7 @@
 -- `copied_at` meets its contract. Assumes nothing.
 use Rattle.sets.proofs.RebuildSteps.{copied-left, home-length}
-use mathlib.Core.Path.{_≡_, refl, sym, ap, ap₂, _∙_}
-use borrow.Author.Tests.{lt-ltb, le-ltb, le-leb, lt-leb, eq-eqb, ne-eqb, not-true, not-false}
-use Prim.Native.Nat.{ℕ, _+_, _-_, _*_, _/_, _%_, _^_, _≤_, _<_}
+use mathlib.Core.Path.{_≡_, sym, ap, _∙_}
+use Prim.Native.Nat.{_+_, _*_, _^_}
 use native.Mathlib.Omega.{arith}
 use lib.ListN.{length}
 use Rattle.records.specs.Area.{writeResult}
@@ -14,46 +13,31 @@ use Rattle.sets.proofs.Appends.{append-in, append-out, rest, rest-lengt
 use borrow.Author.Needs.{needs}
 use Rattle.sets.proofs.rebuild.SharedSegmentCacheBuilder.copied_at.Statement.{statement}
 use Rattle.sets.proofs.rebuild.SharedSegmentCacheBuilder.copied_at.Tie as tie
-use Rattle.sets.proofs.rebuild.SharedSegmentCacheBuilder.copied_at.Reads as reads
-use Rattle.sets.proofs.rebuild.SharedSegmentCacheBuilder.copied_at.Lts as lts
-use Rattle.records.proofs.record.append_record.Reads as append-record-reads
-use Rattle.sets.proofs.kept.KeptSegments.retained.Reads as retained-reads
-use Rattle.sets.proofs.rebuild.SharedSegmentCacheBuilder.copied_grown.Reads as copied-grown-reads
-use Rattle.sets.proofs.rebuild.SharedSegmentCacheBuilder.push_index.Reads as push-index-reads
 
--- src/rebuild.rt:282:22
 add-filled : tie.Need-add-filled
 add-filled c = search needs
 
--- src/rebuild.rt:285:37
 sub-append-record : tie.Need-sub-append-record
 sub-append-record c = search needs
 
--- src/rebuild.rt:285:37
 part-append-record-start : tie.Need-part-append-record-start
 part-append-record-start c = search needs
 
--- src/rebuild.rt:285:37
 part-append-record-end : tie.Need-part-append-record-end
 part-append-record-end c = search needs
 
--- src/rebuild.rt:285:13
 append-record-requires : tie.Need-append-record-requires
 append-record-requires c κs = search needs
 
--- src/rebuild.rt:286:34
 enum-known-written : tie.Need-enum-known-written
 enum-known-written c = search needs
 
--- src/rebuild.rt:288:26
 enum-told : tie.Need-enum-told
 enum-told c = search needs
 
--- src/rebuild.rt:287:13
 same-length : tie.Need-same-length
 same-length c = search needs
 
--- src/rebuild.rt:287:13
 returns : tie.Need-returns
 returns c =
     let a = c .before .before .before .before .before .before .before .before .before .before .before .before .before .args in
@@ -63,23 +47,18 @@ returns c =
     let q = append-out bytes whole (append-record .last .0) (c .enum-told .given .0 .0) (ap (λ (r : WriteAnswer). writeResult r (append-record .last .0)) (sym (c .enum-told .given .1)) ∙ append-record .ensures) in
     absurd (omega (arith, q .0, rest-length (filledIn (a .self)) (a .arena .now), size-is (a .self .config .expiry) (a .key .now) (a .value .now) (a .expires-at), c .before .before .before .before .before .before .before .before .before .before .before .before .before .pre .0))
 
--- src/rebuild.rt:293:24
 retained-requires : tie.Need-retained-requires
 retained-requires c κs = search needs
 
--- src/rebuild.rt:293:24
 mul-location : tie.Need-mul-location
 mul-location c = search needs
 
--- src/rebuild.rt:293:24
 add-location : tie.Need-add-location
 add-location c = search needs
 
--- src/rebuild.rt:294:9
 push-index-requires : tie.Need-push-index-requires
 push-index-requires c κs = search needs
 
--- src/rebuild.rt:296:22
 copied-grown-requires : tie.Need-copied-grown-requires
 copied-grown-requires c κs =
     let a = c .before .before .before .before .before .before .before .before .before .before .before .before .before .before .before .before .before .before .before .before .before .before .before .before .args in
@@ -94,15 +73,12 @@ copied-grown-requires c κs =
     let pre = c .before .before .before .before .before .before .before .before .before .before .before .before .before .before .before .before .before .before .before .before .before .before .before .before .pre in
     (pre .4, omega (arith, pre .0, pre .1, q .1, long), omega (arith, q .1, long, holds), pre .5, pre .6, pre .7)
 
--- src/rebuild.rt:268:5
 same-length-2 : tie.Need-same-length-2
 same-length-2 c = search needs
 
--- src/rebuild.rt:268:5
 same-length-3 : tie.Need-same-length-3
 same-length-3 c = search needs
 
--- src/rebuild.rt:268:5
 same-length-4 : tie.Need-same-length-4
 same-length-4 c =
     let a = c .before .before .before .before .before .before .before .before .before .before .before .before .before .before .before .before .before .before .before .before .before .before .before .before .before .args in
@@ -113,7 +89,6 @@ same-length-4 c =
     let q = append-in bytes whole (append-record .last .0) (written .given .0 .0) (ap (λ (r : WriteAnswer). writeResult r (append-record .last .0)) (sym (written .given .1)) ∙ append-record .ensures) in
     home-length bytes (a .arena .now) (append-record .last .0) (filledIn (a .self)) (omega (arith, c .before .before .before .before .before .before .before .before .before .before .before .before .before .before .before .before .before .before .before .before .before .before .before .before .before .pre .0, size-is (a .self .config .expiry) (a .key .now) (a .value .now) (a .expires-at))) (q .2)
 
--- src/rebuild.rt:268:5
 returns-2 : tie.Need-returns-2
 returns-2 c =
     let a = c .before .before .before .before .before .before .before .before .before .before .before .before .before .before .before .before .before .before .before .before .before .before .before .before .before .args in

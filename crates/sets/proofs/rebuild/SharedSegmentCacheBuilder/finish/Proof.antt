@@ -1,9 +1,8 @@
 -- `finish` meets its contract. Assumes nothing.
-use mathlib.Core.Path.{_≡_, refl, sym, ap, ap₂, _∙_}
-use borrow.Author.Tests.{lt-ltb, le-ltb, le-leb, lt-leb, eq-eqb, ne-eqb, not-true, not-false}
-use Prim.Native.Nat.{ℕ, _+_, _-_, _*_, _/_, _%_, _^_, _≤_, _<_}
+use mathlib.Core.Path.{sym, ap, _∙_}
+use Prim.Native.Nat.{_^_, _≤_}
 use native.Mathlib.Omega.{arith}
-use lib.ListN.{length, set, getD}
+use lib.ListN.{length}
 use Rattle.sets.specs.Kept.{retained}
 use Rattle.sets.specs.Questions.{checkNumber}
 use Rattle.sets.specs.Rebuild.{afterRebuildFinish, filledIn}
@@ -14,30 +13,19 @@ use Rattle.sets.proofs.RebuildSteps.{adds-few, refinish-left, sum-insid
 use borrow.Author.Needs.{needs}
 use Rattle.sets.proofs.rebuild.SharedSegmentCacheBuilder.finish.Statement.{statement}
 use Rattle.sets.proofs.rebuild.SharedSegmentCacheBuilder.finish.Tie as tie
-use Rattle.sets.proofs.rebuild.SharedSegmentCacheBuilder.finish.Reads as reads
-use Rattle.sets.proofs.rebuild.SharedSegmentCacheBuilder.finish.Lts as lts
-use Rattle.sets.proofs.builder.pack_index.Reads as pack-index-reads
-use Rattle.sets.proofs.rebuild.SharedSegmentCacheBuilder.add_segment.Reads as add-segment-reads
-use Rattle.sets.proofs.rebuild.SharedSegmentCacheBuilder.check_finish.Reads as check-finish-reads
-use Rattle.sets.proofs.rebuild.SharedSegmentCacheBuilder.into_build.Reads as into-build-reads
 
--- src/rebuild.rt:225:42
 check-finish-requires : tie.Need-check-finish-requires
 check-finish-requires c κs = search needs
 
--- src/rebuild.rt:225:31
 enum-known-refusal : tie.Need-enum-known-refusal
 enum-known-refusal c = search needs
 
--- src/rebuild.rt:232:13
 same-length : tie.Need-same-length
 same-length c = search needs
 
--- src/rebuild.rt:232:13
 same-length-2 : tie.Need-same-length-2
 same-length-2 c = search needs
 
--- src/rebuild.rt:232:13
 returns : tie.Need-returns
 unfolding afterRebuildFinish
 returns c =
@@ -47,7 +35,6 @@ returns c =
 enum-told : tie.Need-enum-told
 enum-told c = search needs
 
--- src/rebuild.rt:237:13
 into-build-requires : tie.Need-into-build-requires
 into-build-requires c κs =
     let a = c .before .before .before .before .before .before .before .before .before .before .before .args in
@@ -59,7 +46,6 @@ into-build-requires c κs =
     let sum = sum-inside (filledIn (a .self)) (a .starts .now) (a .lengths .now) (retained (a .self .kept)) short (q .areas .inside) in
     (omega (arith, few, q .areas .lengths-hold), omega (arith, few, sum), short, n .counts)
 
--- src/rebuild.rt:238:9
 add-segment-requires : tie.Need-add-segment-requires
 add-segment-requires c κs =
     let a = c .before .before .before .before .before .before .before .before .before .before .before .before .before .before .args in
@@ -69,27 +55,21 @@ add-segment-requires c κs =
     let n = q .areas .numbers in
     (q .areas .starts-hold, q .areas .lengths-hold, adds-few (a .self) (n .few))
 
--- src/rebuild.rt:240:9
 pack-index-requires : tie.Need-pack-index-requires
 pack-index-requires c κs = search needs
 
--- src/rebuild.rt:215:5
 same-length-3 : tie.Need-same-length-3
 same-length-3 c = search needs
 
--- src/rebuild.rt:215:5
 same-length-4 : tie.Need-same-length-4
 same-length-4 c = search needs
 
--- src/rebuild.rt:215:5
 same-length-5 : tie.Need-same-length-5
 same-length-5 c = search needs
 
--- src/rebuild.rt:215:5
 same-length-6 : tie.Need-same-length-6
 same-length-6 c = search needs
 
--- src/rebuild.rt:215:5
 returns-2 : tie.Need-returns-2
 unfolding afterRebuildFinish
 returns-2 c =

@@ -1,7 +1,7 @@
 -- `fits` meets its contract. Assumes nothing.
-use mathlib.Core.Path.{_≡_, refl, sym, ap, ap₂, _∙_}
-use borrow.Author.Tests.{lt-ltb, le-ltb, le-leb, lt-leb, eq-eqb, ne-eqb, not-true, not-false}
-use Prim.Native.Nat.{ℕ, _+_, _-_, _*_, _/_, _%_, _^_, _≤_, _<_}
+use mathlib.Core.Path.{sym, _∙_}
+use borrow.Author.Tests.{le-leb, lt-leb, not-true, not-false}
+use Prim.Native.Nat.{_+_, _≤_, _<_}
 use native.Mathlib.Omega.{arith}
 use Rattle.sets.specs.Kept.{retained}
 use Rattle.sets.specs.Rebuild.{rebuildFits, segmentFor}
@@ -11,23 +11,14 @@ use Rattle.sets.proofs.RebuildSteps.{segment-most}
 use borrow.Author.Needs.{needs}
 use Rattle.sets.proofs.rebuild.SharedSegmentCacheBuilder.fits.Statement.{statement}
 use Rattle.sets.proofs.rebuild.SharedSegmentCacheBuilder.fits.Tie as tie
-use Rattle.sets.proofs.rebuild.SharedSegmentCacheBuilder.fits.Reads as reads
-use Rattle.sets.proofs.rebuild.SharedSegmentCacheBuilder.fits.Lts as lts
-use Rattle.sets.proofs.kept.KeptSegments.retained.Reads as retained-reads
-use Rattle.sets.proofs.questions.bytes_fit.Reads as bytes-fit-reads
-use Rattle.sets.proofs.questions.counts_fit.Reads as counts-fit-reads
-use Rattle.sets.proofs.rebuild_questions.segment_for.Reads as segment-for-reads
 
--- src/rebuild_questions.rt:60:13
 counts-fit-requires : tie.Need-counts-fit-requires
 counts-fit-requires c κs = search needs
 
--- src/rebuild_questions.rt:66:13
 returns : tie.Need-returns
 unfolding rebuildFits
 returns c = rw (sym (c .before .counts-fit .ensures) ∙ not-true (c .before .counts-fit .result) (c .if1 .taken))
 
--- src/rebuild_questions.rt:70:13
 returns-2 : tie.Need-returns-2
 unfolding rebuildFits
 returns-2 c =
@@ -35,21 +26,17 @@ returns-2 c =
     let if1 = c .before .before .if1 in
     rw (sym (counts-fit .ensures) ∙ not-false (counts-fit .result) (if1 .left), lt-leb _ _ (c .if2 .taken))
 
--- src/rebuild_questions.rt:73:12
 retained-requires : tie.Need-retained-requires
 retained-requires c κs = search needs
 
--- src/rebuild_questions.rt:73:30
 segment-for-requires : tie.Need-segment-for-requires
 segment-for-requires c κs = search needs
 
--- src/rebuild_questions.rt:73:12
 add-if3 : tie.Need-add-if3
 add-if3 c =
     let a = c .before .before .before .before .before .before .before .args in
     omega (arith, c .before .retained .ensures, c .segment-for .ensures, retained-256 (a .self .kept), segment-most (a .self .«copied_bytes»))
 
--- src/rebuild_questions.rt:74:13
 returns-3 : tie.Need-returns-3
 unfolding rebuildFits
 returns-3 c =
@@ -61,7 +48,6 @@ returns-3 c =
     let n : 256 < retained (a .self .kept) + segmentFor (a .self .«copied_bytes») = omega (arith, c .if3 .taken, counted .ensures, c .before .segment-for .ensures) in
     rw (sym (counts-fit .ensures) ∙ not-false (counts-fit .result) (if1 .left), le-leb _ _ (if2 .left), lt-leb _ _ n)
 
--- src/rebuild_questions.rt:76:13
 bytes-fit-requires : tie.Need-bytes-fit-requires
 bytes-fit-requires c κs =
     let counts-fit = c .before .before .before .before .before .before .before .counts-fit in
@@ -69,7 +55,6 @@ bytes-fit-requires c κs =
     let if2 = c .before .before .before .before .if2 in
     omega (arith, if2 .left, counts-records _ _ _ _ (sym (counts-fit .ensures) ∙ not-false (counts-fit .result) (if1 .left)))
 
--- src/rebuild_questions.rt:77:13
 returns-4 : tie.Need-returns-4
 unfolding rebuildFits
 returns-4 c =
@@ -83,7 +68,6 @@ returns-4 c =
     let n : retained (a .self .kept) + segmentFor (a .self .«copied_bytes») ≤ 256 = omega (arith, if3 .left, counted .ensures, segment-for .ensures) in
     rw (sym (counts-fit .ensures) ∙ not-false (counts-fit .result) (if1 .left), le-leb _ _ (if2 .left), le-leb _ _ n, sym (c .before .bytes-fit .ensures) ∙ not-true (c .before .bytes-fit .result) (c .if4 .taken))
 
--- src/rebuild_questions.rt:79:13
 bytes-fit-requires-2 : tie.Need-bytes-fit-requires-2
 bytes-fit-requires-2 c κs =
     let counts-fit = c .before .before .before .before .before .before .before .before .before .counts-fit in
@@ -91,7 +75,6 @@ bytes-fit-requires-2 c κs =
     let if2 = c .before .before .before .before .before .before .if2 in
     omega (arith, if2 .left, counts-records _ _ _ _ (sym (counts-fit .ensures) ∙ not-false (counts-fit .result) (if1 .left)))
 
--- src/rebuild_questions.rt:80:13
 returns-5 : tie.Need-returns-5
 unfolding rebuildFits
 returns-5 c =
@@ -107,7 +90,6 @@ returns-5 c =
     let n : retained (a .self .kept) + segmentFor (a .self .«copied_bytes») ≤ 256 = omega (arith, if3 .left, counted .ensures, segment-for .ensures) in
     rw (sym (counts-fit .ensures) ∙ not-false (counts-fit .result) (if1 .left), le-leb _ _ (if2 .left), le-leb _ _ n, sym (bytes-fit .ensures) ∙ not-false (bytes-fit .result) (if4 .left), sym (c .before .bytes-fit2 .ensures) ∙ not-true (c .before .bytes-fit2 .result) (c .if5 .taken))
 
--- src/rebuild_questions.rt:82:9
 bytes-fit-requires-3 : tie.Need-bytes-fit-requires-3
 bytes-fit-requires-3 c κs =
     let counts-fit = c .before .before .before .before .before .before .before .before .before .before .before .counts-fit in
@@ -115,7 +97,6 @@ bytes-fit-requires-3 c κs =
     let if2 = c .before .before .before .before .before .before .before .before .if2 in
     omega (arith, if2 .left, counts-records _ _ _ _ (sym (counts-fit .ensures) ∙ not-false (counts-fit .result) (if1 .left)))
 
--- src/rebuild_questions.rt:57:5
 returns-6 : tie.Need-returns-6
 unfolding rebuildFits
 returns-6 c =

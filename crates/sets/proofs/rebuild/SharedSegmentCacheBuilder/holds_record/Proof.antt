@@ -1,7 +1,6 @@
 -- `holds_record` meets its contract. Assumes nothing.
-use mathlib.Core.Path.{_≡_, refl, sym, ap, ap₂, _∙_}
-use borrow.Author.Tests.{lt-ltb, le-ltb, le-leb, lt-leb, eq-eqb, ne-eqb, not-true, not-false}
-use Prim.Native.Nat.{ℕ, _+_, _-_, _*_, _/_, _%_, _^_, _≤_, _<_}
+use mathlib.Core.Path.{sym, ap, ap₂, _∙_}
+use Prim.Native.Nat.{ℕ, _+_, _/_, _^_}
 use native.Mathlib.Omega.{arith}
 use Rattle.index.specs.View.{recordIn}
 use Rattle.index.specs.declared.view.SegmentView.{SegmentView}
@@ -10,40 +9,27 @@ use Rattle.sets.proofs.KeptBits.{number-below, retained-256}
 use borrow.Author.Needs.{needs}
 use Rattle.sets.proofs.rebuild.SharedSegmentCacheBuilder.holds_record.Statement.{statement}
 use Rattle.sets.proofs.rebuild.SharedSegmentCacheBuilder.holds_record.Tie as tie
-use Rattle.sets.proofs.rebuild.SharedSegmentCacheBuilder.holds_record.Reads as reads
-use Rattle.sets.proofs.rebuild.SharedSegmentCacheBuilder.holds_record.Lts as lts
-use Rattle.index.proofs.view.record_at_location.Reads as record-at-location-reads
-use Rattle.sets.proofs.rebuild.SharedSegmentCacheBuilder.moved_location.Reads as moved-location-reads
-use Rattle.sets.proofs.rebuild.SharedSegmentCacheBuilder.view.Reads as view-reads
-use Rattle.sets.proofs.rebuild_questions.same_record.Reads as same-record-reads
 
--- src/rebuild_questions.rt:157:22
 moved-location-requires : tie.Need-moved-location-requires
 moved-location-requires c κs = c .before .before .before .before .before .pre .0
 
--- src/rebuild_questions.rt:157:22
 add-stored : tie.Need-add-stored
 add-stored c =
     let a = c .before .before .before .before .before .before .args in
     omega (arith, c .moved-location .ensures, number-below (a .self .kept) (a .source .location / 2 ^ 32) (c .before .before .before .before .before .before .pre .0), retained-256 (a .self .kept))
 
--- src/rebuild_questions.rt:158:39
 view-requires : tie.Need-view-requires
 view-requires c κs = c .before .before .before .before .before .before .pre .1
 
--- src/rebuild_questions.rt:158:13
 record-at-location-requires : tie.Need-record-at-location-requires
 record-at-location-requires c κs = search needs
 
--- src/rebuild_questions.rt:159:32
 enum-known-read : tie.Need-enum-known-read
 enum-known-read c = search needs
 
--- src/rebuild_questions.rt:160:13
 enum-told : tie.Need-enum-told
 enum-told c = search needs
 
--- src/rebuild_questions.rt:160:13
 returns : tie.Need-returns
 unfolding holdsRecord
 returns c =
@@ -54,11 +40,9 @@ returns c =
     let same = ap₂ (λ (v : SegmentView) (n : ℕ). recordIn v (a .arena .now) (a .starts .now) (a .lengths .now) (n + 1)) (view .ensures) (moved-location .ensures) in
     sym (ap (holdsRecord (a .key .now) (a .value .now) (a .source .«header_bytes») (a .arena .now)) (sym (record-at-location .ensures ∙ same) ∙ c .enum-told .given .1))
 
--- src/rebuild_questions.rt:162:9
 same-record-requires : tie.Need-same-record-requires
 same-record-requires c κs = search needs
 
--- src/rebuild_questions.rt:145:5
 returns-2 : tie.Need-returns-2
 unfolding holdsRecord
 returns-2 c =

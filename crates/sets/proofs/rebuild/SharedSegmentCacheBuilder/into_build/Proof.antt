@@ -1,41 +1,32 @@
 -- `into_build` meets its contract. Assumes nothing.
-use mathlib.Core.Path.{_≡_, refl, sym, ap, ap₂, _∙_}
-use borrow.Author.Tests.{lt-ltb, le-ltb, le-leb, lt-leb, eq-eqb, ne-eqb, not-true, not-false}
-use Prim.Native.Nat.{ℕ, _+_, _-_, _*_, _/_, _%_, _^_, _≤_, _<_}
+use mathlib.Core.Path.{_≡_}
+use Prim.Native.Nat.{_+_, _*_, _<_}
 use native.Mathlib.Omega.{arith}
 use Rattle.sets.proofs.Finding.{few-buckets, few-words}
 use borrow.Author.Needs.{needs}
 use Rattle.sets.proofs.rebuild.SharedSegmentCacheBuilder.into_build.Statement.{statement}
 use Rattle.sets.proofs.rebuild.SharedSegmentCacheBuilder.into_build.Tie as tie
-use Rattle.sets.proofs.rebuild.SharedSegmentCacheBuilder.into_build.Reads as reads
-use Rattle.sets.proofs.rebuild.SharedSegmentCacheBuilder.into_build.Lts as lts
-use Rattle.sets.proofs.rebuild.SharedSegmentCacheBuilder.into_cache.Reads as into-cache-reads
 
--- src/rebuild.rt:381:27
 mul-index-bytes : tie.Need-mul-index-bytes
 mul-index-bytes c =
     let a = c .before .before .args in
     omega (arith, few-buckets (a .self .config) (a .self .«expected_entries») (a .self .«bucket_count») (a .self .«filter_words») (c .before .before .pre .3))
 
--- src/rebuild.rt:381:52
 mul-index-bytes-2 : tie.Need-mul-index-bytes-2
 mul-index-bytes-2 c =
     let a = c .before .before .before .args in
     let bits : a .self .config .«negative_filter_bits_per_entry» < 256 = omega (arith, c .before .struct-known .given) in
     omega (arith, few-words (a .self .config) (a .self .«expected_entries») (a .self .«bucket_count») (a .self .«filter_words») (c .before .before .before .pre .3) bits)
 
--- src/rebuild.rt:381:27
 add-index-bytes : tie.Need-add-index-bytes
 add-index-bytes c =
     let a = c .before .before .before .args in
     let bits : a .self .config .«negative_filter_bits_per_entry» < 256 = omega (arith, c .before .struct-known .given) in
     omega (arith, few-buckets (a .self .config) (a .self .«expected_entries») (a .self .«bucket_count») (a .self .«filter_words») (c .before .before .before .pre .3), few-words (a .self .config) (a .self .«expected_entries») (a .self .«bucket_count») (a .self .«filter_words») (c .before .before .before .pre .3) bits)
 
--- src/rebuild.rt:383:20
 into-cache-requires : tie.Need-into-cache-requires
 into-cache-requires c κs = search needs
 
--- src/rebuild.rt:387:36
 add-t4 : tie.Need-add-t4
 add-t4 c =
     let a = c .before .before .before .before .before .args in
@@ -43,7 +34,6 @@ add-t4 c =
     let bits : a .self .config .«negative_filter_bits_per_entry» < 256 = omega (arith, struct-known .given) in
     omega (arith, few-buckets (a .self .config) (a .self .«expected_entries») (a .self .«bucket_count») (a .self .«filter_words») (c .before .before .before .before .before .pre .3), few-words (a .self .config) (a .self .«expected_entries») (a .self .«bucket_count») (a .self .«filter_words») (c .before .before .before .before .before .pre .3) bits, c .before .before .before .before .before .pre .2)
 
--- src/rebuild.rt:377:5
 returns : tie.Need-returns
 returns c =
     let a = c .before .before .before .before .before .args in

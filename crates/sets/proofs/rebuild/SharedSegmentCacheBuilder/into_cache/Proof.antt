@@ -1,42 +1,30 @@
 -- `into_cache` meets its contract. Assumes nothing.
-use mathlib.Core.Path.{_≡_, refl, sym, ap, ap₂, _∙_}
-use borrow.Author.Tests.{lt-ltb, le-ltb, le-leb, lt-leb, eq-eqb, ne-eqb, not-true, not-false}
-use Prim.Native.Nat.{ℕ, _+_, _-_, _*_, _/_, _%_, _^_, _≤_, _<_}
+use mathlib.Core.Path.{ap}
+use Prim.Native.Nat.{ℕ}
 use native.Mathlib.Omega.{arith}
 use Rattle.sets.specs.Rebuild.{sumOf}
 use borrow.Author.Needs.{needs}
 use Rattle.sets.proofs.rebuild.SharedSegmentCacheBuilder.into_cache.Statement.{statement}
 use Rattle.sets.proofs.rebuild.SharedSegmentCacheBuilder.into_cache.Tie as tie
-use Rattle.sets.proofs.rebuild.SharedSegmentCacheBuilder.into_cache.Reads as reads
-use Rattle.sets.proofs.rebuild.SharedSegmentCacheBuilder.into_cache.Lts as lts
-use Rattle.sets.proofs.kept.KeptSegments.retained.Reads as retained-reads
-use Rattle.sets.proofs.rebuild.SharedSegmentCacheBuilder.segment_count.Reads as segment-count-reads
-use Rattle.sets.proofs.rebuild_finish.sum_of.Reads as sum-of-reads
 
--- src/rebuild.rt:402:23
 segment-count-requires : tie.Need-segment-count-requires
 segment-count-requires c κs = search needs
 
--- src/rebuild.rt:403:21
 add-t6 : tie.Need-add-t6
 add-t6 c = search needs
 
--- src/rebuild.rt:404:43
 retained-requires : tie.Need-retained-requires
 retained-requires c κs = search needs
 
--- src/rebuild.rt:404:27
 sum-of-requires : tie.Need-sum-of-requires
 sum-of-requires c κs = rw (c .retained .ensures) (c .before .before .before .before .before .before .pre .0, omega (arith, c .before .before .before .before .before .before .pre .1))
 
--- src/rebuild.rt:404:27
 add-t9 : tie.Need-add-t9
 add-t9 c =
     let a = c .before .before .before .before .before .before .before .before .args in
     let counted = c .before .before .retained in
     omega (arith, c .before .sum-of .ensures, ap (λ (n : ℕ). sumOf n (a .lengths .now)) (counted .ensures), c .before .before .before .before .before .before .before .before .pre .1, c .before .before .before .before .before .before .before .before .pre .2)
 
--- src/rebuild.rt:391:5
 returns : tie.Need-returns
 returns c =
     let segment-count = c .before .before .before .before .segment-count in

@@ -1,9 +1,8 @@
 -- `plan_copied` meets its contract. Assumes nothing.
-use mathlib.Core.Path.{_≡_, refl, sym, ap, ap₂, _∙_}
-use borrow.Author.Tests.{lt-ltb, le-ltb, le-leb, lt-leb, eq-eqb, ne-eqb, not-true, not-false}
-use Prim.Native.Nat.{ℕ, _+_, _-_, _*_, _/_, _%_, _^_, _≤_, _<_}
+use mathlib.Core.Path.{_≡_, sym, ap, _∙_}
+use borrow.Author.Tests.{lt-ltb, le-ltb, le-leb, lt-leb, ne-eqb, not-true, not-false}
 use native.Mathlib.Omega.{arith}
-use lib.ListN.{length, set, getD}
+use lib.ListN.{length}
 use Rattle.hash_parts.specs.Duration.{expiryOutcome}
 use Rattle.hash_parts.specs.Error.{errorNumber}
 use Rattle.hash_parts.proofs.Refusals.{refusal-pos}
@@ -14,23 +13,14 @@ use Rattle.sets.proofs.RebuildAsked.{rebuild-areas-asked}
 use borrow.Author.Needs.{needs}
 use Rattle.sets.proofs.rebuild.SharedSegmentCacheBuilder.plan_copied.Statement.{statement}
 use Rattle.sets.proofs.rebuild.SharedSegmentCacheBuilder.plan_copied.Tie as tie
-use Rattle.sets.proofs.rebuild.SharedSegmentCacheBuilder.plan_copied.Reads as reads
-use Rattle.sets.proofs.rebuild.SharedSegmentCacheBuilder.plan_copied.Lts as lts
-use Rattle.hash_parts.proofs.duration.encode_expiry_at_tick.Reads as encode-expiry-at-tick-reads
-use Rattle.sets.proofs.questions.lifetime_fits.Reads as lifetime-fits-reads
-use Rattle.sets.proofs.rebuild.SharedSegmentCacheBuilder.areas_hold.Reads as areas-hold-reads
-use Rattle.sets.proofs.rebuild.SharedSegmentCacheBuilder.plan_room.Reads as plan-room-reads
 
--- src/rebuild_questions.rt:206:13
 areas-hold-requires : tie.Need-areas-hold-requires
 areas-hold-requires c κs = search needs
 
--- src/rebuild_questions.rt:207:13
 returns : tie.Need-returns
 unfolding planCopied askCopied planRoom askRoom
 returns c = rw (sym (c .before .areas-hold .ensures) ∙ not-true (c .before .areas-hold .result) (c .if1 .taken))
 
--- src/rebuild_questions.rt:210:13
 returns-2 : tie.Need-returns-2
 unfolding planCopied askCopied planRoom askRoom
 returns-2 c =
@@ -38,11 +28,9 @@ returns-2 c =
     let if1 = c .before .before .if1 in
     rw (sym (areas-hold .ensures) ∙ not-false (areas-hold .result) (if1 .left), lt-leb _ _ (c .if2 .taken))
 
--- src/rebuild_questions.rt:212:13
 lifetime-fits-requires : tie.Need-lifetime-fits-requires
 lifetime-fits-requires c κs = search needs
 
--- src/rebuild_questions.rt:213:13
 returns-3 : tie.Need-returns-3
 unfolding planCopied askCopied planRoom askRoom
 returns-3 c =
@@ -51,7 +39,6 @@ returns-3 c =
     let if2 = c .before .before .if2 in
     rw (sym (areas-hold .ensures) ∙ not-false (areas-hold .result) (if1 .left), le-leb _ _ (if2 .left), sym (c .before .lifetime-fits .ensures) ∙ not-true (c .before .lifetime-fits .result) (c .if3 .taken))
 
--- src/rebuild_questions.rt:216:13
 returns-4 : tie.Need-returns-4
 unfolding planCopied askCopied planRoom askRoom
 returns-4 c =
@@ -62,19 +49,15 @@ returns-4 c =
     let if3 = c .before .before .if3 in
     rw (sym (areas-hold .ensures) ∙ not-false (areas-hold .result) (if1 .left), le-leb _ _ (if2 .left), sym (lifetime-fits .ensures) ∙ not-false (lifetime-fits .result) (if3 .left), le-ltb _ _ (c .if4 .taken))
 
--- src/rebuild_questions.rt:220:15
 encode-expiry-at-tick-requires : tie.Need-encode-expiry-at-tick-requires
 encode-expiry-at-tick-requires c κs = search needs
 
--- src/rebuild_questions.rt:221:36
 enum-known-refusal : tie.Need-enum-known-refusal
 enum-known-refusal c = search needs
 
--- src/rebuild_questions.rt:222:31
 enum-known-expires-at : tie.Need-enum-known-expires-at
 enum-known-expires-at c = search needs
 
--- src/rebuild_questions.rt:223:17
 plan-room-requires : tie.Need-plan-room-requires
 plan-room-requires c κs =
     let a = c .before .before .before .before .before .before .before .before .before .before .before .before .before .before .before .before .args in
@@ -82,7 +65,6 @@ plan-room-requires c κs =
     let if1 = c .before .before .before .before .before .before .before .before .before .before .before .if1 in
     rebuild-areas-asked (a .self) (length (a .index .now)) (a .starts .now) (a .lengths .now) (a .arena-len) (sym (areas-hold .ensures) ∙ not-false (areas-hold .result) (if1 .left)) .filled-held
 
--- src/rebuild_questions.rt:192:5
 returns-5 : tie.Need-returns-5
 unfolding planCopied askCopied planRoom askRoom
 returns-5 c =
@@ -97,7 +79,6 @@ returns-5 c =
     rw (sym (areas-hold .ensures) ∙ not-false (areas-hold .result) (if1 .left), le-leb _ _ (if2 .left), sym (lifetime-fits .ensures) ∙ not-false (lifetime-fits .result) (if3 .left), lt-ltb _ _ (if4 .left), sym (encode-expiry-at-tick .ensures) ∙ ap expiryOutcome (c .before .refusal .given .1), ne-eqb (errorNumber e) 0 (λ (z : errorNumber e ≡ 0). omega (arith, refusal-pos e)))
     (sym (decided-refused e _ _))
 
--- src/rebuild_questions.rt:192:5
 returns-6 : tie.Need-returns-6
 unfolding planCopied askCopied planRoom askRoom
 returns-6 c =

@@ -1,32 +1,22 @@
 -- `plan_reused` meets its contract. Assumes nothing.
-use mathlib.Core.Path.{_≡_, refl, sym, ap, ap₂, _∙_}
-use borrow.Author.Tests.{lt-ltb, le-ltb, le-leb, lt-leb, eq-eqb, ne-eqb, not-true, not-false}
-use Prim.Native.Nat.{ℕ, _+_, _-_, _*_, _/_, _%_, _^_, _≤_, _<_}
+use mathlib.Core.Path.{sym, _∙_}
+use borrow.Author.Tests.{lt-ltb, le-ltb, le-leb, lt-leb, not-true, not-false}
 use native.Mathlib.Omega.{arith}
-use lib.ListN.{length, set, getD}
+use lib.ListN.{length}
 use Rattle.sets.specs.Rebuild.{askReused}
 use Rattle.sets.specs.RebuildPlans.{planReused}
 use Rattle.sets.proofs.RebuildAsked.{rebuild-areas-asked}
 use borrow.Author.Needs.{needs}
 use Rattle.sets.proofs.rebuild.SharedSegmentCacheBuilder.plan_reused.Statement.{statement}
 use Rattle.sets.proofs.rebuild.SharedSegmentCacheBuilder.plan_reused.Tie as tie
-use Rattle.sets.proofs.rebuild.SharedSegmentCacheBuilder.plan_reused.Reads as reads
-use Rattle.sets.proofs.rebuild.SharedSegmentCacheBuilder.plan_reused.Lts as lts
-use Rattle.index.proofs.build.find_empty_build_slot.Reads as find-empty-build-slot-reads
-use Rattle.sets.proofs.kept.KeptSegments.is_kept.Reads as is-kept-reads
-use Rattle.sets.proofs.rebuild.SharedSegmentCacheBuilder.areas_hold.Reads as areas-hold-reads
-use Rattle.sets.proofs.rebuild.SharedSegmentCacheBuilder.holds_record.Reads as holds-record-reads
 
--- src/rebuild_questions.rt:121:13
 areas-hold-requires : tie.Need-areas-hold-requires
 areas-hold-requires c κs = search needs
 
--- src/rebuild_questions.rt:122:13
 returns : tie.Need-returns
 unfolding planReused askReused
 returns c = rw (sym (c .before .areas-hold .ensures) ∙ not-true (c .before .areas-hold .result) (c .if1 .taken))
 
--- src/rebuild_questions.rt:125:13
 returns-2 : tie.Need-returns-2
 unfolding planReused askReused
 returns-2 c =
@@ -34,7 +24,6 @@ returns-2 c =
     let if1 = c .before .before .if1 in
     rw (sym (areas-hold .ensures) ∙ not-false (areas-hold .result) (if1 .left), lt-leb _ _ (c .if2 .taken))
 
--- src/rebuild_questions.rt:128:13
 returns-3 : tie.Need-returns-3
 unfolding planReused askReused
 returns-3 c =
@@ -43,11 +32,9 @@ returns-3 c =
     let if2 = c .before .before .if2 in
     rw (sym (areas-hold .ensures) ∙ not-false (areas-hold .result) (if1 .left), le-leb _ _ (if2 .left), le-ltb _ _ (c .if3 .taken))
 
--- src/rebuild_questions.rt:131:13
 is-kept-requires : tie.Need-is-kept-requires
 is-kept-requires c κs = search needs
 
--- src/rebuild_questions.rt:132:13
 returns-4 : tie.Need-returns-4
 unfolding planReused askReused
 returns-4 c =
@@ -57,7 +44,6 @@ returns-4 c =
     let if3 = c .before .before .before .before .if3 in
     rw (sym (areas-hold .ensures) ∙ not-false (areas-hold .result) (if1 .left), le-leb _ _ (if2 .left), lt-ltb _ _ (if3 .left), sym (c .before .is-kept .ensures) ∙ not-true (c .before .is-kept .result) (c .if4 .taken))
 
--- src/rebuild_questions.rt:134:13
 holds-record-requires : tie.Need-holds-record-requires
 holds-record-requires c κs =
     let a = c .before .before .before .before .before .before .before .before .before .before .before .before .before .before .before .before .args in
@@ -66,7 +52,6 @@ holds-record-requires c κs =
     let q = rebuild-areas-asked (a .self) (length (a .index .now)) (a .starts .now) (a .lengths .now) (length (a .arena .now)) (sym (areas-hold .ensures) ∙ not-false (areas-hold .result) (if1 .left)) in
     (sym (c .before .is-kept .ensures) ∙ not-false (c .before .is-kept .result) (c .if4 .left), omega (arith, q .filled-held, q .arena-short))
 
--- src/rebuild_questions.rt:135:13
 returns-5 : tie.Need-returns-5
 unfolding planReused askReused
 returns-5 c =
@@ -78,23 +63,18 @@ returns-5 c =
     let if4 = c .before .before .if4 in
     rw (sym (areas-hold .ensures) ∙ not-false (areas-hold .result) (if1 .left), le-leb _ _ (if2 .left), lt-ltb _ _ (if3 .left), sym (is-kept .ensures) ∙ not-false (is-kept .result) (if4 .left), sym (c .before .holds-record .ensures) ∙ not-true (c .before .holds-record .result) (c .if5 .taken))
 
--- src/rebuild_questions.rt:137:13
 find-empty-build-slot-requires : tie.Need-find-empty-build-slot-requires
 find-empty-build-slot-requires c κs = search needs
 
--- src
 enum-told : tie.Need-enum-told
 enum-told c = search needs
 
--- src
 enum-told-2 : tie.Need-enum-told-2
 enum-told-2 c = search needs
 
--- src
 enum-known-slot : tie.Need-enum-known-slot
 enum-known-slot c = search needs
 
--- src
 returns-6 : tie.Need-returns-6
 unfolding planReused askReused
 returns-6 c =
@@ -109,7 +89,6 @@ returns-6 c =
     let find-empty-build-slot = c .before .before .find-empty-build-slot in
     rw (sym (areas-hold .ensures) ∙ not-false (areas-hold .result) (if1 .left), le-leb _ _ (if2 .left), lt-ltb _ _ (if3 .left), sym (is-kept .ensures) ∙ not-false (is-kept .result) (if4 .left), sym (holds-record .ensures) ∙ not-false (holds-record .result) (if5 .left), sym (find-empty-build-slot .ensures) ∙ c .enum-told .given .1)
 
--- src
 returns-7 : tie.Need-returns-7
 unfolding planReused askReused
 returns-7 c =
@@ -124,7 +103,6 @@ returns-7 c =
     let find-empty-build-slot = c .before .before .find-empty-build-slot in
     rw (sym (areas-hold .ensures) ∙ not-false (areas-hold .result) (if1 .left), le-leb _ _ (if2 .left), lt-ltb _ _ (if3 .left), sym (is-kept .ensures) ∙ not-false (is-kept .result) (if4 .left), sym (holds-record .ensures) ∙ not-false (holds-record .result) (if5 .left), sym (find-empty-build-slot .ensures) ∙ c .enum-told2 .given .1)
 
--- src
 returns-8 : tie.Need-returns-8
 unfolding planReused askReused
 returns-8 c =

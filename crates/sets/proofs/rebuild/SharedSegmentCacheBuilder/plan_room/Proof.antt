@@ -1,7 +1,7 @@
 -- `plan_room` meets its contract. Assumes nothing.
-use mathlib.Core.Path.{_≡_, refl, sym, ap, ap₂, _∙_}
-use borrow.Author.Tests.{lt-ltb, le-ltb, le-leb, lt-leb, eq-eqb, ne-eqb, not-true, not-false}
-use Prim.Native.Nat.{ℕ, _+_, _-_, _*_, _/_, _%_, _^_, _≤_, _<_}
+use mathlib.Core.Path.{sym, _∙_}
+use borrow.Author.Tests.{lt-ltb, le-ltb, not-true, not-false}
+use Prim.Native.Nat.{_≤_, _<_}
 use native.Mathlib.Omega.{arith}
 use Rattle.sets.specs.Kept.{retained}
 use Rattle.sets.specs.Rebuild.{copiedSize, filledIn}
@@ -10,36 +10,25 @@ use Rattle.sets.proofs.RebuildSteps.{room}
 use borrow.Author.Needs.{needs}
 use Rattle.sets.proofs.rebuild.SharedSegmentCacheBuilder.plan_room.Statement.{statement}
 use Rattle.sets.proofs.rebuild.SharedSegmentCacheBuilder.plan_room.Tie as tie
-use Rattle.sets.proofs.rebuild.SharedSegmentCacheBuilder.plan_room.Reads as reads
-use Rattle.sets.proofs.rebuild.SharedSegmentCacheBuilder.plan_room.Lts as lts
-use Rattle.index.proofs.build.find_empty_build_slot.Reads as find-empty-build-slot-reads
-use Rattle.sets.proofs.kept.KeptSegments.retained.Reads as retained-reads
-use Rattle.sets.proofs.rebuild_questions.record_fits.Reads as record-fits-reads
 
--- src/rebuild_questions.rt:243:33
 add-rest : tie.Need-add-rest
 add-rest c = search needs
 
--- src/rebuild_questions.rt:243:20
 sub-rest : tie.Need-sub-rest
 sub-rest c = search needs
 
--- src/rebuild_questions.rt:244:13
 record-fits-requires : tie.Need-record-fits-requires
 record-fits-requires c κs = search needs
 
--- src/rebuild_questions.rt:245:13
 returns : tie.Need-returns
 unfolding planRoom askRoom
 returns c =
     let a = c .before .before .before .before .before .args in
     rw (room (filledIn (a .self)) (copiedSize (a .self) (a .key-bytes) (a .value-bytes)) (a .arena-len) (c .before .before .before .before .before .pre) ∙ sym (c .before .record-fits .ensures) ∙ not-true (c .before .record-fits .result) (c .if1 .taken))
 
--- src/rebuild_questions.rt:248:12
 retained-requires : tie.Need-retained-requires
 retained-requires c κs = search needs
 
--- src/rebuild_questions.rt:249:13
 returns-2 : tie.Need-returns-2
 unfolding planRoom askRoom
 returns-2 c =
@@ -49,23 +38,18 @@ returns-2 c =
     let n : 256 ≤ retained (a .self .kept) = omega (arith, c .if2 .taken, c .before .retained .ensures) in
     rw (room (filledIn (a .self)) (copiedSize (a .self) (a .key-bytes) (a .value-bytes)) (a .arena-len) (c .before .before .before .before .before .before .before .before .pre) ∙ sym (record-fits .ensures) ∙ not-false (record-fits .result) (if1 .left), le-ltb _ _ n)
 
--- src/rebuild_questions.rt:251:13
 find-empty-build-slot-requires : tie.Need-find-empty-build-slot-requires
 find-empty-build-slot-requires c κs = search needs
 
--- src
 enum-told : tie.Need-enum-told
 enum-told c = search needs
 
--- src
 enum-told-2 : tie.Need-enum-told-2
 enum-told-2 c = search needs
 
--- src
 enum-known-slot : tie.Need-enum-known-slot
 enum-known-slot c = search needs
 
--- src
 returns-3 : tie.Need-returns-3
 unfolding planRoom askRoom
 returns-3 c =
@@ -78,7 +62,6 @@ returns-3 c =
     let n : retained (a .self .kept) < 256 = omega (arith, if2 .left, counted .ensures) in
     rw (room (filledIn (a .self)) (copiedSize (a .self) (a .key-bytes) (a .value-bytes)) (a .arena-len) (c .before .before .before .before .before .before .before .before .before .before .before .pre) ∙ sym (record-fits .ensures) ∙ not-false (record-fits .result) (if1 .left), lt-ltb _ _ n, sym (find-empty-build-slot .ensures) ∙ c .enum-told .given .1)
 
--- src
 returns-4 : tie.Need-returns-4
 unfolding planRoom askRoom
 returns-4 c =
@@ -91,7 +74,6 @@ returns-4 c =
     let n : retained (a .self .kept) < 256 = omega (arith, if2 .left, counted .ensures) in
     rw (room (filledIn (a .self)) (copiedSize (a .self) (a .key-bytes) (a .value-bytes)) (a .arena-len) (c .before .before .before .before .before .before .before .before .before .before .before .pre) ∙ sym (record-fits .ensures) ∙ not-false (record-fits .result) (if1 .left), lt-ltb _ _ n, sym (find-empty-build-slot .ensures) ∙ c .enum-told2 .given .1)
 
--- src
 returns-5 : tie.Need-returns-5
 unfolding planRoom askRoom
 returns-5 c =

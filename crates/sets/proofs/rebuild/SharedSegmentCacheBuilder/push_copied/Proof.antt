@@ -1,9 +1,7 @@
 -- `push_copied` meets its contract. Assumes nothing.
-use mathlib.Core.Path.{_≡_, refl, sym, ap, ap₂, _∙_}
-use borrow.Author.Tests.{lt-ltb, le-ltb, le-leb, lt-leb, eq-eqb, ne-eqb, not-true, not-false}
-use Prim.Native.Nat.{ℕ, _+_, _-_, _*_, _/_, _%_, _^_, _≤_, _<_}
+use mathlib.Core.Path.{sym, ap, _∙_}
 use native.Mathlib.Omega.{arith}
-use lib.ListN.{length, set, getD}
+use lib.ListN.{length}
 use Rattle.hash_parts.specs.Error.{errorNumber}
 use Rattle.index.specs.declared.build.BuildSlot.the-variants.{Empty}
 use Rattle.sets.specs.Build.{planned}
@@ -16,24 +14,16 @@ use Rattle.sets.proofs.RebuildSteps.{copied-placed, copied-refused}
 use borrow.Author.Needs.{needs}
 use Rattle.sets.proofs.rebuild.SharedSegmentCacheBuilder.push_copied.Statement.{statement}
 use Rattle.sets.proofs.rebuild.SharedSegmentCacheBuilder.push_copied.Tie as tie
-use Rattle.sets.proofs.rebuild.SharedSegmentCacheBuilder.push_copied.Reads as reads
-use Rattle.sets.proofs.rebuild.SharedSegmentCacheBuilder.push_copied.Lts as lts
-use Rattle.sets.proofs.rebuild.SharedSegmentCacheBuilder.copied_at.Reads as copied-at-reads
-use Rattle.sets.proofs.rebuild.SharedSegmentCacheBuilder.plan_copied.Reads as plan-copied-reads
 
--- src/rebuild.rt:193:15
 plan-copied-requires : tie.Need-plan-copied-requires
 plan-copied-requires c κs = search needs
 
--- src/rebuild.rt:204:31
 enum-known-refusal : tie.Need-enum-known-refusal
 enum-known-refusal c = search needs
 
--- src/rebuild.rt:208:29
 enum-known-slot : tie.Need-enum-known-slot
 enum-known-slot c = search needs
 
--- src/rebuild.rt:209:17
 copied-at-requires : tie.Need-copied-at-requires
 copied-at-requires c κs =
     let a = c .before .before .before .before .before .before .before .before .before .before .before .before .before .before .before .args in
@@ -46,11 +36,9 @@ copied-at-requires c κs =
     let s = found-below _ (a .index .now) (a .self .«bucket_count») (a .hash) (slot .given .0 .0) (c .before .before .before .before .before .before .before .before .before .before .before .before .before .before .before .fits .hash .fits) (q .place ∙ ap Empty (p .1)) in
     (q .fits, q .areas .arena-short, q .room, omega (arith, q .areas .index-holds, s), q .announced, omega (arith, n .key-bytes, n .announced, r), omega (arith, n .value-bytes, n .announced, r), omega (arith, n .header-bytes, n .announced, r))
 
--- src/rebuild.rt:179:5
 same-length : tie.Need-same-length
 same-length c = search needs
 
--- src/rebuild.rt:179:5
 returns : tie.Need-returns
 unfolding afterCopied
 returns c =
@@ -59,19 +47,15 @@ returns c =
     let p = copied-refused (a .self) (a .hash) (length (a .key .now)) (length (a .value .now)) (a .ttl) (a .index .now) (length (a .filter .now)) (a .starts .now) (a .lengths .now) (length (a .arena .now)) (errorNumber (c .before .refusal .given .0 .0)) (sym (plan-copied .ensures) ∙ ap planned (c .before .refusal .given .1)) in
     rw p (sym (decided-refused (c .before .refusal .given .0 .0) _ _))
 
--- src/rebuild.rt:179:5
 same-length-2 : tie.Need-same-length-2
 same-length-2 c = search needs
 
--- src/rebuild.rt:179:5
 same-length-3 : tie.Need-same-length-3
 same-length-3 c = search needs
 
--- src/rebuild.rt:179:5
 same-length-4 : tie.Need-same-length-4
 same-length-4 c = search needs
 
--- src/rebuild.rt:179:5
 returns-2 : tie.Need-returns-2
 unfolding afterCopied
 returns-2 c =

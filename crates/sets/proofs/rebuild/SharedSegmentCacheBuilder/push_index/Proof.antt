@@ -1,48 +1,33 @@
 -- `push_index` meets its contract. Assumes nothing.
-use mathlib.Core.Path.{_≡_, refl, sym, ap, ap₂, _∙_}
-use borrow.Author.Tests.{lt-ltb, le-ltb, le-leb, lt-leb, eq-eqb, ne-eqb, not-true, not-false}
-use Prim.Native.Nat.{ℕ, _+_, _-_, _*_, _/_, _%_, _^_, _≤_, _<_}
-use native.Mathlib.Omega.{arith}
-use lib.ListN.{length, set, getD}
+use mathlib.Core.Path.{ap, _∙_}
+use Prim.Native.Nat.{ℕ}
+use lib.ListN.{set}
 use Rattle.index.specs.Word.{wordOf}
 use borrow.Author.Needs.{needs}
 use Rattle.sets.proofs.rebuild.SharedSegmentCacheBuilder.push_index.Statement.{statement}
 use Rattle.sets.proofs.rebuild.SharedSegmentCacheBuilder.push_index.Tie as tie
-use Rattle.sets.proofs.rebuild.SharedSegmentCacheBuilder.push_index.Reads as reads
-use Rattle.sets.proofs.rebuild.SharedSegmentCacheBuilder.push_index.Lts as lts
-use Rattle.hash_parts.proofs.hash.hash_tag.Reads as hash-tag-reads
-use Rattle.index.proofs.filter.mark_displaced.Reads as mark-displaced-reads
-use Rattle.index.proofs.word.encode_index_word.Reads as encode-index-word-reads
 
--- src/rebuild.rt:314:41
 hash-tag-requires : tie.Need-hash-tag-requires
 hash-tag-requires c κs = search needs
 
--- src/rebuild.rt:314:23
 encode-index-word-requires : tie.Need-encode-index-word-requires
 encode-index-word-requires c κs = search needs
 
--- src/rebuild.rt:314:9
 mul-index : tie.Need-mul-index
 mul-index c = search needs
 
--- src/rebuild.rt:314:9
 slice-write-index : tie.Need-slice-write-index
 slice-write-index c = search needs
 
--- src/rebuild.rt:315:9
 mark-displaced-requires : tie.Need-mark-displaced-requires
 mark-displaced-requires c κs = search needs
 
--- src/rebuild.rt:303:5
 same-length : tie.Need-same-length
 same-length c = search needs
 
--- src/rebuild.rt:303:5
 same-length-2 : tie.Need-same-length-2
 same-length-2 c = search needs
 
--- src/rebuild.rt:303:5
 returns : tie.Need-returns
 returns c =
     let a = c .before .before .before .before .before .before .before .before .args in

@@ -1,9 +1,8 @@
 -- `push_reused` meets its contract. Assumes nothing.
-use mathlib.Core.Path.{_≡_, refl, sym, ap, ap₂, _∙_}
-use borrow.Author.Tests.{lt-ltb, le-ltb, le-leb, lt-leb, eq-eqb, ne-eqb, not-true, not-false}
-use Prim.Native.Nat.{ℕ, _+_, _-_, _*_, _/_, _%_, _^_, _≤_, _<_}
+use mathlib.Core.Path.{sym, ap, _∙_}
+use Prim.Native.Nat.{_+_}
 use native.Mathlib.Omega.{arith}
-use lib.ListN.{length, set, getD}
+use lib.ListN.{length}
 use Rattle.hash_parts.specs.Error.{errorNumber}
 use Rattle.index.specs.declared.build.BuildSlot.the-variants.{Empty}
 use Rattle.sets.specs.Rebuild.{afterReused, keptView, movedLocation}
@@ -17,24 +16,16 @@ use Rattle.sets.proofs.RebuildSteps.{reused-placed, reused-refused}
 use borrow.Author.Needs.{needs}
 use Rattle.sets.proofs.rebuild.SharedSegmentCacheBuilder.push_reused.Statement.{statement}
 use Rattle.sets.proofs.rebuild.SharedSegmentCacheBuilder.push_reused.Tie as tie
-use Rattle.sets.proofs.rebuild.SharedSegmentCacheBuilder.push_reused.Reads as reads
-use Rattle.sets.proofs.rebuild.SharedSegmentCacheBuilder.push_reused.Lts as lts
-use Rattle.sets.proofs.rebuild.SharedSegmentCacheBuilder.plan_reused.Reads as plan-reused-reads
-use Rattle.sets.proofs.rebuild.SharedSegmentCacheBuilder.reused_at.Reads as reused-at-reads
 
--- src/rebuild.rt:155:15
 plan-reused-requires : tie.Need-plan-reused-requires
 plan-reused-requires c κs = search needs
 
--- src/rebuild.rt:166:31
 enum-known-refusal : tie.Need-enum-known-refusal
 enum-known-refusal c = search needs
 
--- src/rebuild.rt:170:28
 enum-known-slot : tie.Need-enum-known-slot
 enum-known-slot c = search needs
 
--- src/rebuild.rt:171:17
 reused-at-requires : tie.Need-reused-at-requires
 reused-at-requires c κs =
     let a = c .before .before .before .before .before .before .before .before .before .before .before .before .before .before .args in
@@ -49,11 +40,9 @@ reused-at-requires c κs =
     let short = q .areas .arena-short in
     (q .kept, omega (arith, q .areas .index-holds, s), q .announced, omega (arith, n .key-bytes, n .announced, r, shown, short), omega (arith, n .value-bytes, n .announced, r, shown, short), omega (arith, n .header-bytes, n .announced, r, shown, short))
 
--- src/rebuild.rt:141:5
 same-length : tie.Need-same-length
 same-length c = search needs
 
--- src/rebuild.rt:141:5
 returns : tie.Need-returns
 unfolding afterReused
 returns c =
@@ -62,15 +51,12 @@ returns c =
     let p = reused-refused (a .self) (a .hash) (a .key .now) (a .value .now) (a .source) (a .index .now) (length (a .filter .now)) (a .starts .now) (a .lengths .now) (a .arena .now) (errorNumber (c .before .refusal .given .0 .0)) (sym (plan-reused .ensures) ∙ ap slotPlanned (c .before .refusal .given .1)) in
     rw p (sym (decided-refused (c .before .refusal .given .0 .0) _ _))
 
--- src/rebuild.rt:141:5
 same-length-2 : tie.Need-same-length-2
 same-length-2 c = search needs
 
--- src/rebuild.rt:141:5
 same-length-3 : tie.Need-same-length-3
 same-length-3 c = search needs
 
--- src/rebuild.rt:141:5
 returns-2 : tie.Need-returns-2
 unfolding afterReused
 returns-2 c =

@@ -1,39 +1,25 @@
 -- `reused_at` meets its contract. Assumes nothing.
-use mathlib.Core.Path.{_≡_, refl, sym, ap, ap₂, _∙_}
-use borrow.Author.Tests.{lt-ltb, le-ltb, le-leb, lt-leb, eq-eqb, ne-eqb, not-true, not-false}
-use Prim.Native.Nat.{ℕ, _+_, _-_, _*_, _/_, _%_, _^_, _≤_, _<_}
 use native.Mathlib.Omega.{arith}
 use Rattle.sets.proofs.RebuildSteps.{reused-left}
 use borrow.Author.Needs.{needs}
 use Rattle.sets.proofs.rebuild.SharedSegmentCacheBuilder.reused_at.Statement.{statement}
 use Rattle.sets.proofs.rebuild.SharedSegmentCacheBuilder.reused_at.Tie as tie
-use Rattle.sets.proofs.rebuild.SharedSegmentCacheBuilder.reused_at.Reads as reads
-use Rattle.sets.proofs.rebuild.SharedSegmentCacheBuilder.reused_at.Lts as lts
-use Rattle.sets.proofs.rebuild.SharedSegmentCacheBuilder.moved_location.Reads as moved-location-reads
-use Rattle.sets.proofs.rebuild.SharedSegmentCacheBuilder.push_index.Reads as push-index-reads
-use Rattle.sets.proofs.rebuild.SharedSegmentCacheBuilder.reused_grown.Reads as reused-grown-reads
 
--- src/rebuild.rt:256:13
 moved-location-requires : tie.Need-moved-location-requires
 moved-location-requires c κs = c .before .before .pre .0
 
--- src/rebuild.rt:257:9
 push-index-requires : tie.Need-push-index-requires
 push-index-requires c κs = search needs
 
--- src/rebuild.rt:259:22
 reused-grown-requires : tie.Need-reused-grown-requires
 reused-grown-requires c κs = omega arith
 
--- src/rebuild.rt:243:5
 same-length : tie.Need-same-length
 same-length c = search needs
 
--- src/rebuild.rt:243:5
 same-length-2 : tie.Need-same-length-2
 same-length-2 c = search needs
 
--- src/rebuild.rt:243:5
 returns : tie.Need-returns
 returns c =
     let a = c .before .before .before .before .before .before .before .before .before .before .before .args in

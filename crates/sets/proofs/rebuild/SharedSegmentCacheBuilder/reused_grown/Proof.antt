@@ -1,49 +1,35 @@
 -- `reused_grown` meets its contract. Assumes nothing.
-use mathlib.Core.Path.{_≡_, refl, sym, ap, ap₂, _∙_}
-use borrow.Author.Tests.{lt-ltb, le-ltb, le-leb, lt-leb, eq-eqb, ne-eqb, not-true, not-false}
-use Prim.Native.Nat.{ℕ, _+_, _-_, _*_, _/_, _%_, _^_, _≤_, _<_}
-use native.Mathlib.Omega.{arith}
+use mathlib.Core.Path.{ap, _∙_}
+use Prim.Native.Nat.{ℕ, _+_, _%_, _^_}
 use Rattle.sets.proofs.RebuildSteps.{wraps}
 use borrow.Author.Needs.{needs}
 use Rattle.sets.proofs.rebuild.SharedSegmentCacheBuilder.reused_grown.Statement.{statement}
 use Rattle.sets.proofs.rebuild.SharedSegmentCacheBuilder.reused_grown.Tie as tie
-use Rattle.sets.proofs.rebuild.SharedSegmentCacheBuilder.reused_grown.Reads as reads
-use Rattle.sets.proofs.rebuild.SharedSegmentCacheBuilder.reused_grown.Lts as lts
-use Rattle.sets.proofs.stats.wrapping_sum.Reads as wrapping-sum-reads
 
--- src/rebuild.rt:324:13
 wrapping-sum-requires : tie.Need-wrapping-sum-requires
 wrapping-sum-requires c κs = search needs
 
--- src/rebuild.rt:325:13
 wrapping-sum-requires-2 : tie.Need-wrapping-sum-requires-2
 wrapping-sum-requires-2 c κs = search needs
 
--- src/rebuild.rt:327:31
 add-t7 : tie.Need-add-t7
 add-t7 c = search needs
 
--- src/rebuild.rt:328:32
 add-t8 : tie.Need-add-t8
 add-t8 c = search needs
 
--- src/rebuild.rt:329:34
 add-t9 : tie.Need-add-t9
 add-t9 c = search needs
 
--- src/rebuild.rt:330:34
 add-t10 : tie.Need-add-t10
 add-t10 c = search needs
 
--- src/rebuild.rt:331:29
 wrapping-sum-requires-3 : tie.Need-wrapping-sum-requires-3
 wrapping-sum-requires-3 c κs = search needs
 
--- src/rebuild.rt:332:34
 wrapping-sum-requires-4 : tie.Need-wrapping-sum-requires-4
 wrapping-sum-requires-4 c κs = search needs
 
--- src/rebuild.rt:320:5
 returns : tie.Need-returns
 returns c =
     let a = c .before .before .before .before .before .before .before .before .before .before .args in

@@ -1,9 +1,7 @@
 -- `try_new` meets its contract. Assumes nothing.
-use mathlib.Core.Path.{_≡_, refl, sym, ap, ap₂, _∙_}
-use borrow.Author.Tests.{lt-ltb, le-ltb, le-leb, lt-leb, eq-eqb, ne-eqb, not-true, not-false}
-use Prim.Native.Nat.{ℕ, _+_, _-_, _*_, _/_, _%_, _^_, _≤_, _<_}
+use mathlib.Core.Path.{_≡_, sym, ap, _∙_}
 use native.Mathlib.Omega.{arith}
-use lib.ListN.{length, set, getD}
+use lib.ListN.{length}
 use Rattle.index.specs.Segments.{padded, replaced}
 use Rattle.sets.specs.Kept.{chosen}
 use Rattle.sets.specs.Questions.{bucketsIn, checkNumber}
@@ -16,22 +14,13 @@ use Rattle.sets.proofs.RebuildSteps.{reopen-left}
 use borrow.Author.Needs.{needs}
 use Rattle.sets.proofs.rebuild.SharedSegmentCacheBuilder.try_new.Statement.{statement}
 use Rattle.sets.proofs.rebuild.SharedSegmentCacheBuilder.try_new.Tie as tie
-use Rattle.sets.proofs.rebuild.SharedSegmentCacheBuilder.try_new.Reads as reads
-use Rattle.sets.proofs.rebuild.SharedSegmentCacheBuilder.try_new.Lts as lts
-use Rattle.index.proofs.build.clear_words.Reads as clear-words-reads
-use Rattle.sets.proofs.rebuild.keep_words.Reads as keep-words-reads
-use Rattle.sets.proofs.rebuild.opened_rebuild.Reads as opened-rebuild-reads
-use Rattle.sets.proofs.rebuild_questions.check_rebuild_open.Reads as check-rebuild-open-reads
 
--- src/rebuild.rt:119:42
 check-rebuild-open-requires : tie.Need-check-rebuild-open-requires
 check-rebuild-open-requires c κs = search needs
 
--- src/rebuild.rt:119:31
 enum-known-refusal : tie.Need-enum-known-refusal
 enum-known-refusal c = search needs
 
--- src/rebuild.rt:132:13
 returns : tie.Need-returns
 unfolding afterRebuildOpen
 returns c =
@@ -41,7 +30,6 @@ returns c =
 enum-told : tie.Need-enum-told
 enum-told c = search needs
 
--- src/rebuild.rt:134:13
 opened-rebuild-requires : tie.Need-opened-rebuild-requires
 opened-rebuild-requires c κs =
     let a = c .before .before .before .before .before .before .before .before .before .before .before .args in
@@ -49,7 +37,6 @@ opened-rebuild-requires c κs =
     let q = reopen-asked (a .source) (a .source-starts .now) (a .source-lengths .now) (length (a .arena .now)) (a .entry-count) (a .copied-record-capacity) (a .used-source-segments .now) (length (a .index .now)) (length (a .filter .now)) (length (a .starts .now)) (length (a .lengths .now)) (sym (check-rebuild-open .ensures) ∙ ap checkNumber (c .enum-told .given .1)) in
     counts-records _ _ _ _ (q .counts)
 
--- src/rebuild.rt:135:28
 mul-clear-words : tie.Need-mul-clear-words
 mul-clear-words c =
     let a = c .before .before .before .before .before .before .before .before .before .before .before .before .before .before .args in
@@ -60,15 +47,12 @@ mul-clear-words c =
     let n : opened-rebuild .result .«bucket_count» ≡ bucketsIn (a .source .config) (a .entry-count) = ap (λ (b : SharedSegmentCacheBuilder). b .«bucket_count») (opened-rebuild .ensures) in
     omega (arith, n, q .index-holds, c .before .before .before .before .before .before .before .before .before .before .before .before .before .before .good .1 .1 .1 .1 .1 .1 .1 .1 .0 .1)
 
--- src/rebuild.rt:135:9
 clear-words-requires : tie.Need-clear-words-requires
 clear-words-requires c κs = search needs
 
--- src/rebuild.rt:136:9
 clear-words-requires-2 : tie.Need-clear-words-requires-2
 clear-words-requires-2 c κs = search needs
 
--- src/rebuild.rt:137:9
 keep-words-requires : tie.Need-keep-words-requires
 keep-words-requires c κs =
     let a = c .before .before .before .before .before .before .before .before .before .before .before .before .before .before .before .before .before .before .before .before .before .before .args in
@@ -77,7 +61,6 @@ keep-words-requires c κs =
     let q = reopen-asked (a .source) (a .source-starts .now) (a .source-lengths .now) (length (a .arena .now)) (a .entry-count) (a .copied-record-capacity) (a .used-source-segments .now) (length (a .index .now)) (length (a .filter .now)) (length (a .starts .now)) (length (a .lengths .now)) (sym (check-rebuild-open .ensures) ∙ ap checkNumber (enum-told .given .1)) in
     (omega (arith, q .same-count, q .areas .few, q .areas .starts-hold), omega (arith, q .same-count, q .areas .few), q .starts-hold)
 
--- src/rebuild.rt:138:9
 keep-words-requires-2 : tie.Need-keep-words-requires-2
 keep-words-requires-2 c κs =
     let a = c .before .before .before .before .before .before .before .before .before .before .before .before .before .before .before .before .before .before .before .before .before .before .before .before .before .before .args in
@@ -86,23 +69,18 @@ keep-words-requires-2 c κs =
     let q = reopen-asked (a .source) (a .source-starts .now) (a .source-lengths .now) (length (a .arena .now)) (a .entry-count) (a .copied-record-capacity) (a .used-source-segments .now) (length (a .index .now)) (length (a .filter .now)) (length (a .starts .now)) (length (a .lengths .now)) (sym (check-rebuild-open .ensures) ∙ ap checkNumber (enum-told .given .1)) in
     (omega (arith, q .same-count, q .areas .few, q .areas .lengths-hold), omega (arith, q .same-count, q .areas .few), q .lengths-hold)
 
--- src/rebuild.rt:103:5
 same-length : tie.Need-same-length
 same-length c = search needs
 
--- src/rebuild.rt:103:5
 same-length-2 : tie.Need-same-length-2
 same-length-2 c = search needs
 
--- src/rebuild.rt:103:5
 same-length-3 : tie.Need-same-length-3
 same-length-3 c = search needs
 
--- src/rebuild.rt:103:5
 same-length-4 : tie.Need-same-length-4
 same-length-4 c = search needs
 
--- src/rebuild.rt:103:5
 returns-2 : tie.Need-returns-2
 unfolding afterRebuildOpen
 returns-2 c =
