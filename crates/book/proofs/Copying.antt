@@ -3,9 +3,9 @@ use mathlib.Core.Path.{_≡_, refl, sym, ap, _∙_}
 use mathlib.Core.Bool.{true}
 use mathlib.Core.List.{List, _++_}
 use mathlib.Core.Option.{some}
-use Prim.Native.Nat.{ℕ, _+_, _-_, _*_, _^_, _≤_, _<_}
+use Prim.Native.Nat.{ℕ, _+_, _-_, _^_, _≤_, _<_}
 use native.Mathlib.Omega.{arith}
-use lib.ListN.{length, take, set, length-append}
+use lib.ListN.{length, set, length-append}
 use lib.Seq.{take-at}
 use Rattle.hash_parts.specs.Hash.{tagOf}
 use Rattle.hash_parts.specs.declared.setting.SegmentExpiry.{SegmentExpiry}
@@ -24,7 +24,6 @@ use Rattle.sets.specs.declared.rebuild.SharedSegmentCacheBuilder.{SharedSegment
 use Rattle.sets.proofs.RebuildClosure.{rebuildPasses}
 use Rattle.book.specs.Book.{Entry, Book, joined}
 use Rattle.book.specs.World.{Areas}
-use Rattle.book.proofs.Keys.{storedOf}
 use Rattle.book.proofs.Relation.{Rests, rests-kept, rests-copied, RebuildHolds}
 use Rattle.book.proofs.Standing.{written-on, written-new}
 

@@ -12,10 +12,8 @@ use lib.ListN.{length, take, set, getD, length-set}
 use lib.Seq.{getD-set-same, getD-set-other, length-take-le, take-suc-set}
 use borrow.Author.Tests.{eq-eqb, eqb-true, eqb-false, ne-eqb, lt-ltb, le-ltb}
 use Rattle.hash_parts.specs.Choice.{pick}
-use Rattle.hash_parts.specs.declared.setting.SegmentExpiry.{SegmentExpiry}
 use Rattle.records.specs.Area.{part}
 use Rattle.records.specs.Record.{storedAt}
-use Rattle.index.specs.Packed.{packedIndex}
 use Rattle.index.specs.View.{isSegment, storedIn}
 use Rattle.index.specs.declared.view.SegmentView.{SegmentView}
 use Rattle.index.proofs.Entries.{reheld}
@@ -189,8 +187,7 @@ module _ (H : List ℕ → ℕ) where
 
       news : (t : Bool) → addsSegment r ≡ t → base < length (k .tape) → (n < N t) × (getD (S t) n 0 ≡ base) × (getD (L t) n 0 ≡ length (k .tape) - base)
       news true q h =
-          let rest : copied ≡ length (k .tape) - base = omega (arith, ok .filled) in
-          (
+          let rest : copied ≡ length (k .tape) - base = omega (arith, ok .filled) in (
             omega arith,
             getD-set-same (a .starts) n base 0 (omega (arith, few true q, asked .areas .starts-hold)),
             getD-set-same (a .lengths) n copied 0 (omega (arith, few true q, asked .areas .lengths-hold)) ∙ rest,

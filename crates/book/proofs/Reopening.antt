@@ -1,9 +1,9 @@
 -- An accepted rebuild open: the rebuild stands for an empty list, and its kept segments are those of the newest set. Assumes nothing.
 use mathlib.Core.Path.{_≡_, refl, sym, ap, _∙_}
-use mathlib.Core.Bool.{Bool, true, false, not}
+use mathlib.Core.Bool.{true, not}
 use mathlib.Core.List.{List, [], _∷_}
-use mathlib.Core.Option.{Option, some}
-use Prim.Native.Nat.{ℕ, zero, suc, _+_, _*_, _≤_, _<_}
+use mathlib.Core.Option.{some}
+use Prim.Native.Nat.{ℕ, zero, suc, _*_, _≤_, _<_}
 use native.Mathlib.Omega.{arith}
 use lib.Dec.{eqb}
 use lib.ListN.{length, take, getD}
@@ -14,7 +14,7 @@ use Rattle.index.specs.Segments.{padded, replaced}
 use Rattle.index.proofs.Filling.{filled-back}
 use Rattle.index.proofs.Kept.{cleared-indexed}
 use Rattle.index.proofs.Table.{true≢false}
-use Rattle.sets.specs.Kept.{chosen, isKept, keptCount, keptOf, newNumber, retained}
+use Rattle.sets.specs.Kept.{chosen, isKept, keptCount, keptOf, newNumber}
 use Rattle.sets.specs.Questions.{bucketsIn, filterWordsIn}
 use Rattle.sets.specs.Rebuild.{rebuildOpened}
 use Rattle.sets.proofs.KeptBits.{chosen-length, chosen-at, is-kept-flag, number-below, number-kept, retained-kept}
