@@ -47,11 +47,11 @@ module _ (H : List ℕ → ℕ) where
     cut-memory : take (length (take top (k .tape))) (w .arena) ≡ take top (k .tape)
     cut-memory = ap (λ (n : ℕ). take n (w .arena)) cut ∙ sym (take-take top (length (k .tape)) (w .arena) (m .top)) ∙ ap (take top) (m .memory)
 
-    opened-holds : {o : Option FinishedSet} {p : Option ListedSet} → newest (w .sets) ≡ o → newest (k .sets) ≡ p → Both (SetHolds H (k .expiry) (w .arena) top) o p
+    opened-holds : {o : Option FinishedSet} {p : Option ListedSet} → newest (k .sets) ≡ p → Both (SetHolds H (k .expiry) (w .arena) top) o p
         → Holds H (reopenStep w o records copied flags tick index filter starts lengths .after)
         (heard k (reopen records copied flags tick tt tt tt tt, reopenStep w o records copied flags tick index filter starts lengths .accepted))
-    opened-holds e f both-none = m
-    opened-holds e f (both-some {a = s} {b = l} ok) =
+    opened-holds f both-none = m
+    opened-holds f (both-some {a = s} {b = l} ok) =
         go (reopen-case (s .cache) (s .areas .starts) (s .areas .lengths) (w .arena) records copied flags tick index filter starts lengths)
         (reopen-passes (s .cache) (s .areas .starts) (s .areas .lengths) (w .arena) records copied flags tick index filter starts lengths)
       where
@@ -71,7 +71,7 @@ module _ (H : List ℕ → ℕ) where
 
     pub reopen-holds : Holds H (reopenStep w (newest (w .sets)) records copied flags tick index filter starts lengths .after)
         (heard k (reopen records copied flags tick tt tt tt tt, reopenStep w (newest (w .sets)) records copied flags tick index filter starts lengths .accepted))
-    reopen-holds = opened-holds refl refl (pairs-newest (m .sets))
+    reopen-holds = opened-holds refl (pairs-newest (m .sets))
 
   -- ---- reused push
 
