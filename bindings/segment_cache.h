@@ -61,6 +61,8 @@
  *                     lengths, 256, arena, 4096, span, 3);       // span 1, 5, 2: arena[5..7) is "AB"
  *   segment_cache_get(set, 15, 1, (const uint8_t *)"a", 1, 10, index, 8, filter, 0, starts, 256,
  *                     lengths, 256, arena, 4096, span, 3);       // span 0, 0, 0: lapsed
+ *   segment_cache_get(set, 15, 2, (const uint8_t *)"b", 1, 70000, index, 8, filter, 0, starts, 256,
+ *                     lengths, 256, arena, 4096, span, 3);       // span 1, 12, 0: an empty value
  */
 #ifndef SEGMENT_CACHE_H
 #define SEGMENT_CACHE_H
