@@ -133,7 +133,8 @@ impl<'a> Rebuild<'a> {
         Ok(Placed::of_words(placed))
     }
 
-    /// Appends a record; its lifetime counts from the plan's tick.
+    /// Appends a record; its lifetime counts from the plan's tick. Of a record that stands in the arena
+    /// take key and value out before the rebuild is opened.
     pub fn push_copied(
         &mut self,
         hash: u64,
