@@ -4,8 +4,8 @@ use crate::calls::{
     total,
 };
 use crate::measure::{Measured, each, rounds};
-use crate::port::TARGET;
-use crate::records::Shape;
+use crate::port::{Port, TARGET};
+use crate::records::{Record, Shape};
 use crate::rng::Rng;
 use std::ops::RangeInclusive;
 
@@ -70,18 +70,24 @@ fn point(rng: &mut Rng, shape: Shape, count: usize) -> Point {
         || total(times, || rust_build(shape, records)),
         || total(times, || port_build(port, records, TARGET)),
     );
-    let target = (count * shape.record_bytes()).div_ceil(SEGMENTS);
-    let mut build = || total(times, || port_build(port, records, target));
-    let finishes = (0..turns).map(|_| build()[1].0);
-    let shortest = finishes.min().expect("a round");
+    let finish_segments = finish_in_segments(port, records);
     Point {
         records: count,
         get: pair(&get, asks),
         push: pair(&push, times * count),
         walk: pair(&walk, times * count),
         finish: pair(&finish, times * slots),
-        finish_segments: each(shortest, times * slots),
+        finish_segments,
     }
+}
+
+// A slot of the port's finish, the best of as many rounds.
+fn finish_in_segments(port: &mut Port, records: &[Record]) -> f64 {
+    let (times, slots) = (repeats(records.len()), port.areas.index.len());
+    let target = (records.len() * port.shape.record_bytes()).div_ceil(SEGMENTS);
+    let finish = |_| total(times, || port_build(port, records, target))[1].0;
+    let shortest = (0..rounds_for(records.len())).map(finish).min();
+    each(shortest.expect("a round"), times * slots)
 }
 
 pub fn print(layout: &str, points: &[Point]) {
