@@ -1,7 +1,6 @@
 /*
  * A frozen set of keyed records with lapse times: filled once, frozen, asked many times, rebuilt from
- * itself. Link with libcapi.a. C99 or C++, 64-bit targets. Define SEGMENT_CACHE_REBUILD before the
- * include if the library has the rebuild calls.
+ * itself. Link with libcapi.a. C99 or C++, 64-bit targets.
  *
  * The library allocates nothing, keeps nothing between calls and has no clock and no hash function.
  * The caller owns all memory and lends it to each call; the hash of a key and the present tick are
@@ -173,8 +172,6 @@ uint64_t segment_cache_index_load_bps(const uint64_t *stats, size_t stats_len, u
    the arena, so that older sets can be asked at any time. The new set has areas of its own. Duplicate
    keys are accepted: the first one pushed counts. */
 
-#ifdef SEGMENT_CACHE_REBUILD
-
 /* The number SEGMENT_CACHE_REBUILD_WORDS of the library linked. */
 size_t segment_cache_rebuild_words(void);
 
@@ -223,34 +220,6 @@ uint64_t segment_cache_rebuild_finish(const uint64_t *rebuild, size_t rebuild_le
    1, 2, 3, as of open. */
 uint64_t segment_cache_area_words(const uint64_t *setting, size_t setting_len, size_t records,
                                   uint64_t *words, size_t words_len);
-
-#else
-
-/* A library without rebuilds lacks this call too; it is defined here alike. */
-static inline uint64_t segment_cache_area_words(const uint64_t *setting, size_t setting_len,
-                                                size_t records, uint64_t *words,
-                                                size_t words_len) {
-    if (setting_len != SEGMENT_CACHE_SETTING_WORDS || words_len != SEGMENT_CACHE_AREA_WORDS)
-        return SEGMENT_CACHE_INVALID_STATE;
-    uint64_t expiry = setting[SEGMENT_CACHE_SETTING_EXPIRY];
-    uint64_t seconds = setting[SEGMENT_CACHE_SETTING_TICK_SECONDS];
-    uint64_t nanoseconds = setting[SEGMENT_CACHE_SETTING_TICK_NANOSECONDS];
-    uint64_t occupancy = setting[SEGMENT_CACHE_SETTING_OCCUPANCY];
-    uint64_t filter_bits = setting[SEGMENT_CACHE_SETTING_FILTER_BITS];
-    if (expiry && nanoseconds >= 1000000000) return SEGMENT_CACHE_INVALID_NANOSECONDS;
-    if (occupancy < 1 || occupancy > 7) return SEGMENT_CACHE_INVALID_BUCKET_OCCUPANCY;
-    if (expiry && seconds == 0 && nanoseconds == 0) return SEGMENT_CACHE_ZERO_EXPIRY_TICK;
-    if (records > SEGMENT_CACHE_MAX_RECORDS) return SEGMENT_CACHE_CAPACITY_OVERFLOW;
-    uint64_t buckets = records == 0 ? 1 : (records + occupancy - 1) / occupancy;
-    words[SEGMENT_CACHE_AREA_INDEX] = 8 * buckets;
-    words[SEGMENT_CACHE_AREA_FILTER] = (records * filter_bits + 63) / 64;
-    words[SEGMENT_CACHE_AREA_STARTS] = SEGMENT_CACHE_SEGMENT_WORDS;
-    words[SEGMENT_CACHE_AREA_LENGTHS] = SEGMENT_CACHE_SEGMENT_WORDS;
-    words[SEGMENT_CACHE_AREA_SCRATCH] = setting[SEGMENT_CACHE_SETTING_PACKED] ? buckets : 0;
-    return SEGMENT_CACHE_ACCEPTED;
-}
-
-#endif
 
 #ifdef __cplusplus
 }

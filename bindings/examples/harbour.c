@@ -167,7 +167,6 @@ static void count(const struct set *set) {
            (int)load[0] % 100);
 }
 
-#ifdef SEGMENT_CACHE_REBUILD
 /* After a new survey both depths are copied behind the filled part of the arena, the segment of the old
    ones is dropped, and the other records stay where they are. */
 static const struct note survey[2] = {
@@ -232,7 +231,6 @@ static void rebuild(const struct set *source, struct set *set, uint64_t tick) {
            (int)totals[SEGMENT_CACHE_TOTALS_REUSED_ENTRIES],
            (int)totals[SEGMENT_CACHE_TOTALS_COPIED_RECORD_BYTES]);
 }
-#endif
 
 int main(void) {
     static struct set first;
@@ -246,7 +244,6 @@ int main(void) {
     take_mark(&first, "Aurora");
     walk(&first, 30);
     count(&first);
-#ifdef SEGMENT_CACHE_REBUILD
     static struct set second;
     rebuild(&first, &second, 30);
     ask(&second, "second", "cell 1205", 59);
@@ -255,6 +252,5 @@ int main(void) {
     ask(&second, "second", "Aurora", 360);
     ask(&first, "first", "cell 1204", 31);
     walk(&second, 31);
-#endif
     return 0;
 }

@@ -115,7 +115,6 @@ fn count(set: &Set) -> Result<(), Refusal> {
 
 // After a new survey both depths are copied behind the filled part of the arena, the segment of the old
 // ones is dropped, and the other records stay where they are.
-#[cfg(feature = "rebuild")]
 fn rebuild(arena: &mut Arena, source: &Set, tick: u64) -> Result<Set, Refusal> {
     use segment_cache::{Place, Plan, Rebuild};
     let survey = [
@@ -152,7 +151,6 @@ fn rebuild(arena: &mut Arena, source: &Set, tick: u64) -> Result<Set, Refusal> {
     Ok(rebuilt.set)
 }
 
-#[cfg(feature = "rebuild")]
 fn rebuild_and_ask(arena: &mut Arena, first: &mut Set) -> Result<(), Refusal> {
     let mut second = rebuild(arena, first, 30)?;
     ask(&mut second, arena, "second", "cell 1205", 59)?;
@@ -175,7 +173,6 @@ fn main() -> Result<(), Refusal> {
     take_mark(&mut first, &arena, "Aurora")?;
     walk(&first, &arena, 30)?;
     count(&first)?;
-    #[cfg(feature = "rebuild")]
     rebuild_and_ask(&mut arena, &mut first)?;
     Ok(())
 }

@@ -1,4 +1,5 @@
 //! The areas of words that a set works in: how long they must be, and their memory.
+use crate::ffi::segment_cache_area_words;
 use crate::refusal::Refusal;
 use crate::setting::Setting;
 
@@ -34,7 +35,7 @@ impl AreaWords {
 
     pub(crate) fn of_setting_words(setting: &[u64], records: usize) -> Result<AreaWords, Refusal> {
         let mut words = [0; 5];
-        Refusal::check(area_words(setting, records, &mut words))?;
+        Refusal::check(segment_cache_area_words(setting, records, &mut words))?;
         let [index, filter, starts, lengths, scratch] = words.map(|count| count as usize);
         Ok(AreaWords {
             index,
@@ -44,33 +45,6 @@ impl AreaWords {
             scratch,
         })
     }
-}
-
-#[cfg(feature = "rebuild")]
-use crate::ffi::segment_cache_area_words as area_words;
-
-// A library without rebuilds lacks this call too; it is defined here alike.
-#[cfg(not(feature = "rebuild"))]
-fn area_words(setting: &[u64], records: usize, words: &mut [u64]) -> u64 {
-    let [expiry, seconds, nanoseconds, occupancy, packed, filter_bits] = *setting else {
-        return Refusal::InvalidState.number();
-    };
-    if expiry == 1 && nanoseconds >= 1_000_000_000 {
-        return Refusal::InvalidNanoseconds.number();
-    }
-    if !(1..=7).contains(&occupancy) {
-        return Refusal::InvalidBucketOccupancy.number();
-    }
-    if expiry == 1 && seconds == 0 && nanoseconds == 0 {
-        return Refusal::ZeroExpiryTick.number();
-    }
-    if records > 1_048_576 {
-        return Refusal::CapacityOverflow.number();
-    }
-    let buckets = (records as u64).div_ceil(occupancy).max(1);
-    let filter = (records as u64 * filter_bits).div_ceil(64);
-    words.copy_from_slice(&[8 * buckets, filter, 256, 256, buckets * packed]);
-    0
 }
 
 // A set's own areas. Nobody else can reach them, so that no two sets share one.

@@ -60,7 +60,6 @@ impl Arena {
     }
 
     // Whether a set is the newest in this arena.
-    #[cfg(feature = "rebuild")]
     pub(crate) fn is_newest(&self, set: Stamp) -> Result<(), Refusal> {
         if set == self.newest {
             Ok(())

@@ -32,7 +32,6 @@ pub struct Entry<'a> {
 
 /// Where a record stands, for reuse in a rebuild: unlike an [`Entry`] it borrows nothing.
 #[derive(Clone, Copy, Debug, PartialEq, Eq)]
-#[cfg_attr(not(feature = "rebuild"), allow(dead_code))]
 pub struct Place {
     pub(crate) location: u64,
     pub(crate) header_bytes: usize,

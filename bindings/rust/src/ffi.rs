@@ -157,7 +157,6 @@ export!(fn segment_cache_index_load_bps(
     out: &mut [u64],
 ));
 
-#[cfg(feature = "rebuild")]
 export!(fn segment_cache_rebuild_open(
     set: &[u64],
     source_starts: &[u64],
@@ -174,7 +173,6 @@ export!(fn segment_cache_rebuild_open(
     lengths: &mut [u64],
 ));
 
-#[cfg(feature = "rebuild")]
 export!(fn segment_cache_push_reused(
     rebuild: &mut [u64],
     hash: u64,
@@ -190,7 +188,6 @@ export!(fn segment_cache_push_reused(
     place: &mut [u64],
 ));
 
-#[cfg(feature = "rebuild")]
 export!(fn segment_cache_push_copied(
     rebuild: &mut [u64],
     hash: u64,
@@ -205,7 +202,6 @@ export!(fn segment_cache_push_copied(
     place: &mut [u64],
 ));
 
-#[cfg(feature = "rebuild")]
 export!(fn segment_cache_rebuild_finish(
     rebuild: &[u64],
     index: &mut [u64],
@@ -217,7 +213,6 @@ export!(fn segment_cache_rebuild_finish(
     totals: &mut [u64],
 ));
 
-#[cfg(feature = "rebuild")]
 export!(fn segment_cache_area_words(
     setting: &[u64],
     records: usize,

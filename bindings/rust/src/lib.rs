@@ -6,7 +6,7 @@
 //! - [`Builder`] fills a set; [`Builder::finish`] freezes it.
 //! - [`Set`] owns its index and is asked with its arena: [`Set::get`], [`Set::peek`], [`Set::probe`],
 //!   [`Set::take_accessed`], [`Set::entries`], [`Set::stats`].
-//! - `Rebuild` (feature `rebuild`) makes the next set out of the newest one, while older ones can still
+//! - [`Rebuild`] makes the next set out of the newest one, while older ones can still
 //!   be asked.
 //!
 //! Hash and tick come from the caller. Equal keys must come with equal hashes, and a hash should be
@@ -17,8 +17,7 @@
 //!
 //! The build script links libcapi.a from the folder in the environment variable
 //! `SEGMENT_CACHE_LIB_DIR`, or else from target/staticlib of the source tree. Without cargo:
-//! `rustc --edition 2024 --crate-type rlib -L native=FOLDER -l static=capi src/lib.rs`, with
-//! `--cfg 'feature="rebuild"'` for the rebuild calls.
+//! `rustc --edition 2024 --crate-type rlib -L native=FOLDER -l static=capi src/lib.rs`.
 #![warn(missing_docs)]
 
 mod areas;
@@ -26,7 +25,6 @@ mod arena;
 mod builder;
 mod entry;
 mod ffi;
-#[cfg(feature = "rebuild")]
 mod rebuild;
 mod refusal;
 mod set;
@@ -37,7 +35,6 @@ pub use areas::AreaWords;
 pub use arena::Arena;
 pub use builder::{Builder, Placed};
 pub use entry::{Entries, Entry, Place, Remaining};
-#[cfg(feature = "rebuild")]
 pub use rebuild::{Plan, Rebuild, Rebuilt};
 pub use refusal::{Refusal, Unfinished};
 pub use set::Set;

@@ -194,7 +194,6 @@ impl Set {
         Stats::of_set(&self.words)
     }
 
-    #[cfg(feature = "rebuild")]
     pub(crate) fn parts(&self) -> (&[u64; SET_WORDS], &Areas, Stamp) {
         (&self.words, &self.areas, self.stamp)
     }

@@ -1,5 +1,4 @@
 //! Rebuilds: what is taken over and copied, which sets stay askable, and what is refused.
-#![cfg(feature = "rebuild")]
 use segment_cache::{Arena, Builder, Plan, Rebuild, Refusal, Set, Setting};
 use std::time::Duration;
 
