@@ -1,4 +1,4 @@
-.PHONY: run test soak bench
+.PHONY: run test soak bench install
 
 # Proves and builds the program passage and runs document 01's example.
 run:
@@ -20,3 +20,19 @@ soak:
 # Speed beside the Rust, as ratios.
 bench:
 	bench/run
+
+# Library, headers and the program passage below PREFIX; DESTDIR stages them elsewhere.
+PREFIX ?= /usr/local
+sources := $(shell find crates -name '*.rt')
+
+target/staticlib/libcapi.a: $(sources)
+	rt staticlib capi
+
+target/bin/passage_run: $(sources)
+	rt check passage_run
+
+install: target/staticlib/libcapi.a target/bin/passage_run
+	install -d $(DESTDIR)$(PREFIX)/lib $(DESTDIR)$(PREFIX)/include $(DESTDIR)$(PREFIX)/bin
+	install -m 644 target/staticlib/libcapi.a $(DESTDIR)$(PREFIX)/lib/
+	install -m 644 bindings/segment_cache.h bindings/segment_cache_words.h $(DESTDIR)$(PREFIX)/include/
+	install -m 755 target/bin/passage_run $(DESTDIR)$(PREFIX)/bin/passage

@@ -1,27 +1,13 @@
 // Lookups in a set of 1,048,576 records, and the walk of a push in its index before the finish.
 use crate::measure::{Pass, Table, timed};
 use crate::port_index::{self as port, Areas};
+use crate::records::{Entry, random_entries};
 use crate::rng::{Rng, lent};
 use oracle_large::access_index::{self as access, Builder, Set, Setting};
 
 const RECORDS: usize = 1 << 20;
 
 const QUERIES: usize = 1 << 18;
-
-type Key = [u8; 16];
-
-// Key and hash of a record, or of a lookup.
-type Entry = (Key, u64);
-
-fn random_key(rng: &mut Rng) -> Key {
-    let (a, b) = (rng.next().to_le_bytes(), rng.next().to_le_bytes());
-    std::array::from_fn(|i| if i < 8 { a[i] } else { b[i - 8] })
-}
-
-fn random_entries(rng: &mut Rng, count: usize) -> Vec<Entry> {
-    let entry = |_| (random_key(rng), rng.next());
-    (0..count).map(entry).collect()
-}
 
 fn setting(packed: bool, bits: u8) -> Setting {
     Setting {

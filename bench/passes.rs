@@ -2,6 +2,7 @@
 // the clock starts, and what the Rust hands back is freed after it stops.
 use crate::measure::{Pass, Table, timed};
 use crate::port_index as port;
+use crate::records::checksum;
 use crate::rng::{Rng, lent};
 use oracle_large::access_index::finish_packed_words;
 use oracle_small::access::SEGMENT_TARGET;
@@ -10,10 +11,6 @@ use std::sync::atomic::Ordering;
 
 // The buckets of 1,048,576 records.
 const BUCKETS: usize = 149_797;
-
-fn checksum(words: impl Iterator<Item = u64>) -> u64 {
-    words.fold(0, |sum, word| sum.wrapping_mul(31).wrapping_add(word))
-}
 
 pub fn packing(table: &mut Table, rng: &mut Rng) {
     let word = |_| if rng.one_in(8) { 0 } else { rng.next() >> 1 };

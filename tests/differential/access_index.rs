@@ -87,7 +87,7 @@ pub mod access_index {
         pub bits: u8,
     }
 
-    fn config(setting: Setting) -> SegmentCacheConfig {
+    pub(super) fn config(setting: Setting) -> SegmentCacheConfig {
         SegmentCacheConfig {
             expiry: expiry(setting.tick),
             target_occupied_slots: setting.occupied,

@@ -1,7 +1,8 @@
 // Put behind the oracle's source after access_index.rs: the numbers of a build, and the calls on a
 // finished set with ticks and hashes given.
 pub mod access_sets {
-    use super::access_index::{Builder, Set};
+    use super::access::number;
+    use super::access_index::{Builder, Set, Setting, config};
     use super::*;
 
     impl Builder {
@@ -112,6 +113,58 @@ pub mod access_sets {
                 stats.record_header_bytes,
             ]
             .map(|count| count as u64)
+        }
+    }
+
+    // A record as the Rust hands it out. Left: none has lapsed, Some(None) never does.
+    pub struct Told<'a> {
+        pub slot: usize,
+        pub location: usize,
+        pub key_offset: usize,
+        pub key: &'a [u8],
+        pub value: &'a [u8],
+        pub left: Option<Option<Duration>>,
+    }
+
+    fn told(record: SegmentBaseRecord<'_>) -> Told<'_> {
+        Told {
+            slot: record.slot,
+            location: record.location,
+            key_offset: record.key_offset,
+            key: record.key,
+            value: record.value,
+            left: record.remaining_ttl.map(|left| match left {
+                SegmentRemainingTtl::Never => None,
+                SegmentRemainingTtl::Finite(left) => Some(left),
+            }),
+        }
+    }
+
+    // The calls as they are, for measuring: nothing is worked out of what they answer.
+    impl Set {
+        #[inline(never)]
+        pub fn value(&self, key: &[u8], hash: u64, tick: u64, mark: bool) -> Option<&[u8]> {
+            (self.cache).get_at_tick_hashed_inner(key, hash, tick, mark)
+        }
+
+        #[inline(never)]
+        pub fn probed(&self, key: &[u8], hash: u64, tick: u64) -> Option<Told<'_>> {
+            (self.cache).probe_hashed_at_tick(key, hash, tick).map(told)
+        }
+
+        pub fn visit(&self, tick: u64, mut visit: impl FnMut(Told<'_>)) {
+            let mut each = |record: SegmentBaseRecord<'_>| visit(told(record));
+            (self.cache).for_each_physical_entry_at_tick(tick, &mut each);
+        }
+    }
+
+    impl Builder {
+        // With so many bytes set aside for the records, as an arena is lent to the port.
+        pub fn with_room(setting: Setting, records: usize, bytes: usize) -> Result<Builder, u64> {
+            let config = config(setting);
+            let builder =
+                SegmentCacheBuilder::try_new_with_record_capacity(config, records, bytes);
+            builder.map(Builder).map_err(number)
         }
     }
 

@@ -29,7 +29,7 @@ compile() { # NAME ARGUMENTS..
 rm -rf "$build"
 mkdir -p "$build/oracle"
 cp "$here/oracle.rs" "$build/oracle/oracle.rs"
-cat "$oracle" "$here/access.rs" "$here/access_index.rs" "$here/access_sets.rs" >"$build/oracle/segment_cache.rs"
+cat "$oracle" "$here"/access{,_index,_sets,_rebuilds}.rs >"$build/oracle/segment_cache.rs"
 
 # As a release build, and once more with the short segment target that it has in its own tests.
 release=(--crate-type rlib -C overflow-checks=off -C debug-assertions=off -A warnings)

@@ -42,7 +42,7 @@ pub fn duration(lifetime: &[u64]) -> Option<Duration> {
 }
 
 // A lifetime that the tick takes: at a boundary, or of any length.
-fn taken(rng: &mut Rng, tick: Duration) -> Vec<u64> {
+pub fn taken(rng: &mut Rng, tick: Duration) -> Vec<u64> {
     let tick = tick.as_nanos();
     let last = LAST * tick;
     let nanoseconds = match rng.below(12) {

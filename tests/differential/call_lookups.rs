@@ -176,7 +176,7 @@ impl Finished {
     }
 }
 
-fn flagged(record: Option<[u64; 10]>) -> [u64; 11] {
+pub(super) fn flagged(record: Option<[u64; 10]>) -> [u64; 11] {
     let mut words = [0; 11];
     if let Some(record) = record {
         words[0] = 1;

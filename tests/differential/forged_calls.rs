@@ -1,11 +1,12 @@
 // Calls on indexes, records and segments such as no build makes: with the Rust where it can hold
 // them, and with the model where it can't.
 use crate::large::call_lookups::Finished;
+use crate::large::lines::forged;
 use crate::report::Group;
 use crate::rng::Rng;
 use crate::set_world::{By, World, model, port};
 use crate::stages::{Stage, both, stages};
-use oracle_large::access_index::{Parts, Set, Setting};
+use oracle_large::access_index::Setting;
 use std::time::Duration;
 
 pub fn calls(group: &mut Group, random: u64) {
@@ -139,15 +140,7 @@ fn asked(group: &mut Group, rng: &mut Rng, by: By, about: &str, stage: &Stage, w
         packed: words[4] == 1,
         bits: words[5] as u8,
     };
-    let segments = words[9] as usize;
-    let set = Set::forged(&Parts {
-        setting,
-        index: &world.index[..8 * words[7] as usize],
-        filter: &world.filter[..words[8] as usize],
-        arena: &world.arena[..words[10] as usize],
-        starts: &world.starts[..segments],
-        lengths: &world.lengths[..segments],
-    });
+    let set = forged(setting, world, &world.arena);
     let about = format!("{about}, {}", stage.name);
     let mut set = Finished::new(by, about, world.clone(), set);
     for entry in stage.list.iter().take(24) {

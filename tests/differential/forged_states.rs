@@ -2,6 +2,7 @@
 // decides, since the Rust has no such states.
 use crate::report::Group;
 use crate::rng::Rng;
+use crate::set_rules::Setting;
 use crate::set_world::{Ask, Pushed, World};
 use crate::stages::{Stage, both, both_of, stages};
 
@@ -11,23 +12,30 @@ pub fn states(group: &mut Group, random: u64) {
     let mut rng = Rng::new(33);
     for stage in stages(&mut rng) {
         for ask in stage.asks() {
-            both(group, &stage.name, &stage.world, &ask);
-            numbers(group, &stage, &ask);
-            areas(group, &stage, &ask);
-            forms(group, &stage, &ask);
-            for _ in 0..random / 6_000 {
-                several(group, &mut rng, &stage, &ask);
-            }
+            forged(group, &mut rng, &stage, &ask, random / 6_000);
         }
         consistent(group, &stage);
     }
     largest_arena(group);
 }
 
+// The call as it is, then with one thing forged, and so many times with several.
+pub fn forged(group: &mut Group, rng: &mut Rng, stage: &Stage, ask: &Ask, times: u64) {
+    both(group, &stage.name, &stage.world, ask);
+    numbers(group, stage, ask);
+    areas(group, stage, ask);
+    forms(group, stage, ask);
+    for _ in 0..times {
+        several(group, rng, stage, ask);
+    }
+}
+
 // The words in which a stage's calls find the state.
 fn state<'a>(world: &'a mut World, ask: &Ask, finished: bool) -> &'a mut Vec<u64> {
     match ask {
         Ask::Open { .. } => &mut world.setting,
+        Ask::RebuildOpen(_) => &mut world.source.set,
+        Ask::Reused(_) | Ask::Copied(_) | Ask::RebuildFinish => &mut world.rebuild,
         _ if finished => &mut world.set,
         _ => &mut world.builder,
     }
@@ -119,18 +127,28 @@ fn sizes(world: &mut World) -> [&mut usize; 6] {
     ]
 }
 
+// How long each area must be.
+fn needed(world: &World, ask: &Ask) -> [usize; 6] {
+    let [buckets, words, filled] = match ask {
+        Ask::RebuildOpen(opened) => {
+            let records = opened.records;
+            let counts = Setting::of(&world.setting)
+                .map(|setting| [setting.buckets(records), setting.filter_words(records)]);
+            let [buckets, words] = counts.unwrap_or_default();
+            [buckets, words, world.source.set[10]]
+        }
+        Ask::Reused(_) | Ask::Copied(_) | Ask::RebuildFinish => {
+            let rebuild = &world.rebuild;
+            [rebuild[8], rebuild[9], rebuild[14] + rebuild[15]]
+        }
+        _ => [world.builder[8], world.builder[9], world.builder[10]],
+    };
+    [8 * buckets, words, 256, 256, buckets, filled].map(|size| size as usize)
+}
+
 // Each area as long as it must be, one more, one less, and empty.
 fn areas(group: &mut Group, stage: &Stage, ask: &Ask) {
-    let world = &stage.world;
-    let (buckets, words) = (world.builder[8] as usize, world.builder[9] as usize);
-    let exact = [
-        8 * buckets,
-        words,
-        256,
-        256,
-        buckets,
-        world.builder[10] as usize,
-    ];
+    let (world, exact) = (&stage.world, needed(&stage.world, ask));
     for (area, exact) in exact.into_iter().enumerate() {
         for size in [exact, exact + 1, exact.saturating_sub(1), exact / 2, 0] {
             let mut world = world.clone();
@@ -158,29 +176,34 @@ fn forms(group: &mut Group, stage: &Stage, ask: &Ask) {
         }
     }
     for change in [-100, -1, 1, 3] {
-        for which in 0..3 {
+        for which in 0..5 {
             let mut world = stage.world.clone();
-            let words = [&mut world.builder, &mut world.set, &mut world.setting];
-            let Some(words) = words.into_iter().nth(which) else {
-                return;
+            let words = match which {
+                0 => &mut world.builder,
+                1 => &mut world.set,
+                2 => &mut world.setting,
+                3 => &mut world.rebuild,
+                _ => &mut world.source.set,
             };
             words.resize(words.len().saturating_add_signed(change), 0);
             let about = format!("{}, state {which} longer by {change}", stage.name);
             both(group, &about, &world, ask);
         }
     }
-    if let Ask::Push(record) = *ask {
-        for lifetime in [&[1][..], &[1, 2, 3], &[0, 0, 0, 0], &[0, BILLION, 0]] {
-            let record = Ask::Push(Pushed { lifetime, ..record });
-            both(group, &stage.name, &stage.world, &record);
-        }
+    for lifetime in [&[1][..], &[1, 2, 3], &[0, 0, 0, 0], &[0, BILLION, 0]] {
+        let ask = match *ask {
+            Ask::Push(record) => Ask::Push(Pushed { lifetime, ..record }),
+            Ask::Copied(record) => Ask::Copied(Pushed { lifetime, ..record }),
+            _ => return,
+        };
+        both(group, &stage.name, &stage.world, &ask);
     }
 }
 
 // Other counts of records with the buckets and filter words that belong to them: question 1 passes
 // as long as the areas are long enough.
 fn consistent(group: &mut Group, stage: &Stage) {
-    let Some(setting) = crate::set_rules::Setting::of(&stage.world.setting) else {
+    let Some(setting) = Setting::of(&stage.world.setting) else {
         return;
     };
     for records in 0..stage.list.len() as u64 + 9 {
@@ -232,6 +255,7 @@ fn largest_arena(group: &mut Group) {
         group.rule("open", found, number, || format!("arena of {size}"));
         group.area("builder", &ours, &wanted, || format!("arena of {size}"));
         largest_of_set(group, lent);
+        crate::forged_rebuilds::largest(group, lent);
     }
 }
 

@@ -7,6 +7,16 @@ mod call_build;
 pub mod call_lookups;
 #[path = "calls.rs"]
 pub mod calls;
+#[path = "line_calls.rs"]
+mod line_calls;
+#[path = "line_lists.rs"]
+pub mod line_lists;
+#[path = "line_lookups.rs"]
+mod line_lookups;
+#[path = "line_rebuilds.rs"]
+mod line_rebuilds;
+#[path = "lines.rs"]
+pub mod lines;
 #[path = "one_set.rs"]
 mod one_set;
 #[path = "segments.rs"]

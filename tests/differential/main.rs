@@ -1,5 +1,6 @@
 // Calls the port and the Rust that it was made from with the same inputs and compares the answers.
 mod areas;
+mod book;
 mod build_walks;
 mod call_lists;
 mod call_orders;
@@ -9,16 +10,22 @@ mod finds;
 mod forged;
 mod forged_calls;
 mod forged_finds;
+mod forged_rebuilds;
 mod forged_states;
 mod hash;
 mod index_words;
 mod large;
+mod line_records;
+mod line_sides;
 mod model;
 mod packed_index;
 mod port;
 mod port_index;
 mod port_lookups;
+#[cfg(not(stand_in))]
+mod port_rebuilds;
 mod port_sets;
+mod rebuild_stages;
 mod record_read;
 mod record_write;
 mod report;
@@ -26,12 +33,19 @@ mod rng;
 mod segment_starts;
 mod set_model;
 mod set_model_lookups;
+mod set_model_rebuilds;
 mod set_rules;
 mod set_world;
 mod small;
 mod spreads;
 mod stages;
 mod varints;
+
+// In place of the library's rebuild calls, those of a file: programs with an error are tried so.
+#[cfg(stand_in)]
+mod port_rebuilds {
+    include!(env!("STAND_IN"));
+}
 
 use report::{Group, Run};
 use std::process::ExitCode;
@@ -94,7 +108,16 @@ fn sets(run: &mut Run) {
     run.group("model of calls, large target", large::calls::model_of_calls);
     run.group("model of calls, small target", small::calls::model_of_calls);
     run.group("orders of questions, lists of calls", call_orders::orders);
+    run.group(
+        "lists with rebuilds, large target",
+        large::line_lists::lists,
+    );
+    run.group(
+        "lists with rebuilds, small target",
+        small::line_lists::lists,
+    );
     run.group("forged states and areas", forged_states::states);
+    run.group("forged rebuilds and areas", forged_rebuilds::states);
     run.group("forged words, records and segments", forged_calls::calls);
 }
 

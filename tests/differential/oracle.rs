@@ -2,7 +2,7 @@
 // place of its hashing a stub, since the port takes the hash as an argument.
 pub mod segment_cache;
 
-pub use segment_cache::{access, access_index, access_sets};
+pub use segment_cache::{access, access_index, access_rebuilds, access_sets};
 
 use std::cell::Cell;
 use std::hash::{BuildHasher, Hasher};

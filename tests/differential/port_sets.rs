@@ -2,6 +2,7 @@
 // length, states and answers as words; the refusal's number comes back. Nothing checks these
 // declarations against the exports: change both together.
 pub use crate::port_lookups::{get, next_entry, peek, probe, take_accessed};
+pub use crate::port_rebuilds::{push_copied, push_reused, rebuild_finish, rebuild_open};
 
 unsafe extern "C" {
     safe fn segment_cache_builder_words() -> usize;

@@ -1,18 +1,19 @@
 // The calls of sets as an executable model, in the form in which the port exports them: states in
 // words, answers in lent words, the refusal's number back. Written from the papers alone.
 pub use crate::set_model_lookups::{get, next_entry, peek, probe, take_accessed};
+pub use crate::set_model_rebuilds::{push_copied, push_reused, rebuild_finish, rebuild_open};
 use crate::set_rules::*;
 
-const FORM: u64 = 11;
+pub const FORM: u64 = 11;
 
-const STATE: u64 = 11;
+pub const STATE: u64 = 11;
 
 pub const BUILDER_WORDS: usize = 13;
 
 pub const SET_WORDS: usize = 15;
 
 // Key, value and header bytes against the records in.
-fn bound(records: u64, bytes: u64) -> bool {
+pub fn bound(records: u64, bytes: u64) -> bool {
     u128::from(bytes) <= u128::from(records) * ARENA_MAX
 }
 
@@ -20,7 +21,7 @@ pub fn holds<T>(area: &[T], count: u128) -> bool {
     count <= area.len() as u128
 }
 
-pub fn arena_passes(arena: &[u8], filled: u64) -> bool {
+pub fn arena_passes(arena: &[u8], filled: impl Into<u128>) -> bool {
     holds(arena, filled.into()) && arena.len() as u128 <= ARENA_MAX
 }
 
@@ -40,7 +41,7 @@ pub fn state(words: &[u64], count: usize) -> Option<State<'_>> {
 
 impl State<'_> {
     // Setting, records, buckets and filter words.
-    fn counts_pass(&self, records: u64, buckets: u64, filter_words: u64) -> bool {
+    pub fn counts_pass(&self, records: u64, buckets: u64, filter_words: u64) -> bool {
         self.setting.passes()
             && records <= RECORDS_MAX
             && buckets == self.setting.buckets(records)
@@ -103,7 +104,7 @@ pub fn open(
     }
     let (buckets, words) = (form.buckets(records), form.filter_words(records));
     let fit = holds(index, 8 * u128::from(buckets)) && holds(filter, words.into());
-    if !fit || !segment_areas_pass(starts, lengths) || !arena_passes(arena, 0) {
+    if !fit || !segment_areas_pass(starts, lengths) || !arena_passes(arena, 0_u64) {
         return 10;
     }
     index[..8 * buckets as usize].fill(0);
@@ -139,15 +140,36 @@ fn build_slot(
     Err(3)
 }
 
-// The deadline of a lifetime, or the refusal.
-fn deadline(setting: &Setting, lifetime: &[u64]) -> Result<u64, u64> {
+pub fn too_many_nanos(lifetime: &[u64]) -> bool {
+    lifetime.get(1).is_some_and(|&nanos| nanos >= 1_000_000_000)
+}
+
+// The word of a record, and its mark in the filter where it is two or more buckets past its first.
+pub fn enter(
+    given: &State<'_>,
+    hash: u64,
+    location: u64,
+    slot: usize,
+    index: &mut [u64],
+    filter: &mut [u64],
+) {
+    let (buckets, words) = (given.numbers[2], given.numbers[3]);
+    index[slot] = (tag(hash) << 40) + location + 1;
+    let displaced = slot as u64 / 8 + buckets - first(hash, buckets);
+    if displaced % buckets >= 2 {
+        filter_mark(filter, words, hash);
+    }
+}
+
+// The deadline of a lifetime from a base tick on, or the refusal.
+pub fn deadline(setting: &Setting, base: u64, lifetime: &[u64]) -> Result<u64, u64> {
     let &[secs, nanos] = lifetime else {
         return Ok(NEVER);
     };
     if !setting.on {
         return Err(5);
     }
-    match setting.deadline(secs, nanos) {
+    match u128::from(base) + setting.deadline(secs, nanos) {
         ticks @ ..=65_534 => Ok(ticks as u64),
         _ => Err(6),
     }
@@ -178,11 +200,7 @@ pub fn push(
         Ok(pushed) => pushed,
         Err(refusal) => return refusal,
     };
-    index[slot] = (tag(hash) << 40) + filled + 1;
-    let displaced = slot as u64 / 8 + buckets - first(hash, buckets);
-    if displaced % buckets >= 2 {
-        filter_mark(filter, words, hash);
-    }
+    enter(&given, hash, filled, slot, index, filter);
     arena[filled as usize..][..bytes.len()].copy_from_slice(&bytes);
     place.copy_from_slice(&[slot as u64, filled]);
     let more = [1, 0, 0, bytes.len(), key.len(), value.len()];
@@ -205,7 +223,7 @@ fn asked_push(
     let &[expected, inserted, buckets, _, filled, ..] = given.numbers else {
         return Err(STATE);
     };
-    if lifetime.get(1).is_some_and(|&nanos| nanos >= 1_000_000_000) {
+    if too_many_nanos(lifetime) {
         return Err(9);
     }
     if inserted >= expected {
@@ -213,7 +231,7 @@ fn asked_push(
     }
     let (setting, records) = (&given.setting, &arena[..filled as usize]);
     let slot = build_slot(setting, buckets, index, records, key, hash)?;
-    let deadline = deadline(setting, lifetime)?;
+    let deadline = deadline(setting, 0, lifetime)?;
     let bytes = record_bytes(setting.on, key, value, deadline);
     match holds(arena, filled as u128 + bytes.len() as u128) {
         true => Ok((slot, bytes)),
@@ -253,12 +271,17 @@ pub fn finish(
         index.iter_mut().for_each(split);
     }
     if given.setting.packed {
-        let words = packed(index);
-        index.copy_from_slice(&words);
-        scratch[..buckets as usize].copy_from_slice(&words[..buckets as usize]);
+        pack(index, scratch);
     }
     write_set(builder, found.len() as u64, set);
     0
+}
+
+// Eight words to a bucket; the control words stand in the scratch as well.
+pub fn pack(index: &mut [u64], scratch: &mut [u64]) {
+    let (words, buckets) = (packed(index), index.len() / 8);
+    index.copy_from_slice(&words);
+    scratch[..buckets].copy_from_slice(&words[..buckets]);
 }
 
 fn write_set(builder: &[u64], segments: u64, set: &mut [u64]) {

@@ -1,6 +1,6 @@
 // The areas and states of one set, and the calls on them, asked of the port or of the model.
 use crate::rng::{pattern, word_pattern};
-use crate::{port_sets, set_model};
+use crate::{port_sets, set_model, set_model_rebuilds};
 
 // Each area is longer than what is lent of it, so that what is written behind shows.
 #[derive(Clone, PartialEq)]
@@ -14,9 +14,20 @@ pub struct World {
     pub lengths: Vec<u64>,
     pub scratch: Vec<u64>,
     pub arena: Vec<u8>,
+    // Empty but for a rebuild.
+    pub rebuild: Vec<u64>,
+    pub source: Source,
     // The answer's words, all UNSET before each call.
     pub out: Vec<u64>,
     pub lent: Sizes,
+}
+
+// The set that a rebuild begins with, and its segments; all of it is lent.
+#[derive(Clone, PartialEq, Default)]
+pub struct Source {
+    pub set: Vec<u64>,
+    pub starts: Vec<u64>,
+    pub lengths: Vec<u64>,
 }
 
 // How much of each area is lent.
@@ -61,9 +72,23 @@ impl World {
             lengths: word_pattern(lent.lengths + 3),
             scratch: word_pattern(lent.scratch + 3),
             arena: pattern(lent.arena + 3),
+            rebuild: Vec::new(),
+            source: Source::default(),
             out: vec![UNSET; OUT],
             lent,
         }
+    }
+
+    // Areas for the rebuild of a set that stands in another world; its arena is lent to both.
+    pub fn for_rebuild(source: &World, lent: Sizes) -> World {
+        let mut world = World::new(&source.setting, lent);
+        world.rebuild = word_pattern(set_model_rebuilds::REBUILD_WORDS);
+        world.source = Source {
+            set: source.set.clone(),
+            starts: source.starts[..source.lent.starts].to_vec(),
+            lengths: source.lengths[..source.lent.lengths].to_vec(),
+        };
+        world
     }
 
     // The first area that is not the same, and where.
@@ -77,6 +102,7 @@ impl World {
             ("starts", &self.starts, &other.starts),
             ("lengths", &self.lengths, &other.lengths),
             ("scratch", &self.scratch, &other.scratch),
+            ("rebuild", &self.rebuild, &other.rebuild),
             ("answer", &self.out, &other.out),
         ];
         for (name, port, wanted) in areas {
@@ -101,6 +127,27 @@ pub enum Ask<'a> {
     Probe { hash: u64, key: &'a [u8], tick: u64 },
     Walk { from: u64, tick: u64 },
     Stats,
+    RebuildOpen(Opened<'a>),
+    Reused(Reused<'a>),
+    Copied(Pushed<'a>),
+    RebuildFinish,
+}
+
+#[derive(Clone, Copy, Debug)]
+pub struct Opened<'a> {
+    pub records: u64,
+    pub capacity: u64,
+    pub keep: &'a [u8],
+    pub now: u64,
+}
+
+#[derive(Clone, Copy, Debug)]
+pub struct Reused<'a> {
+    pub hash: u64,
+    pub key: &'a [u8],
+    pub value: &'a [u8],
+    pub location: u64,
+    pub header: u64,
 }
 
 #[derive(Clone, Copy, Debug)]
@@ -116,12 +163,13 @@ impl Ask<'_> {
     // How many words the answer has.
     pub fn answer(&self) -> usize {
         match self {
-            Ask::Open { .. } | Ask::Finish { .. } => 0,
-            Ask::Push(_) => 2,
+            Ask::Open { .. } | Ask::Finish { .. } | Ask::RebuildOpen(_) => 0,
+            Ask::Push(_) | Ask::Reused(_) | Ask::Copied(_) => 2,
             Ask::Get { .. } | Ask::Peek { .. } => 3,
             Ask::Take { .. } => 1,
             Ask::Probe { .. } | Ask::Walk { .. } => 11,
             Ask::Stats => 8,
+            Ask::RebuildFinish => 4,
         }
     }
 }
@@ -142,6 +190,8 @@ macro_rules! ask_by {
         let World {
             scratch,
             arena,
+            rebuild,
+            source,
             out,
             lent,
             ..
@@ -196,6 +246,18 @@ macro_rules! ask_by {
                 $calls::next_entry(set, from as usize, tick, index, starts, lengths, arena, out)
             }
             Ask::Stats => $calls::stats(set, out),
+            Ask::RebuildOpen(opened) => $calls::rebuild_open(
+                source, arena, &opened, rebuild, index, filter, starts, lengths,
+            ),
+            Ask::Reused(reused) => {
+                $calls::push_reused(rebuild, &reused, index, filter, starts, lengths, arena, out)
+            }
+            Ask::Copied(copied) => {
+                $calls::push_copied(rebuild, &copied, index, filter, starts, lengths, arena, out)
+            }
+            Ask::RebuildFinish => {
+                $calls::rebuild_finish(rebuild, index, starts, lengths, scratch, arena, set, out)
+            }
         }
     }};
 }

@@ -75,7 +75,7 @@ pub fn made(rng: &mut Rng, setting: &[u64; 6], count: usize, stages: &mut Vec<St
     stage("finished", &world, true);
 }
 
-fn entries_of(list: &[Entry]) -> Vec<Entry> {
+pub fn entries_of(list: &[Entry]) -> Vec<Entry> {
     let copy = |entry: &Entry| Entry {
         hash: entry.hash,
         key: entry.key.clone(),
@@ -150,7 +150,14 @@ pub fn both(group: &mut Group, about: &str, world: &World, ask: &Ask) {
 // The same with another number of words for the answer.
 pub fn both_of(group: &mut Group, about: &str, world: &World, ask: &Ask, words: usize) {
     let (mut ours, mut wanted) = (world.clone(), world.clone());
-    on_both(group, about, &mut ours, &mut wanted, ask, words);
+    let number = on_both(group, about, &mut ours, &mut wanted, ask, words);
+    // A refusal writes nothing; a finish refused with 7 leaves starts.
+    let starts = number == 7 && matches!(ask, Ask::Finish { .. });
+    if number != 0 && !starts {
+        ours.out.clone_from(&world.out);
+        let input = || format!("{about}, {ask:x?}: {}", ours.difference(world));
+        group.rule("areas after a refusal", ours == *world, true, input);
+    }
 }
 
 // One call on the port's world and on the model's.

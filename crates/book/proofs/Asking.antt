@@ -30,11 +30,12 @@ use Rattle.index.proofs.Table.{only}
 use Rattle.sets.specs.Answers.{accept}
 use Rattle.sets.specs.Lookup.{viewOf, findOf, lookupOf, slotMarked, slotCleared, liveValue, liveMarked, Got, gotten, afterGet, takenOf, afterTake}
 use Rattle.sets.proofs.Closure.{setPasses, set-index-holds, get-asks, take-asks, get-passes, take-passes}
+use Rattle.sets.proofs.ReadInside.{read-inside}
 use Rattle.book.specs.Book.{Entry, ListedSet, firstOf, ruled}
 use Rattle.book.specs.Calls.{value, nothing}
 use Rattle.book.specs.World.{FinishedSet, withIndex, answerOf}
 use Rattle.book.proofs.Keys.{storedOf, first-is}
-use Rattle.book.proofs.Reading.{read-inside, same-stored}
+use Rattle.book.proofs.Reading.{same-stored}
 use Rattle.book.proofs.Relation.{SetHolds}
 
 -- what the find of a set comes to

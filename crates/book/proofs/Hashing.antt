@@ -7,7 +7,7 @@ use Prim.Native.Nat.{ℕ, _^_, _<_}
 use Rattle.hash_parts.specs.Choice.{pick}
 use Rattle.index.proofs.Table.{true≢false}
 use Rattle.book.specs.Book.{sameKey}
-use Rattle.book.specs.Calls.{Call, push, finish, lookup, clear}
+use Rattle.book.specs.Calls.{Call, push, finish, lookup, clear, reopen, reuse, copy, refinish}
 use Rattle.book.specs.Premise.{carried, EqualHashes, Hashes64}
 use Rattle.book.proofs.Keys.{key-true, key-refl}
 use Rattle.book.proofs.Steps.{Hashed}
@@ -43,6 +43,10 @@ all-hashed H (push key value h ttl ∷ cs) f = (f key h (List·Memᴰ·head refl
 all-hashed H (finish target scratch ∷ cs) f = (tt, all-hashed H cs f)
 all-hashed H (lookup set key h tick ∷ cs) f = (f key h (List·Memᴰ·head refl), all-hashed H cs (λ j g z. f j g (List·Memᴰ·tail z)))
 all-hashed H (clear set key h ∷ cs) f = (f key h (List·Memᴰ·head refl), all-hashed H cs (λ j g z. f j g (List·Memᴰ·tail z)))
+all-hashed H (reopen records copied flags tick index filter starts lengths ∷ cs) f = (tt, all-hashed H cs f)
+all-hashed H (reuse key value h location header ∷ cs) f = (f key h (List·Memᴰ·head refl), all-hashed H cs (λ j g z. f j g (List·Memᴰ·tail z)))
+all-hashed H (copy key value h ttl ∷ cs) f = (f key h (List·Memᴰ·head refl), all-hashed H cs (λ j g z. f j g (List·Memᴰ·tail z)))
+all-hashed H (refinish scratch ∷ cs) f = (tt, all-hashed H cs f)
 
 pub hashed : (cs : List (Call (List ℕ))) → EqualHashes cs → Hashes64 cs → (H : List ℕ → ℕ) × AllHashed H cs
 hashed cs one small = (hashIn (carried cs), all-hashed (hashIn (carried cs)) cs (λ key h z. (own key h z, small key h z)))

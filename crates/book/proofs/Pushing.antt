@@ -29,17 +29,18 @@ use Rattle.book.proofs.Standing.{every-map, every-snoc, written-on, wri
 use Rattle.book.proofs.Relation.{BuilderHolds}
 
 -- the deadline of an accepted push is 65,535 where records keep none
-never-off : (e : SegmentExpiry) (ttl : Lifetime) → encodedExpiry e ttl 0 .number ≡ 0 → e ≡ None → encodedExpiry e ttl 0 .value ≡ 65535
+never-off : (e : SegmentExpiry) (ttl : Lifetime) (base : ℕ) → encodedExpiry e ttl base .number ≡ 0 → e ≡ None → encodedExpiry e ttl base .value ≡ 65535
 unfolding encodedExpiry
-never-off e life.Never n off = refl
-never-off None (life.For d) n off = absurd (omega arith)
-never-off (Relative16 tick) (life.For d) n off = cc
+never-off e life.Never base n off = refl
+never-off None (life.For d) base n off = absurd (omega arith)
+never-off (Relative16 tick) (life.For d) base n off = cc
 
 -- a record that fits an arena reads back
-pub new-back : (e : SegmentExpiry) (key value : List ℕ) (ttl : Lifetime) → encodedExpiry e ttl 0 .number ≡ 0 → recordSize e (length key) (length value) ≤ 1_073_741_824
-    → storedAt e (recordBytes e key value (encodedExpiry e ttl 0 .value)) 0 ≡ some record { key = key; value = value; deadline = encodedExpiry e ttl 0 .value }
+pub new-back : (e : SegmentExpiry) (key value : List ℕ) (ttl : Lifetime) (base : ℕ) → encodedExpiry e ttl base .number ≡ 0
+    → recordSize e (length key) (length value) ≤ 1_073_741_824
+    → storedAt e (recordBytes e key value (encodedExpiry e ttl base .value)) 0 ≡ some record { key = key; value = value; deadline = encodedExpiry e ttl base .value }
 unfolding recordSize
-new-back e key value ttl n fits = stored-back e key value (encodedExpiry e ttl 0 .value) (omega arith) (omega arith) (never-off e ttl n)
+new-back e key value ttl base n fits = stored-back e key value (encodedExpiry e ttl base .value) (omega arith) (omega arith) (never-off e ttl base n)
 
 module _ (H : List ℕ → ℕ) where
   -- the slot found, the entry's deadline, how many bytes it takes, and how long the arena is then

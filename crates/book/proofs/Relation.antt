@@ -1,22 +1,35 @@
--- How the world and the book go together: what an open builder, a finished set and their areas are to the book's lists and tape. Assumes nothing.
+-- How the world and the book go together: what an open builder or rebuild, a finished set and their areas are to the book's lists and tape. Assumes nothing.
 use mathlib.Core.Path.{_≡_}
 use mathlib.Core.Bool.{true, false}
 use mathlib.Core.List.{List, Forall₂}
 use mathlib.Core.Option.{some}
-use Prim.Native.Nat.{ℕ, _≤_, _<_}
-use lib.ListN.{length, take}
+use Prim.Native.Nat.{ℕ, _+_, _-_, _*_, _^_, _≤_, _<_}
+use lib.ListN.{length, take, getD}
 use Rattle.hash_parts.specs.declared.setting.SegmentExpiry.{SegmentExpiry}
+use Rattle.records.specs.Area.{part}
+use Rattle.records.specs.Record.{storedAt}
 use Rattle.index.specs.Slot.{wordSlots}
 use Rattle.index.specs.View.{storedIn}
 use Rattle.index.proofs.Entries.{Indexed}
 use Rattle.index.proofs.Flat.{indexSlots}
+use Rattle.sets.specs.Kept.{isKept, newNumber, retained}
 use Rattle.sets.specs.Lookup.{viewOf}
 use Rattle.sets.specs.declared.builder.SegmentCacheBuilder.{SegmentCacheBuilder}
+use Rattle.sets.specs.declared.rebuild.SharedSegmentCacheBuilder.{SharedSegmentCacheBuilder}
 use Rattle.sets.proofs.Closure.{builderPasses, setPasses}
-use Rattle.book.specs.Book.{ListedSet, Book}
-use Rattle.book.specs.World.{Areas, Current, idle, building, FinishedSet, World}
+use Rattle.sets.proofs.RebuildClosure.{rebuildPasses}
+use Rattle.book.specs.Book.{Entry, ListedSet, Book, startsIn, filledIn}
+use Rattle.book.specs.Calls.{newest}
+use Rattle.book.specs.World.{Areas, Current, idle, building, rebuilding, FinishedSet, World}
 use Rattle.book.proofs.Keys.{storedOf}
-use Rattle.book.proofs.Standing.{Every, places, Stands}
+use Rattle.book.proofs.Standing.{Every, places, Stands, Written}
+
+-- An entry of an open rebuild and its stored location: in one of the n kept segments, whose bytes on the tape read back as the entry, or among the copied
+-- records, which follow the first `base` bytes of the tape and whose segment is not in the areas before finish.
+pub data Rests (x : SegmentExpiry) (tape : List ℕ) (base n : ℕ) (starts lengths : List ℕ) : ℕ → Entry → Type 0 where
+  rests-kept : {e : Entry} (g o : ℕ) → o < 2 ^ 32 → g < n → getD starts g 0 + getD lengths g 0 ≤ length tape
+      → storedAt x (part (getD starts g 0) (getD lengths g 0) tape) o ≡ some (storedOf e) → Rests x tape base n starts lengths (g * 2 ^ 32 + o + 1) e
+  rests-copied : {e : Entry} → base ≤ e .at → Written x tape e → Rests x tape base n starts lengths (n * 2 ^ 32 + (e .at - base) + 1) e
 
 -- H gives each key's hash
 module _ (H : List ℕ → ℕ) where
@@ -27,6 +40,19 @@ module _ (H : List ℕ → ℕ) where
     pub passes : builderPasses b (length (a .index)) (length (a .filter)) (length (a .starts)) (length (a .lengths)) arena ≡ true
     pub below : Every (λ v. v < length (k .tape)) (places (k .list))
     pub index : Indexed storedOf H false (Stands (k .expiry) (k .tape) (places (k .list))) (b .«bucket_count») (wordSlots (b .«bucket_count») (a .index)) (a .filter) (b .«filter_words») (k .list)
+
+  -- an open rebuild with its areas: it passes question 1, its base, its tick and its kept starts are the book's, also by the numbers that the kept segments
+  -- have in the newest set, and its index stands for the open list
+  pub record RebuildHolds (r : SharedSegmentCacheBuilder) (a : Areas) (arena : ℕ) (k : Book) : Type 0 where
+    pub expiry : r .config .expiry ≡ k .expiry
+    pub base : r .«source_filled» ≡ filledIn (newest (k .sets))
+    pub filled : r .«source_filled» + r .«copied_bytes» ≡ length (k .tape)
+    pub tick : r .«source_now_tick» ≡ k .tick
+    pub passes : rebuildPasses r (length (a .index)) (length (a .filter)) (a .starts) (a .lengths) arena ≡ true
+    pub kept : take (retained (r .kept)) (a .starts) ≡ k .kept
+    pub sourced : (g : ℕ) → isKept (r .kept) g ≡ true → getD (a .starts) (newNumber (r .kept) g) 0 ≡ getD (startsIn (newest (k .sets))) g 0
+    pub index : Indexed storedOf H false (Rests (k .expiry) (k .tape) (r .«source_filled») (retained (r .kept)) (a .starts) (a .lengths))
+        (r .«bucket_count») (wordSlots (r .«bucket_count») (a .index)) (a .filter) (r .«filter_words») (k .list)
 
   -- a finished set, whose bytes are among the first so many of the arena: it passes question 1, its segments and filled bytes are the book's, and its index
   -- stands for the book's list, each entry where a lookup reads it
@@ -44,9 +70,11 @@ module _ (H : List ℕ → ℕ) where
   pub data CurrentHolds (arena : ℕ) (k : Book) : Current → Type 0 where
     is-idle : CurrentHolds arena k idle
     is-building : {b : SegmentCacheBuilder} {a : Areas} → BuilderHolds b a arena k → CurrentHolds arena k (building b a)
+    is-rebuilding : {r : SharedSegmentCacheBuilder} {a : Areas} → RebuildHolds r a arena k → CurrentHolds arena k (rebuilding r a)
 
-  -- the tape is what the arena begins with
+  -- the tape is what the arena begins with, and no set has bytes past those of the newest: cutting the tape to them takes nothing from any set
   pub record Holds (w : World) (k : Book) : Type 0 where
     pub memory : take (length (k .tape)) (w .arena) ≡ k .tape
+    pub top : filledIn (newest (k .sets)) ≤ length (k .tape)
     pub current : CurrentHolds (length (w .arena)) k (w .current)
-    pub sets : Forall₂ (SetHolds (k .expiry) (w .arena) (length (k .tape))) (w .sets) (k .sets)
+    pub sets : Forall₂ (SetHolds (k .expiry) (w .arena) (filledIn (newest (k .sets)))) (w .sets) (k .sets)

@@ -1,19 +1,17 @@
 -- Every call keeps the relation of world and book, and a lookup's answer is the book's. Assumes nothing.
 use mathlib.Core.Path.{_≡_, refl, sym, ap, _∙_}
 use mathlib.Core.Bool.{Bool, true, false}
-use mathlib.Core.List.{List, [], _∷_, _++_, append-assoc, Forall₂, Forall₂·nil, Forall₂·cons}
+use mathlib.Core.List.{List, [], _∷_, Forall₂·nil}
 use mathlib.Core.Option.{Option, none, some}
-use mathlib.Mathlib.Data.List.Forall2.{Forall₂·imp}
-use Prim.Native.Nat.{ℕ, zero, suc, _+_, _-_, _^_, _≤_, _<_}
+use Prim.Native.Nat.{ℕ, _^_, _≤_, _<_}
 use native.Mathlib.Omega.{arith}
-use lib.ListN.{length, take, drop, set, getElem?, length-append}
-use lib.Seq.{take-at, take-take, take-append-le, length-take-le}
+use lib.ListN.{length, getElem?}
 use Rattle.hash_parts.specs.Choice.{pick}
 use Rattle.hash_parts.specs.Duration.{encodedExpiry}
 use Rattle.hash_parts.specs.declared.duration.Lifetime.{Lifetime}
 use Rattle.hash_parts.specs.declared.setting.SegmentCacheConfig.{SegmentCacheConfig}
 use Rattle.hash_parts.specs.declared.setting.SegmentExpiry.{SegmentExpiry}
-use Rattle.records.specs.Area.{pasted, over}
+use Rattle.records.specs.Area.{pasted}
 use Rattle.records.specs.Record.{recordBytes, recordSize}
 use Rattle.records.proofs.Parts.{size-is}
 use Rattle.index.proofs.Kept.{cleared-indexed}
@@ -24,76 +22,26 @@ use Rattle.sets.specs.Questions.{bucketsIn, filterWordsIn}
 use Rattle.sets.specs.declared.builder.SegmentCacheBuilder.{SegmentCacheBuilder}
 use Rattle.sets.specs.declared.cache.FrozenSegmentCache.{FrozenSegmentCache}
 use Rattle.sets.proofs.Accepted.{OpenCase, open-made, open-refused, open-case, PushCase, push-made, push-refused, push-case, FinishCase, finish-made, finish-many, finish-refused, finish-case}
-use Rattle.sets.proofs.Closure.{builderPasses, builder-lengths, builder-filter-holds, setPasses, pasted-length, open-passes, push-passes, finish-passes}
-use Rattle.book.specs.Book.{ListedSet, Book, blank, joined, closed, heard, replyFrom, replied}
-use Rattle.book.specs.Calls.{Call, push, finish, lookup, clear, bare, Answer}
-use Rattle.book.specs.World.{Areas, Current, idle, building, FinishedSet, World, isAccepted, openLeaves, opened, pushLeaves, pushStep, finishLeaves, finishStep, lookupStep, clearStep, step, answerFrom, answered}
-use Rattle.book.proofs.Asking.{set-answer, set-got, set-taken, set-arena}
+use Rattle.sets.proofs.Closure.{builderPasses, builder-lengths, builder-filter-holds, setPasses, open-passes, push-passes, finish-passes}
+use Rattle.book.specs.Book.{ListedSet, Book, startsOf, blank, joined, closed, filledIn, heard, replyFrom, replied}
+use Rattle.book.specs.Calls.{Call, push, finish, lookup, clear, reopen, reuse, copy, refinish, bare, Answer, newest}
+use Rattle.book.specs.World.{Areas, Current, idle, building, rebuilding, FinishedSet, World, isAccepted, openLeaves, opened, pushLeaves, pushStep, finishLeaves, finishStep, lookupStep, clearStep, step, answerFrom, answered}
+use Rattle.book.proofs.Appending.{appended, joins}
+use Rattle.book.proofs.Asking.{set-answer, set-got, set-taken}
 use Rattle.book.proofs.Closing.{builder-finish}
+use Rattle.book.proofs.Pairs.{Both, both-none, both-some, pairs-get, pairs-put}
 use Rattle.book.proofs.Pushing.{new-back, builder-push}
+use Rattle.book.proofs.RebuildSteps.{reopen-holds, reuse-holds, copy-holds, refinish-holds}
 use Rattle.book.proofs.Relation.{SetHolds, CurrentHolds, is-idle, is-building, Holds}
 use Rattle.book.proofs.Standing.{every-nil}
 
--- ---- lists of sets
-
-pub data Both {A B : Type 0} (P : A → B → Type 0) : Option A → Option B → Type 0 where
-  both-none : Both P none none
-  both-some : {a : A} {b : B} → P a b → Both P (some a) (some b)
-
-module _ {A B : Type 0} {P : A → B → Type 0} where
-  pairs-get : (j : ℕ) {l : List A} {m : List B} → Forall₂ P l m → Both P (getElem? l j) (getElem? m j)
-  pairs-get zero Forall₂·nil = both-none
-  pairs-get (suc j) Forall₂·nil = both-none
-  pairs-get zero (Forall₂·cons x r) = both-some x
-  pairs-get (suc j) (Forall₂·cons x r) = pairs-get j r
-
-  pairs-put : (j : ℕ) (a a′ : A) {l : List A} {m : List B} → getElem? l j ≡ some a → ((b : B) → P a b → P a′ b) → Forall₂ P l m → Forall₂ P (set l j a′) m
-  pairs-put zero a a′ e f Forall₂·nil = Forall₂·nil
-  pairs-put (suc j) a a′ e f Forall₂·nil = Forall₂·nil
-  pairs-put zero a a′ e f (Forall₂·cons {a = c} x r) = let same : c ≡ a = cc in Forall₂·cons (f _ (rw same at x)) r
-  pairs-put (suc j) a a′ e f (Forall₂·cons x r) = Forall₂·cons x (pairs-put j a a′ e f r)
-
-  pairs-snoc : {l : List A} {m : List B} {a : A} {b : B} → Forall₂ P l m → P a b → Forall₂ P (l ++ (a ∷ [])) (m ++ (b ∷ []))
-  pairs-snoc Forall₂·nil y = Forall₂·cons y Forall₂·nil
-  pairs-snoc (Forall₂·cons x r) y = Forall₂·cons x (pairs-snoc r y)
-
--- ---- bytes
-
--- what is written past a position leaves what stands before it
-take-pasted : (at n : ℕ) (bytes arena : List ℕ) → n ≤ at → at ≤ length arena → take n (pasted at bytes arena) ≡ take n arena
-take-pasted at n bytes arena h l =
-    let len : length (take at arena) ≡ at = length-take-le at arena l in
-    take-append-le n (take at arena) (over bytes (drop at arena)) (omega arith) ∙ take-take n at arena h
-
--- bytes written after the tape are appended to it
-appended-memory : (arena tape bytes : List ℕ) → take (length tape) arena ≡ tape → length tape + length bytes ≤ length arena
-    → take (length (tape ++ bytes)) (pasted (length tape) bytes arena) ≡ tape ++ bytes
-appended-memory arena tape bytes m h =
-    let rest : List ℕ = drop (length bytes) (drop (length tape) arena) in
-    ap (λ (t : List ℕ). take (length (tape ++ bytes)) (t ++ (bytes ++ rest))) m
-    ∙ ap (take (length (tape ++ bytes))) (sym (append-assoc tape bytes rest))
-    ∙ take-at (tape ++ bytes) rest (length (tape ++ bytes)) refl
-
 module _ (H : List ℕ → ℕ) where
-  -- a record is appended
-  appended : (w : World) (k : Book) → Holds H w k → (at : ℕ) (bytes key value : List ℕ) (deadline : ℕ) → at ≡ length (k .tape) → bytes ≡ recordBytes (k .expiry) key value deadline
-      → at + length bytes ≤ length (w .arena) → (c : Current) → CurrentHolds H (length (pasted at bytes (w .arena))) (joined k key value deadline) c
-      → Holds H (record { arena = pasted at bytes (w .arena); current = c; sets = w .sets }) (joined k key value deadline)
-  appended w k m at bytes key value deadline place content fits c ok =
-      record {
-        memory = rw (place, ← content) (appended-memory (w .arena) (k .tape) bytes (m .memory) (omega arith));
-        current = ok;
-        sets =
-            Forall₂·imp
-            (λ s l. set-arena H (k .expiry) (w .arena) (pasted at bytes (w .arena)) (length (k .tape)) (length (k .tape ++ recordBytes (k .expiry) key value deadline)) s l (take-pasted at (length (k .tape)) bytes (w .arena) (omega arith) (omega arith)) (pasted-length at bytes (w .arena) fits) (omega (arith, length-append (k .tape) (recordBytes (k .expiry) key value deadline))))
-            (m .sets);
-      }
-
   -- ---- push
 
   push-holds : (w : World) (k : Book) → Holds H w k → (c : Current) → CurrentHolds H (length (w .arena)) k c → (key value : List ℕ) (h : ℕ) (ttl : Lifetime) → h ≡ H key → h < 2 ^ 64
       → Holds H (pushStep w c key value h ttl .after) (heard k (push key value h ttl, pushStep w c key value h ttl .accepted))
   push-holds w k m idle ok key value h ttl hash bound = m
+  push-holds w k m (rebuilding r a) ok key value h ttl hash bound = m
   push-holds w k m (building b a) (is-building ok) key value h ttl hash bound =
       go (push-case b h key value ttl (a .index) (a .filter) (w .arena)) (λ p e. push-passes b h key value ttl (a .index) (a .filter) (w .arena) p e (length (a .starts)) (length (a .lengths)) (builder-lengths b _ _ _ _ _ (ok .passes)))
     where
@@ -106,7 +54,7 @@ module _ (H : List ℕ → ℕ) where
       go : {r : Pushed} → PushCase b h key value ttl (a .index) (a .filter) (w .arena) r
           → ((p : Placed) → r .answer ≡ accept p → builderPasses (p .builder) (length (r .index)) (length (r .filter)) (length (a .starts)) (length (a .lengths)) (length (r .arena)) ≡ true)
           → Holds H (pushLeaves w a r .after) (pick (isAccepted (r .answer)) (joined k key value d) k)
-      go (push-refused n) passes = record { memory = m .memory; current = is-building ok; sets = m .sets }
+      go (push-refused n) passes = record { memory = m .memory; top = m .top; current = is-building ok; sets = m .sets }
       go (push-made acc fits) passes =
           let bytes : List ℕ = recordBytes (b .config .expiry) key value (encodedExpiry (b .config .expiry) ttl 0 .value) in
           let size : ℕ = recordSize (b .config .expiry) (length key) (length value) in
@@ -115,9 +63,9 @@ module _ (H : List ℕ → ℕ) where
           let number : encodedExpiry x ttl 0 .number ≡ 0 = ap (λ (y : SegmentExpiry). encodedExpiry y ttl 0 .number) (sym (ok .expiry)) ∙ acc .deadline in
           let small : recordSize x (length key) (length value) ≤ 1_073_741_824 =
           rw (← ok .expiry) (omega (arith, fits, acc .areas .arena-short)) in
-          appended w k m (b .filled) bytes key value d (ok .filled) content (omega (arith, fits)) _
+          appended H w k m (b .filled) bytes key value d (ok .filled) content (omega (arith, fits)) _
           (is-building
-          (builder-push H b a (w .arena) k ok key value h _ d size (length (pasted (b .filled) bytes (w .arena))) hash bound (acc .place) (new-back x key value ttl number small) (long ∙ ap length content)
+          (builder-push H b a (w .arena) k ok key value h _ d size (length (pasted (b .filled) bytes (w .arena))) hash bound (acc .place) (new-back x key value ttl 0 number small) (long ∙ ap length content)
           (omega (arith, acc .areas .filled-held, acc .areas .arena-short)) (passes _ refl)))
 
   -- ---- finish
@@ -125,17 +73,19 @@ module _ (H : List ℕ → ℕ) where
   finish-holds : (w : World) (k : Book) → Holds H w k → (c : Current) → CurrentHolds H (length (w .arena)) k c → (target : ℕ) (scratch : List ℕ)
       → Holds H (finishStep w c target scratch .after) (heard k (finish target tt, finishStep w c target scratch .accepted))
   finish-holds w k m idle ok target scratch = m
+  finish-holds w k m (rebuilding r a) ok target scratch = m
   finish-holds w k m (building b a) (is-building ok) target scratch =
       go (finish-case b target (a .index) (a .starts) (a .lengths) scratch (w .arena))
       (λ s e. finish-passes b target (a .index) (a .starts) (a .lengths) scratch (w .arena) s e (length (a .filter)) (builder-filter-holds b _ _ _ _ _ (ok .passes)))
     where
       go : {f : Finished} → FinishCase b target (a .index) (a .starts) (a .lengths) scratch (w .arena) f
           → ((s : FrozenSegmentCache) → f .answer ≡ accept s → setPasses s (length (f .index)) (length (a .filter)) (length (f .starts)) (length (f .lengths)) (length (w .arena)) ≡ true)
-          → Holds H (finishLeaves w a f .after) (pick (isAccepted (f .answer)) (closed k target) k)
-      go (finish-refused n) passes = record { memory = m .memory; current = is-building ok; sets = m .sets }
+          → Holds H (finishLeaves w a f .after) (pick (isAccepted (f .answer)) (closed k (startsOf (length (k .tape)) target (k .list))) k)
+      go (finish-refused n) passes = record { memory = m .memory; top = m .top; current = is-building ok; sets = m .sets }
       go (finish-many asked) passes =
           record {
             memory = m .memory;
+            top = m .top;
             current =
                 is-building
                 record {
@@ -149,12 +99,7 @@ module _ (H : List ℕ → ℕ) where
                 };
             sets = m .sets;
           }
-      go (finish-made asked few) passes =
-          record {
-            memory = m .memory;
-            current = is-idle;
-            sets = pairs-snoc (m .sets) (builder-finish H b a (w .arena) scratch target k ok asked few (m .memory) (passes _ refl));
-          }
+      go (finish-made asked few) passes = joins H w k m _ _ (builder-finish H b a (w .arena) scratch target k ok asked few (m .memory) (passes _ refl))
 
   -- ---- lookup and mark clearing
 
@@ -164,8 +109,9 @@ module _ (H : List ℕ → ℕ) where
   lookup-holds w k m j (some s) e key h tick bound =
       record {
         memory = m .memory;
+        top = m .top;
         current = m .current;
-        sets = pairs-put j s _ e (λ l ok. set-got H (k .expiry) (w .arena) (length (k .tape)) s l ok key h bound tick) (m .sets);
+        sets = pairs-put j s _ e (λ l ok. set-got H (k .expiry) (w .arena) (filledIn (newest (k .sets))) s l ok key h bound tick) (m .sets);
       }
 
   clear-holds : (w : World) (k : Book) → Holds H w k → (j : ℕ) (o : Option FinishedSet) → getElem? (w .sets) j ≡ o → (key : List ℕ) (h : ℕ) → h < 2 ^ 64
@@ -174,8 +120,9 @@ module _ (H : List ℕ → ℕ) where
   clear-holds w k m j (some s) e key h bound =
       record {
         memory = m .memory;
+        top = m .top;
         current = m .current;
-        sets = pairs-put j s _ e (λ l ok. set-taken H (k .expiry) (w .arena) (length (k .tape)) s l ok key h bound) (m .sets);
+        sets = pairs-put j s _ e (λ l ok. set-taken H (k .expiry) (w .arena) (filledIn (newest (k .sets))) s l ok key h bound) (m .sets);
       }
 
   answer-is : (w : World) (x : SegmentExpiry) (top : ℕ) {o : Option FinishedSet} {p : Option ListedSet} → Both (SetHolds H x (w .arena) top) o p → (key : List ℕ) (h tick : ℕ) → h ≡ H key → h < 2 ^ 64
@@ -191,6 +138,10 @@ module _ (H : List ℕ → ℕ) where
   Hashed (finish target scratch) = Unit {0}
   Hashed (lookup j key h tick) = (h ≡ H key) × (h < 2 ^ 64)
   Hashed (clear j key h) = (h ≡ H key) × (h < 2 ^ 64)
+  Hashed (reopen records copied flags tick index filter starts lengths) = Unit {0}
+  Hashed (reuse key value h location header) = (h ≡ H key) × (h < 2 ^ 64)
+  Hashed (copy key value h ttl) = (h ≡ H key) × (h < 2 ^ 64)
+  Hashed (refinish scratch) = Unit {0}
 
   same-heard : (k : Book) (t : Bool) → pick t k k ≡ k
   same-heard k true = refl
@@ -202,12 +153,20 @@ module _ (H : List ℕ → ℕ) where
   step-holds w k m (lookup j key h tick) hs =
       rw (same-heard k (lookupStep w j (getElem? (w .sets) j) key h tick .accepted)) (lookup-holds w k m j (getElem? (w .sets) j) refl key h tick (hs .1))
   step-holds w k m (clear j key h) hs = rw (same-heard k (clearStep w j (getElem? (w .sets) j) key h .accepted)) (clear-holds w k m j (getElem? (w .sets) j) refl key h (hs .1))
+  step-holds w k m (reopen records copied flags tick index filter starts lengths) hs = reopen-holds H w k m records copied flags tick index filter starts lengths
+  step-holds w k m (reuse key value h location header) hs = reuse-holds H w k m (w .current) (m .current) key value h record { location = location; «header_bytes» = header } (hs .0) (hs .1)
+  step-holds w k m (copy key value h ttl) hs = copy-holds H w k m (w .current) (m .current) key value h ttl (hs .0) (hs .1)
+  step-holds w k m (refinish scratch) hs = refinish-holds H w k m (w .current) (m .current) scratch
 
   pub answer-holds : (w : World) (k : Book) → Holds H w k → (c : Call (List ℕ)) → Hashed c → answered w c ≡ replied k (bare c)
   answer-holds w k m (push key value h ttl) hs = refl
   answer-holds w k m (finish target scratch) hs = refl
-  answer-holds w k m (lookup j key h tick) hs = ap (λ (y : Answer). y ∷ []) (answer-is w (k .expiry) (length (k .tape)) (pairs-get j (m .sets)) key h tick (hs .0) (hs .1))
+  answer-holds w k m (lookup j key h tick) hs = ap (λ (y : Answer). y ∷ []) (answer-is w (k .expiry) (filledIn (newest (k .sets))) (pairs-get j (m .sets)) key h tick (hs .0) (hs .1))
   answer-holds w k m (clear j key h) hs = refl
+  answer-holds w k m (reopen records copied flags tick index filter starts lengths) hs = refl
+  answer-holds w k m (reuse key value h location header) hs = refl
+  answer-holds w k m (copy key value h ttl) hs = refl
+  answer-holds w k m (refinish scratch) hs = refl
 
   -- ---- open
 
@@ -217,10 +176,11 @@ module _ (H : List ℕ → ℕ) where
       go : {o : Opened} → OpenCase config records (a .index) (a .filter) (a .starts) (a .lengths) arena o
           → ((b : SegmentCacheBuilder) → o .answer ≡ accept b → builderPasses b (length (o .index)) (length (o .filter)) (length (a .starts)) (length (a .lengths)) (length arena) ≡ true)
           → Holds H (openLeaves arena a o) (blank config)
-      go (open-refused n) passes = record { memory = refl; current = is-idle; sets = Forall₂·nil }
+      go (open-refused n) passes = record { memory = refl; top = omega arith; current = is-idle; sets = Forall₂·nil }
       go (open-made acc) passes =
           record {
             memory = refl;
+            top = omega arith;
             current =
                 is-building
                 record {

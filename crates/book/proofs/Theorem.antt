@@ -17,7 +17,7 @@ module _ (H : List ℕ → ℕ) where
   in-step (c ∷ cs) w k m hs =
       ap₂ (λ (x y : List Answer). x ++ y) (answer-holds H w k m c (hs .0)) (in-step cs (step w c .after) (heard k (bare c, step w c .accepted)) (step-holds H w k m c (hs .0)) (hs .1))
 
--- For any setting, any number of records, an arena and areas of any length and content, and any list of calls, refused ones and calls out of turn
+-- For any setting, any number of records, an arena and areas of any length and content, and any list of the eight calls, refused ones and calls out of turn
 -- included, the answers of the lookups are those by the book, which is fed the calls' arguments and whether each was accepted. (After an open that is
 -- refused no builder is open and there is no set: the claim then says nothing, and so it need not ask that open be accepted.)
 pub answers-by-the-book : (config : SegmentCacheConfig) (records : ℕ) (arena : List ℕ) (areas : Areas) (calls : List (Call (List ℕ))) → EqualHashes calls → Hashes64 calls

@@ -4,15 +4,16 @@
 use mathlib.Core.Bool.{Bool, true, false}
 use mathlib.Core.List.{List, [], _∷_, _++_}
 use mathlib.Core.Option.{Option, none, some}
-use Prim.Native.Nat.{ℕ, zero, suc, _+_, min}
+use Prim.Native.Nat.{ℕ, zero, suc, _+_, _*_, _/_, _%_, _^_, min}
 use lib.Dec.{eqb, leb, ltb}
-use lib.ListN.{length, getElem?}
+use lib.ListN.{length, take, drop, getD, getElem?}
 use Rattle.hash_parts.specs.Choice.{pick}
 use Rattle.hash_parts.specs.Duration.{encodedExpiry}
 use Rattle.hash_parts.specs.declared.setting.SegmentCacheConfig.{SegmentCacheConfig}
 use Rattle.hash_parts.specs.declared.setting.SegmentExpiry.{SegmentExpiry}
+use Rattle.hash_parts.specs.declared.setting.SegmentExpiry.the-variants.{None, Relative16}
 use Rattle.records.specs.Record.{recordBytes}
-use Rattle.book.specs.Calls.{Call, push, finish, lookup, clear, Answer, value, nothing, absent}
+use Rattle.book.specs.Calls.{Call, push, finish, lookup, clear, reopen, reuse, copy, refinish, Answer, value, nothing, absent, newest}
 
 -- ---- the book
 
@@ -29,16 +30,19 @@ pub record ListedSet : Type 0 where
   pub starts : List ℕ
   pub filled : ℕ
 
--- the stored bytes of all records, the list of the open builder, and the finished sets; the last is the newest
+-- the stored bytes of all records, the list of the open builder or rebuild, and the finished sets; the last is the newest. Of a rebuild also the tick given
+-- at its open, and the starts of the segments that it keeps.
 pub record Book : Type 0 where
   pub expiry : SegmentExpiry
   pub tape : List ℕ
   pub list : List Entry
+  pub tick : ℕ
+  pub kept : List ℕ
   pub sets : List ListedSet
 
 -- "Open: empty list, empty tape."
 abbrev pub blank : SegmentCacheConfig → Book
-blank config = record { expiry = config .expiry; tape = []; list = []; sets = [] }
+blank config = record { expiry = config .expiry; tape = []; list = []; tick = 0; kept = []; sets = [] }
 
 -- ---- starts. Segments: "Up to the target: one. Else each next segment starts at the lowest record location not below the last start plus target; with
 -- none, no more."
@@ -63,34 +67,109 @@ startsFrom (suc n) target l (some start) = start ∷ startsFrom n target l (lowe
 unfoldable pub startsOf : ℕ → ℕ → List Entry → List ℕ
 startsOf filled target l = pick (leb filled target) (0 ∷ []) (startsFrom 255 target l (some 0))
 
+-- ---- the newest set
+
+abbrev pub startsIn : Option ListedSet → List ℕ
+startsIn none = []
+startsIn (some s) = s .starts
+
+abbrev pub filledIn : Option ListedSet → ℕ
+filledIn none = 0
+filledIn (some s) = s .filled
+
+-- Questions: "keep flags (0 drops, else kept)"
+unfoldable pub keptBy : List ℕ → List ℕ → List ℕ
+keptBy [] starts = []
+keptBy (f ∷ flags) [] = []
+keptBy (f ∷ flags) (s ∷ starts) = pick (eqb f 0) (keptBy flags starts) (s ∷ keptBy flags starts)
+
+-- Rebuilt set: "appends copied records as one last segment after the filled arena .. No segment is added for zero copied bytes unless none is kept."
+abbrev pub rebuiltStarts : List ℕ → ℕ → ℕ → List ℕ
+rebuiltStarts [] base filled = base ∷ []
+rebuiltStarts (s ∷ kept) base filled = pick (ltb base filled) ((s ∷ kept) ++ (base ∷ [])) (s ∷ kept)
+
+-- Segments: "Location becomes segment × 2^32 + offset."
+abbrev pub placeOf : List ℕ → ℕ → ℕ
+placeOf starts location = getD starts (location / 2 ^ 32) 0 + location % 2 ^ 32
+
+-- ---- the deadline on the tape. Stored record: "Key length, value length (LEB128), with expiry on the deadline in 2 bytes little-endian, key, value."
+
+-- how many bytes a length prefix takes: up to the first below 128
+unfoldable pub prefixBytes : List ℕ → ℕ
+prefixBytes [] = 0
+prefixBytes (b ∷ l) = pick (ltb b 128) 1 (suc (prefixBytes l))
+
+abbrev pub pastPrefix : List ℕ → ℕ → ℕ
+pastPrefix tape at = at + prefixBytes (drop at tape)
+
+abbrev pub twoBytes : List ℕ → ℕ → ℕ
+twoBytes tape at = getD tape at 0 + 256 * getD tape (at + 1) 0
+
+-- "65,535 with expiry off"
+abbrev pub deadlineOn : SegmentExpiry → List ℕ → ℕ → ℕ
+deadlineOn None tape at = 65535
+deadlineOn (Relative16 tick) tape at = twoBytes tape (pastPrefix tape (pastPrefix tape at))
+
 -- ---- what the book notes of a call
 
--- "Push ..: the record joins its set's list with its deadline by Setting .., and its stored bytes are appended to the tape."
+-- "Push, copied push: the record joins its set's list with its deadline by Setting and Rebuilt set, and its stored bytes are appended to the tape."
 abbrev pub joined : Book → List ℕ → List ℕ → ℕ → Book
 joined b key v deadline =
     record {
       expiry = b .expiry;
       tape = b .tape ++ recordBytes (b .expiry) key v deadline;
       list = b .list ++ (record { at = length (b .tape); key = key; value = v; deadline = deadline } ∷ []);
+      tick = b .tick;
+      kept = b .kept;
       sets = b .sets;
     }
 
--- "Finish ..: this set is now the newest, its starts by Segments .., its filled bytes the tape's length."
-abbrev pub closed : Book → ℕ → Book
-closed b target =
+-- "Finish, rebuild finish: this set is now the newest, its starts by Segments or Rebuilt set, its filled bytes the tape's length."
+abbrev pub closed : Book → List ℕ → Book
+closed b starts =
     record {
       expiry = b .expiry;
       tape = b .tape;
       list = [];
-      sets = b .sets ++ (record { list = b .list; starts = startsOf (length (b .tape)) target (b .list); filled = length (b .tape) } ∷ []);
+      tick = 0;
+      kept = [];
+      sets = b .sets ++ (record { list = b .list; starts = starts; filled = length (b .tape) } ∷ []);
     }
 
--- of an accepted call; Setting: "the base is 0 in a build"
+-- "Rebuild open: a new empty list, the tape cut to the newest set's filled bytes."
+abbrev pub reopened : Book → List ℕ → ℕ → Book
+reopened b flags tick =
+    record {
+      expiry = b .expiry;
+      tape = take (filledIn (newest (b .sets))) (b .tape);
+      list = [];
+      tick = tick;
+      kept = keptBy flags (startsIn (newest (b .sets)));
+      sets = b .sets;
+    }
+
+-- "Reused push: the record joins with the deadline that the tape has at its location by the newest set's starts, 65,535 with expiry off."
+abbrev pub rejoined : Book → List ℕ → List ℕ → ℕ → Book
+rejoined b key v place =
+    record {
+      expiry = b .expiry;
+      tape = b .tape;
+      list = b .list ++ (record { at = place; key = key; value = v; deadline = deadlineOn (b .expiry) (b .tape) place } ∷ []);
+      tick = b .tick;
+      kept = b .kept;
+      sets = b .sets;
+    }
+
+-- of an accepted call; Setting: "the base is 0 in a build"; Rebuilt set: "copies have a tick given at rebuild open as base"
 abbrev pub noted : Book → Call (Unit {0}) → Book
 noted b (push key v h lifetime) = joined b key v (encodedExpiry (b .expiry) lifetime 0 .value)
-noted b (finish target scratch) = closed b target
+noted b (finish target scratch) = closed b (startsOf (length (b .tape)) target (b .list))
 noted b (lookup j key h tick) = b
 noted b (clear j key h) = b
+noted b (reopen records copied flags tick index filter starts lengths) = reopened b flags tick
+noted b (reuse key v h location header) = rejoined b key v (placeOf (startsIn (newest (b .sets))) location)
+noted b (copy key v h lifetime) = joined b key v (encodedExpiry (b .expiry) lifetime (b .tick) .value)
+noted b (refinish scratch) = closed b (rebuiltStarts (b .kept) (filledIn (newest (b .sets))) (length (b .tape)))
 
 -- "Other and refused calls: nothing."
 abbrev pub heard : Book → Call (Unit {0}) × Bool → Book
@@ -130,6 +209,10 @@ replied b (push key v h lifetime) = []
 replied b (finish target scratch) = []
 replied b (lookup j key h tick) = replyFrom (getElem? (b .sets) j) key tick ∷ []
 replied b (clear j key h) = []
+replied b (reopen records copied flags tick index filter starts lengths) = []
+replied b (reuse key v h location header) = []
+replied b (copy key v h lifetime) = []
+replied b (refinish scratch) = []
 
 -- the answers to the lookups in a list of calls, by the book
 abbrev pub replies : Book → List (Call (Unit {0}) × Bool) → List Answer

@@ -1,6 +1,7 @@
 -- The calls that a list is made of, and what a lookup answers.
 -- Assumes nothing.
-use mathlib.Core.List.{List}
+use mathlib.Core.List.{List, [], _∷_}
+use mathlib.Core.Option.{Option, none, some}
 use Prim.Native.Nat.{ℕ}
 use Rattle.hash_parts.specs.declared.duration.Lifetime.{Lifetime}
 
@@ -15,6 +16,14 @@ pub data Call (Area : Type 0) : Type 0 where
   lookup : ℕ → List ℕ → ℕ → ℕ → Call Area
   -- the access mark is cleared: set, key, hash
   clear : ℕ → List ℕ → ℕ → Call Area
+  -- a rebuild of the newest set is opened: records, copied record capacity, keep flags, tick; then index, filter, starts, lengths
+  reopen : ℕ → ℕ → List ℕ → ℕ → Area → Area → Area → Area → Call Area
+  -- a record of a kept segment: key, value, hash, location, header bytes
+  reuse : List ℕ → List ℕ → ℕ → ℕ → ℕ → Call Area
+  -- a copied record: key, value, hash, lifetime
+  copy : List ℕ → List ℕ → ℕ → Lifetime → Call Area
+  -- the rebuild is finished: scratch
+  refinish : Area → Call Area
 
 -- a call without its areas
 abbrev pub bare : {Area : Type 0} → Call Area → Call (Unit {0})
@@ -22,6 +31,10 @@ bare (push key value hash lifetime) = push key value hash lifetime
 bare (finish target scratch) = finish target tt
 bare (lookup set key hash tick) = lookup set key hash tick
 bare (clear set key hash) = clear set key hash
+bare (reopen records copied flags tick index filter starts lengths) = reopen records copied flags tick tt tt tt tt
+bare (reuse key value hash location header) = reuse key value hash location header
+bare (copy key value hash lifetime) = copy key value hash lifetime
+bare (refinish scratch) = refinish tt
 
 -- what a lookup answers: "the value's bytes or nothing"; or it is refused, or there is no such set
 pub data Answer : Type 0 where
@@ -29,3 +42,9 @@ pub data Answer : Type 0 where
   nothing : Answer
   refused : Answer
   absent : Answer
+
+-- the newest of some sets, the last
+abbrev pub newest : {A : Type 0} → List A → Option A
+newest [] = none
+newest (a ∷ []) = some a
+newest (a ∷ b ∷ l) = newest (b ∷ l)

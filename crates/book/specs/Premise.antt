@@ -1,9 +1,9 @@
--- The premise of the claim on lists of calls: equal keys carry equal hashes, in pushes, lookups and clearings, and hashes are numbers of 64 bits.
+-- The premise of the claim on lists of calls: equal keys carry equal hashes, in pushes, reused and copied ones too, lookups and clearings, and hashes are numbers of 64 bits.
 -- Assumes nothing.
 use mathlib.Core.Path.{_≡_}
 use mathlib.Core.List.{List, [], _∷_, _++_, List·Memᴰ}
 use Prim.Native.Nat.{ℕ, _^_, _<_}
-use Rattle.book.specs.Calls.{Call, push, finish, lookup, clear}
+use Rattle.book.specs.Calls.{Call, push, finish, lookup, clear, reopen, reuse, copy, refinish}
 
 -- the key of a call, with the hash that it carries
 abbrev pub carriedBy : {Area : Type 0} → Call Area → List (List ℕ × ℕ)
@@ -11,6 +11,10 @@ carriedBy (push key v hash lifetime) = (key, hash) ∷ []
 carriedBy (finish target scratch) = []
 carriedBy (lookup set key hash tick) = (key, hash) ∷ []
 carriedBy (clear set key hash) = (key, hash) ∷ []
+carriedBy (reopen records copied flags tick index filter starts lengths) = []
+carriedBy (reuse key v hash location header) = (key, hash) ∷ []
+carriedBy (copy key v hash lifetime) = (key, hash) ∷ []
+carriedBy (refinish scratch) = []
 
 abbrev pub carried : {Area : Type 0} → List (Call Area) → List (List ℕ × ℕ)
 carried [] = []

@@ -1,6 +1,7 @@
 -- The world that a list of calls goes through: states and areas as the calls leave them. Each call is the very definition that its contract
--- cites (afterOpen, afterPush, afterFinish, afterGet, afterTake), and the world after it holds what that definition says is left, refused calls
--- included. States and areas are carried over from call to call, nothing else writes to them, and no area is shared.
+-- cites (afterOpen, afterPush, afterFinish, afterGet, afterTake, afterRebuildOpen, afterReused, afterCopied, afterRebuildFinish), and the world after it
+-- holds what that definition says is left, refused calls included. States and areas are carried over from call to call, nothing else writes to them, and no
+-- area is shared. There is one line of rebuilds: each is opened from the newest set, and opening another ends an unfinished one.
 -- Assumes nothing.
 use mathlib.Core.Bool.{Bool, true, false}
 use mathlib.Core.List.{List, [], _∷_, _++_}
@@ -11,26 +12,31 @@ use Rattle.hash_parts.specs.declared.duration.Lifetime.{Lifetime}
 use Rattle.hash_parts.specs.declared.setting.SegmentCacheConfig.{SegmentCacheConfig}
 use Rattle.records.specs.Area.{spanned}
 use Rattle.records.specs.declared.record.Span.{Span}
-use Rattle.sets.specs.Answers.{Reply, accept, refuse, Placed}
+use Rattle.sets.specs.Answers.{Reply, accept, refuse, Placed, RebuildPlaced}
 use Rattle.sets.specs.Build.{Opened, afterOpen, Pushed, afterPush, Finished, afterFinish}
 use Rattle.sets.specs.Lookup.{Got, afterGet, Taken, afterTake}
+use Rattle.sets.specs.Rebuild.{RebuildOpened, afterRebuildOpen, Reused, afterReused, Copied, afterCopied, RebuildFinished, afterRebuildFinish}
 use Rattle.sets.specs.declared.builder.SegmentCacheBuilder.{SegmentCacheBuilder}
 use Rattle.sets.specs.declared.cache.FrozenSegmentCache.{FrozenSegmentCache}
-use Rattle.book.specs.Calls.{Call, push, finish, lookup, clear, bare, Answer, value, nothing, refused, absent}
+use Rattle.sets.specs.declared.rebuild.SegmentRecordLocation.{SegmentRecordLocation}
+use Rattle.sets.specs.declared.rebuild.SharedSegmentCacheBuild.{SharedSegmentCacheBuild}
+use Rattle.sets.specs.declared.rebuild.SharedSegmentCacheBuilder.{SharedSegmentCacheBuilder}
+use Rattle.book.specs.Calls.{Call, push, finish, lookup, clear, reopen, reuse, copy, refinish, bare, Answer, value, nothing, refused, absent, newest}
 
 -- ---- states with their areas
 
--- the areas of a builder, and then of its set
+-- the areas of a builder or a rebuild, and then of its set
 pub record Areas : Type 0 where
   pub index : List ℕ
   pub filter : List ℕ
   pub starts : List ℕ
   pub lengths : List ℕ
 
--- at most one builder is open
+-- at most one builder or rebuild is open
 pub data Current : Type 0 where
   idle : Current
   building : SegmentCacheBuilder → Areas → Current
+  rebuilding : SharedSegmentCacheBuilder → Areas → Current
 
 pub record FinishedSet : Type 0 where
   pub cache : FrozenSegmentCache
@@ -95,6 +101,7 @@ pushLeaves w a p =
 abbrev pub pushStep : World → Current → List ℕ → List ℕ → ℕ → Lifetime → Step
 pushStep w idle key v h ttl = outOfTurn w
 pushStep w (building b a) key v h ttl = pushLeaves w a (afterPush b h key v ttl (a .index) (a .filter) (w .arena))
+pushStep w (rebuilding r a) key v h ttl = outOfTurn w
 
 -- ---- finish
 
@@ -114,6 +121,7 @@ abbrev pub finishStep : World → Current → ℕ → List ℕ → Step
 finishStep w idle target scratch = outOfTurn w
 finishStep w (building b a) target scratch =
     finishLeaves w a (afterFinish b target (a .index) (a .starts) (a .lengths) scratch (w .arena))
+finishStep w (rebuilding r a) target scratch = outOfTurn w
 
 -- ---- lookup and mark clearing: of a set only its index changes
 
@@ -143,6 +151,90 @@ abbrev pub clearStep : World → ℕ → Option FinishedSet → List ℕ → ℕ
 clearStep w j none key h = outOfTurn w
 clearStep w j (some s) key h = setLeaves w j s (takeFrom w s key h .index) (isAccepted (takeFrom w s key h .answer))
 
+-- ---- rebuild open: refused, it leaves an unfinished rebuild open
+
+abbrev pub reopenedAs : Current → Areas → Reply SharedSegmentCacheBuilder FrozenSegmentCache → Current
+reopenedAs c areas (accept r) = rebuilding r areas
+reopenedAs c areas (refuse n s) = c
+
+abbrev pub reopenLeaves : World → RebuildOpened → Step
+reopenLeaves w o =
+    record {
+      after =
+          record {
+            arena = w .arena;
+            current = reopenedAs (w .current) (record { index = o .index; filter = o .filter; starts = o .starts; lengths = o .lengths }) (o .answer);
+            sets = w .sets;
+          };
+      accepted = isAccepted (o .answer);
+    }
+
+-- of the newest set; before the first is finished there is none
+abbrev pub reopenStep : World → Option FinishedSet → ℕ → ℕ → List ℕ → ℕ → List ℕ → List ℕ → List ℕ → List ℕ → Step
+reopenStep w none records copied flags tick index filter starts lengths = outOfTurn w
+reopenStep w (some s) records copied flags tick index filter starts lengths =
+    reopenLeaves w
+    (afterRebuildOpen (s .cache) (s .areas .starts) (s .areas .lengths) (w .arena) records copied flags tick index filter starts lengths)
+
+-- ---- reused and copied pushes
+
+-- the rebuild that a push hands back
+abbrev pub rebuildIn : Reply RebuildPlaced SharedSegmentCacheBuilder → SharedSegmentCacheBuilder
+rebuildIn (accept p) = p .builder
+rebuildIn (refuse n r) = r
+
+abbrev pub reuseLeaves : World → Areas → Reused → Step
+reuseLeaves w a p =
+    record {
+      after =
+          record {
+            arena = w .arena;
+            current = rebuilding (rebuildIn (p .answer)) (record { index = p .index; filter = p .filter; starts = a .starts; lengths = a .lengths });
+            sets = w .sets;
+          };
+      accepted = isAccepted (p .answer);
+    }
+
+abbrev pub reuseStep : World → Current → List ℕ → List ℕ → ℕ → SegmentRecordLocation → Step
+reuseStep w idle key v h at = outOfTurn w
+reuseStep w (building b a) key v h at = outOfTurn w
+reuseStep w (rebuilding r a) key v h at = reuseLeaves w a (afterReused r h key v at (a .index) (a .filter) (a .starts) (a .lengths) (w .arena))
+
+abbrev pub copyLeaves : World → Areas → Copied → Step
+copyLeaves w a p =
+    record {
+      after =
+          record {
+            arena = p .arena;
+            current = rebuilding (rebuildIn (p .answer)) (record { index = p .index; filter = p .filter; starts = a .starts; lengths = a .lengths });
+            sets = w .sets;
+          };
+      accepted = isAccepted (p .answer);
+    }
+
+abbrev pub copyStep : World → Current → List ℕ → List ℕ → ℕ → Lifetime → Step
+copyStep w idle key v h ttl = outOfTurn w
+copyStep w (building b a) key v h ttl = outOfTurn w
+copyStep w (rebuilding r a) key v h ttl = copyLeaves w a (afterCopied r h key v ttl (a .index) (a .filter) (a .starts) (a .lengths) (w .arena))
+
+-- ---- rebuild finish
+
+abbrev pub rebuiltAs : World → Areas → Reply SharedSegmentCacheBuild SharedSegmentCacheBuilder → World
+rebuiltAs w areas (accept s) = record { arena = w .arena; current = idle; sets = w .sets ++ (record { cache = s .cache; areas = areas } ∷ []) }
+rebuiltAs w areas (refuse n r) = record { arena = w .arena; current = rebuilding r areas; sets = w .sets }
+
+abbrev pub refinishLeaves : World → Areas → RebuildFinished → Step
+refinishLeaves w a f =
+    record {
+      after = rebuiltAs w (record { index = f .index; filter = a .filter; starts = f .starts; lengths = f .lengths }) (f .answer);
+      accepted = isAccepted (f .answer);
+    }
+
+abbrev pub refinishStep : World → Current → List ℕ → Step
+refinishStep w idle scratch = outOfTurn w
+refinishStep w (building b a) scratch = outOfTurn w
+refinishStep w (rebuilding r a) scratch = refinishLeaves w a (afterRebuildFinish r (a .index) (a .starts) (a .lengths) scratch (w .arena))
+
 -- ---- a list of calls
 
 abbrev pub step : World → Call (List ℕ) → Step
@@ -150,6 +242,11 @@ step w (push key v h ttl) = pushStep w (w .current) key v h ttl
 step w (finish target scratch) = finishStep w (w .current) target scratch
 step w (lookup j key h tick) = lookupStep w j (getElem? (w .sets) j) key h tick
 step w (clear j key h) = clearStep w j (getElem? (w .sets) j) key h
+step w (reopen records copied flags tick index filter starts lengths) =
+    reopenStep w (newest (w .sets)) records copied flags tick index filter starts lengths
+step w (reuse key v h location header) = reuseStep w (w .current) key v h record { location = location; «header_bytes» = header }
+step w (copy key v h ttl) = copyStep w (w .current) key v h ttl
+step w (refinish scratch) = refinishStep w (w .current) scratch
 
 -- the world after a list of calls
 abbrev pub worldAfter : World → List (Call (List ℕ)) → World
@@ -177,6 +274,10 @@ answered w (push key v h ttl) = []
 answered w (finish target scratch) = []
 answered w (lookup j key h tick) = answerFrom w (getElem? (w .sets) j) key h tick ∷ []
 answered w (clear j key h) = []
+answered w (reopen records copied flags tick index filter starts lengths) = []
+answered w (reuse key v h location header) = []
+answered w (copy key v h ttl) = []
+answered w (refinish scratch) = []
 
 -- the answers of the lookups in a list of calls
 abbrev pub answers : World → List (Call (List ℕ)) → List Answer

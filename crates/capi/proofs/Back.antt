@@ -10,9 +10,11 @@ use Rattle.hash_parts.specs.declared.setting.SegmentExpiry.{SegmentExpiry}
 use Rattle.hash_parts.specs.declared.setting.SegmentExpiry.the-variants.{None, Relative16}
 use Rattle.sets.specs.declared.builder.SegmentCacheBuilder.{SegmentCacheBuilder}
 use Rattle.sets.specs.declared.cache.FrozenSegmentCache.{FrozenSegmentCache}
+use Rattle.sets.specs.declared.rebuild.SharedSegmentCacheBuilder.{SharedSegmentCacheBuilder}
 use Rattle.sets.specs.declared.stats.SegmentCacheStats.{SegmentCacheStats}
-use Rattle.capi.specs.Words.{builderFrom, builderIn, builderWords, setFrom, setIn, setWords, settingAlone, settingBefore, settingForm, settingIn, statsIn, statsWords, tickNanos}
+use Rattle.capi.specs.Words.{builderFrom, builderIn, builderWords, rebuildFrom, rebuildIn, rebuildWords, setFrom, setIn, setWords, settingAlone, settingBefore, settingForm, settingIn, statsIn, statsWords, tickNanos}
 use Rattle.capi.specs.declared.words.LoadedBuilder.the-variants as builder
+use Rattle.capi.specs.declared.words.LoadedRebuild.the-variants as rebuild
 use Rattle.capi.specs.declared.words.LoadedSet.the-variants as set
 use Rattle.capi.specs.declared.words.LoadedSetting.{LoadedSetting}
 use Rattle.capi.specs.declared.words.LoadedSetting.the-variants as setting
@@ -50,6 +52,11 @@ pub set-back : (s : FrozenSegmentCache) → tickNanos (s .config .expiry) ≤ 2 
     → setIn (setWords s) ≡ set.Is s
 unfolding setIn
 set-back s h i j = ap (λ (z : LoadedSetting). setFrom z (setWords s)) (setting-back (s .config) _ h i j)
+
+pub rebuild-back : (r : SharedSegmentCacheBuilder) → tickNanos (r .config .expiry) ≤ 2 ^ 32 - 1 → r .config .«target_occupied_slots» ≤ 255 → r .config .«negative_filter_bits_per_entry» ≤ 255
+    → rebuildIn (rebuildWords r) ≡ rebuild.Is r
+unfolding rebuildIn
+rebuild-back r h i j = ap (λ (z : LoadedSetting). rebuildFrom z (rebuildWords r)) (setting-back (r .config) _ h i j)
 
 -- statistics have no number that does not fit
 pub stats-back : (s : SegmentCacheStats) → statsIn (statsWords s) ≡ stats.Is s

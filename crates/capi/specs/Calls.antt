@@ -15,10 +15,12 @@ use Rattle.hash_parts.specs.declared.setting.SegmentCacheConfig.{SegmentCacheCo
 use Rattle.records.specs.Record.{encodedSize}
 use Rattle.records.specs.declared.record.Span.{Span}
 use Rattle.sets.specs.Answers.{Reply, accept, refuse, Placed}
+use Rattle.sets.specs.Areas.{areaWordsFor}
 use Rattle.sets.specs.Build.{Opened, Pushed, Finished, afterOpen, afterPush, afterFinish}
 use Rattle.sets.specs.Lookup.{afterGet, afterTake, peekAnswer, probeAnswer, statsAnswer, walkAnswer}
 use Rattle.sets.specs.Questions.{all}
 use Rattle.sets.specs.Stats.{loadOf}
+use Rattle.sets.specs.declared.areas.AreaWords.{AreaWords}
 use Rattle.sets.specs.declared.builder.SegmentCacheBuilder.{SegmentCacheBuilder}
 use Rattle.sets.specs.declared.cache.FrozenSegmentCache.{FrozenSegmentCache}
 use Rattle.sets.specs.declared.cache.SegmentBaseRecord.{SegmentBaseRecord}
@@ -161,6 +163,16 @@ exportedFinish w target index starts lengths scratch arena old =
     (onBuilder (builderIn w) (λ b. finishLeft (afterFinish b target index starts lengths scratch arena) old)
     (finishWords 11 index starts lengths scratch old))
     (finishWords 11 index starts lengths scratch old)
+
+-- ---- the words of areas: index, filter, starts, lengths, scratch
+
+abbrev pub areaWordsTold : Reply AreaWords (Unit {0}) → List ℕ → Told
+areaWordsTold (accept w) old = told 0 (w .index ∷ w .filter ∷ w .starts ∷ w .lengths ∷ w .scratch ∷ [])
+areaWordsTold (refuse n u) old = told n old
+
+unfoldable pub exportedAreaWords : List ℕ → ℕ → List ℕ → Told
+exportedAreaWords w records old =
+    pick (eqb (length old) 5) (onSetting (settingAlone w) (λ c. areaWordsTold (areaWordsFor c records) old) (told 11 old)) (told 11 old)
 
 -- ---- the size of a record
 

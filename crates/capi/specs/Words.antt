@@ -14,11 +14,15 @@ use Rattle.hash_parts.specs.declared.setting.SegmentExpiry.the-variants.{None, 
 use Rattle.sets.specs.Questions.{all}
 use Rattle.sets.specs.declared.builder.SegmentCacheBuilder.{SegmentCacheBuilder}
 use Rattle.sets.specs.declared.cache.FrozenSegmentCache.{FrozenSegmentCache}
+use Rattle.sets.specs.declared.kept.KeptSegments.{KeptSegments}
+use Rattle.sets.specs.declared.rebuild.SharedSegmentCacheBuilder.{SharedSegmentCacheBuilder}
 use Rattle.sets.specs.declared.stats.SegmentCacheStats.{SegmentCacheStats}
 use Rattle.capi.specs.declared.words.LoadedBuilder.{LoadedBuilder}
 use Rattle.capi.specs.declared.words.LoadedBuilder.the-variants as builder
 use Rattle.capi.specs.declared.words.LoadedLifetime.{LoadedLifetime}
 use Rattle.capi.specs.declared.words.LoadedLifetime.the-variants as lifetime
+use Rattle.capi.specs.declared.words.LoadedRebuild.{LoadedRebuild}
+use Rattle.capi.specs.declared.words.LoadedRebuild.the-variants as rebuild
 use Rattle.capi.specs.declared.words.LoadedSet.{LoadedSet}
 use Rattle.capi.specs.declared.words.LoadedSet.the-variants as set
 use Rattle.capi.specs.declared.words.LoadedSetting.{LoadedSetting}
@@ -158,6 +162,59 @@ setWords s =
     ∷ s .«logical_key_bytes»
     ∷ s .«logical_value_bytes»
     ∷ s .«record_header_bytes»
+    ∷ [])
+
+-- ---- a rebuild: 22 words
+
+-- the four words of the kept segments
+abbrev pub keptAt : List ℕ → KeptSegments
+keptAt w = record { w0 = getD w 10 0; w1 = getD w 11 0; w2 = getD w 12 0; w3 = getD w 13 0 }
+
+abbrev pub rebuildOf : SegmentCacheConfig → List ℕ → SharedSegmentCacheBuilder
+rebuildOf c w =
+    record {
+      config = c;
+      «expected_entries» = getD w 6 0;
+      «inserted_entries» = getD w 7 0;
+      «bucket_count» = getD w 8 0;
+      «filter_words» = getD w 9 0;
+      kept = keptAt w;
+      «source_filled» = getD w 14 0;
+      «copied_bytes» = getD w 15 0;
+      «logical_key_bytes» = getD w 16 0;
+      «logical_value_bytes» = getD w 17 0;
+      «record_header_bytes» = getD w 18 0;
+      «reused_entries» = getD w 19 0;
+      «reused_record_bytes» = getD w 20 0;
+      «source_now_tick» = getD w 21 0;
+    }
+
+abbrev pub rebuildFrom : LoadedSetting → List ℕ → LoadedRebuild
+rebuildFrom (setting.Is c) w = rebuild.Is (rebuildOf c w)
+rebuildFrom setting.Malformed w = rebuild.Malformed
+
+unfoldable pub rebuildIn : List ℕ → LoadedRebuild
+rebuildIn w = pick (eqb (length w) 22) (rebuildFrom (settingIn w) w) rebuild.Malformed
+
+abbrev pub rebuildWords : SharedSegmentCacheBuilder → List ℕ
+rebuildWords r =
+    settingBefore (r .config)
+    (r .«expected_entries»
+    ∷ r .«inserted_entries»
+    ∷ r .«bucket_count»
+    ∷ r .«filter_words»
+    ∷ r .kept .w0
+    ∷ r .kept .w1
+    ∷ r .kept .w2
+    ∷ r .kept .w3
+    ∷ r .«source_filled»
+    ∷ r .«copied_bytes»
+    ∷ r .«logical_key_bytes»
+    ∷ r .«logical_value_bytes»
+    ∷ r .«record_header_bytes»
+    ∷ r .«reused_entries»
+    ∷ r .«reused_record_bytes»
+    ∷ r .«source_now_tick»
     ∷ [])
 
 -- ---- a lifetime: no words for never; seconds and nanoseconds, which stay too many for a second where they pass 32 bits

@@ -12,6 +12,8 @@ use crate::words::load_setting;
 use crate::words::store_builder;
 use crate::words::store_set;
 use records::record::SizeAnswer;
+use sets::areas::AreaWordsAnswer;
+use sets::areas::area_words;
 use sets::builder::FinishAnswer;
 use sets::builder::OpenAnswer;
 use sets::builder::PushAnswer;
@@ -20,7 +22,10 @@ ghost use mathlib.Core.Path.{_≡_};
 ghost use lib.ListN.{length};
 ghost use Rattle.records.specs.Record.{sizeOutcome};
 ghost use Rattle.sets.specs.Answers.{finishReply, openReply, pushReply};
-ghost use Rattle.capi.specs.Calls.{exportedFinish, exportedOpen, exportedPush, exportedSize, finishWords, openWords, placeTold, pushTold, pushWords, setTold, sizeTold, stateTold, told};
+ghost use Rattle.sets.specs.Areas.{areaWordsReply};
+ghost use Rattle.capi.specs.Calls.{areaWordsTold, exportedAreaWords, exportedFinish, exportedOpen, exportedPush, exportedSize, finishWords, openWords, placeTold, pushTold, pushWords, setTold, sizeTold, stateTold, told};
+
+const AREAS: usize = 5;
 
 #[no_mangle]
 pub extern "C" fn segment_cache_builder_words() -> usize
@@ -168,6 +173,47 @@ fn tell_finish(answer: FinishAnswer, set: &mut [u64]) -> u64
             refusal,
             builder: _,
         } => refusal.number() as u64,
+    }
+}
+
+// How many words the areas for so many records take: index, filter, starts, lengths, scratch.
+#[no_mangle]
+pub extern "C" fn segment_cache_area_words(
+    setting: &[u64],
+    records: usize,
+    words: &mut [u64],
+) -> u64
+    ensures { λ r. ⌜ told r (now (words .exit)) ≡ exportedAreaWords (now (setting .entry)) records (now (words .entry)) ⌝ }
+{
+    if words.len() != AREAS {
+        return MALFORMED;
+    }
+    let LoadedSetting::Is(config) = load_setting(setting) else {
+        return MALFORMED;
+    };
+    let answer = area_words(config, records);
+    tell_area_words(answer, words)
+}
+
+fn tell_area_words(answer: AreaWordsAnswer, words: &mut [u64]) -> u64
+    requires { ⌜ length (now words) ≡ 5 ⌝ }
+    ensures { λ r. ⌜ told r (now (words .exit)) ≡ areaWordsTold (areaWordsReply answer) (now (words .entry)) ⌝ }
+{
+    match answer {
+        AreaWordsAnswer::Words(needed) => {
+            copy_words(
+                words,
+                &[
+                    needed.index as u64,
+                    needed.filter as u64,
+                    needed.starts as u64,
+                    needed.lengths as u64,
+                    needed.scratch as u64,
+                ],
+            );
+            0
+        }
+        AreaWordsAnswer::Refused(refusal) => refusal.number() as u64,
     }
 }
 

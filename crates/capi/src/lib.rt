@@ -3,5 +3,6 @@
 // a refusal leaves as they were.
 mod build_calls;
 mod lookup_calls;
+mod rebuild_calls;
 mod stats_calls;
 mod words;

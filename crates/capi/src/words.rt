@@ -6,15 +6,19 @@ use hash_parts::setting::SegmentCacheConfig;
 use hash_parts::setting::SegmentExpiry;
 use sets::builder::SegmentCacheBuilder;
 use sets::cache::FrozenSegmentCache;
+use sets::kept::KeptSegments;
+use sets::rebuild::SharedSegmentCacheBuilder;
 use sets::stats::SegmentCacheStats;
 ghost use mathlib.Core.Path.{_≡_};
 ghost use Prim.Native.Nat.{_≤_, min, _-_, _^_};
 ghost use lib.ListN.{length};
-ghost use Rattle.capi.specs.Words.{builderIn, builderWords, expiryFlag, expiryOf, flagOf, lifetimeIn, setIn, setWords, settingAlone, settingIn, statsIn, tickNanos, tickSecs};
+ghost use Rattle.capi.specs.Words.{builderIn, builderWords, expiryFlag, expiryOf, flagOf, lifetimeIn, rebuildIn, rebuildWords, setIn, setWords, settingAlone, settingIn, statsIn, tickNanos, tickSecs};
 
 pub(crate) const BUILDER_WORDS: usize = 13;
 
 pub(crate) const SET_WORDS: usize = 15;
+
+pub(crate) const REBUILD_WORDS: usize = 22;
 
 pub(crate) const STATS_WORDS: usize = 8;
 
@@ -37,6 +41,11 @@ pub(crate) enum LoadedBuilder {
 
 pub(crate) enum LoadedSet {
     Is(FrozenSegmentCache),
+    Malformed,
+}
+
+pub(crate) enum LoadedRebuild {
+    Is(SharedSegmentCacheBuilder),
     Malformed,
 }
 
@@ -145,6 +154,39 @@ pub(crate) fn load_set(words: &[u64]) -> LoadedSet
         logical_key_bytes: words[12] as usize,
         logical_value_bytes: words[13] as usize,
         record_header_bytes: words[14] as usize,
+    })
+}
+
+pub(crate) fn load_rebuild(words: &[u64]) -> LoadedRebuild
+    ensures { λ r. ⌜ r ≡ rebuildIn (now (words .entry)) ⌝ }
+{
+    if words.len() != REBUILD_WORDS {
+        return LoadedRebuild::Malformed;
+    }
+    let LoadedSetting::Is(config) = front_setting(words) else {
+        return LoadedRebuild::Malformed;
+    };
+    let kept = KeptSegments {
+        w0: words[10],
+        w1: words[11],
+        w2: words[12],
+        w3: words[13],
+    };
+    LoadedRebuild::Is(SharedSegmentCacheBuilder {
+        config,
+        expected_entries: words[6] as usize,
+        inserted_entries: words[7] as usize,
+        bucket_count: words[8] as usize,
+        filter_words: words[9] as usize,
+        kept,
+        source_filled: words[14] as usize,
+        copied_bytes: words[15] as usize,
+        logical_key_bytes: words[16] as usize,
+        logical_value_bytes: words[17] as usize,
+        record_header_bytes: words[18] as usize,
+        reused_entries: words[19] as usize,
+        reused_record_bytes: words[20] as usize,
+        source_now_tick: words[21],
     })
 }
 
@@ -296,6 +338,45 @@ pub(crate) fn store_set(out: &mut [u64], set: FrozenSegmentCache)
             set.logical_key_bytes as u64,
             set.logical_value_bytes as u64,
             set.record_header_bytes as u64,
+        ],
+    );
+}
+
+pub(crate) fn store_rebuild(out: &mut [u64], rebuild: SharedSegmentCacheBuilder)
+    requires { ⌜ length (now out) ≡ 22 ⌝ }
+    ensures { λ r. ⌜ now (out .exit) ≡ rebuildWords rebuild ⌝ }
+{
+    let config = rebuild.config;
+    let expiry = config.expiry;
+    let flag = expiry_flag(expiry);
+    let secs = tick_secs(expiry);
+    let nanos = tick_nanos(expiry);
+    let packed = flag_of(config.packed_bucket_index);
+    copy_words(
+        out,
+        &[
+            flag,
+            secs,
+            nanos,
+            config.target_occupied_slots as u64,
+            packed,
+            config.negative_filter_bits_per_entry as u64,
+            rebuild.expected_entries as u64,
+            rebuild.inserted_entries as u64,
+            rebuild.bucket_count as u64,
+            rebuild.filter_words as u64,
+            rebuild.kept.w0,
+            rebuild.kept.w1,
+            rebuild.kept.w2,
+            rebuild.kept.w3,
+            rebuild.source_filled as u64,
+            rebuild.copied_bytes as u64,
+            rebuild.logical_key_bytes as u64,
+            rebuild.logical_value_bytes as u64,
+            rebuild.record_header_bytes as u64,
+            rebuild.reused_entries as u64,
+            rebuild.reused_record_bytes as u64,
+            rebuild.source_now_tick,
         ],
     );
 }

@@ -2,15 +2,16 @@
 use mathlib.Core.Path.{_≡_, refl, sym, _∙_}
 use mathlib.Core.Bool.{Bool, true, false}
 use mathlib.Core.List.{List}
-use Prim.Native.Nat.{ℕ, _*_, _≤_, _<_}
+use Prim.Native.Nat.{ℕ, zero, suc, _*_, _≤_, _<_}
 use native.Mathlib.Omega.{arith}
 use lib.Dec.{eqb, leb, ltb}
 use lib.ListN.{length}
-use borrow.Author.Tests.{eq-eqb, eqb-true, leb-true, ltb-true}
+use borrow.Author.Tests.{eq-eqb, ne-eqb, eqb-true, leb-true, ltb-true}
 use Rattle.hash_parts.specs.Choice.{pick}
 use Rattle.hash_parts.specs.declared.duration.Lifetime.{Lifetime}
 use Rattle.hash_parts.specs.declared.setting.SegmentCacheConfig.{SegmentCacheConfig}
 use Rattle.index.specs.Build.{cleared}
+use Rattle.index.specs.Segments.{locationsInside}
 use Rattle.index.specs.declared.build.BuildSlot.{BuildSlot}
 use Rattle.index.specs.declared.build.BuildSlot.the-variants.{Empty, Duplicate, Full}
 use Rattle.sets.specs.Answers.{accept}
@@ -21,9 +22,22 @@ use Rattle.sets.proofs.Counts.{both, AreasHoldBuilder, builder-areas-as
 use Rattle.sets.proofs.Decides.{own-number}
 
 -- the first question, and those after it
-then : (b : Bool) (n r : ℕ) → 0 < n → pick b r n ≡ 0 → (b ≡ true) × (r ≡ 0)
+pub then : (b : Bool) (n r : ℕ) → 0 < n → pick b r n ≡ 0 → (b ≡ true) × (r ≡ 0)
 then true n r h e = (refl, e)
 then false n r h e = absurd (omega (arith, e))
+
+-- the same of a question that is answered no just where its number is not 0
+pub then-own : (n r : ℕ) → pick (eqb n 0) r n ≡ 0 → (n ≡ 0) × (r ≡ 0)
+then-own zero r e = (refl, e)
+then-own (suc n) r e =
+    let own : pick (eqb (suc n) 0) r (suc n) ≡ suc n = rw (ne-eqb (suc n) 0 (λ (z : suc n ≡ 0). omega arith)) in
+    absurd (omega (arith, own, e))
+
+-- a slot that was found
+pub found-slot : (s : BuildSlot) → isFound s ≡ true → s ≡ Empty (slotIn s)
+found-slot (Empty s) q = refl
+found-slot Duplicate q = absurd (let z : _≡_ {A = ℕ} 0 1 = cc in omega arith)
+found-slot Full q = absurd (let z : _≡_ {A = ℕ} 0 1 = cc in omega arith)
 
 -- ---- open
 
@@ -86,14 +100,9 @@ module _ (b : SegmentCacheBuilder) (h : ℕ) (key : List ℕ) (ttl : Lifetime) (
         areas = builder-areas-asked b (length index) (length arena) (t .0);
         filter-holds = leb-true _ _ (u .0);
         announced = ltb-true _ _ (w .0);
-        place = found (slotFor b h key index arena) (y .0);
+        place = found-slot (slotFor b h key index arena) (y .0);
         deadline = sym (own-number (deadlineFor (b .config) ttl .number)) ∙ y .1;
       }
-    where
-      found : (s : BuildSlot) → isFound s ≡ true → s ≡ Empty (slotIn s)
-      found (Empty s) q = refl
-      found Duplicate q = absurd (let z : _≡_ {A = ℕ} 0 1 = cc in omega arith)
-      found Full q = absurd (let z : _≡_ {A = ℕ} 0 1 = cc in omega arith)
 
 -- ---- finish: all questions but the last, on the number of segments
 
@@ -105,6 +114,7 @@ module _ (b : SegmentCacheBuilder) (target : ℕ) (index : List ℕ) (starts len
     pub complete : b .«inserted_entries» ≡ b .«expected_entries»
     pub some-target : 1 ≤ target
     pub scratch-holds : scratchHolds (b .config) (b .«bucket_count») scratch ≡ true
+    pub located : locationsInside index (b .«bucket_count») (b .filled) ≡ true
 
   pub finish-asked : firstNo (askFinish b target index starts lengths scratch arena) ≡ 0 → FinishAsked
   unfolding askFinish segmentAreasHold targetFits
@@ -114,6 +124,7 @@ module _ (b : SegmentCacheBuilder) (target : ℕ) (index : List ℕ) (starts len
       let v = then (eqb (b .«inserted_entries») (b .«expected_entries»)) 3 _ (omega arith) (u .1) in
       let w = then (targetFits target) 8 _ (omega arith) (v .1) in
       let x = then (scratchHolds (b .config) (b .«bucket_count») scratch) 10 _ (omega arith) (w .1) in
+      let y = then (locationsInside index (b .«bucket_count») (b .filled)) 11 _ (omega arith) (x .1) in
       let segments = both (leb 256 starts) _ (u .0) in
       record {
         areas = builder-areas-asked b (length index) arena (t .0);
@@ -122,4 +133,5 @@ module _ (b : SegmentCacheBuilder) (target : ℕ) (index : List ℕ) (starts len
         complete = eqb-true _ _ (v .0);
         some-target = leb-true _ _ (both (leb 1 target) _ (w .0) .0);
         scratch-holds = x .0;
+        located = y .0;
       }

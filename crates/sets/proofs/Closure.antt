@@ -51,7 +51,7 @@ setPasses s index filter starts lengths arena = all (areasHoldSet s index starts
 
 -- ---- lengths of areas
 
-cleared-length : (area : List ℕ) (count : ℕ) → length (cleared area count) ≡ length area
+pub cleared-length : (area : List ℕ) (count : ℕ) → length (cleared area count) ≡ length area
 unfolding cleared
 cleared-length area count = go (leb count (length area)) refl
   where
@@ -64,7 +64,7 @@ pub pasted-length : (at : ℕ) (s area : List ℕ) → at + length s ≤ length 
 pasted-length at s area h =
     omega (arith, length-append (take at area) (over s (drop at area)), length-append s (drop (length s) (drop at area)), length-take at area, length-drop at area, length-drop (length s) (drop at area))
 
-displaced-length : (filter : List ℕ) (words h slot buckets : ℕ) → length (displacedMarked filter words h slot buckets) ≡ length filter
+pub displaced-length : (filter : List ℕ) (words h slot buckets : ℕ) → length (displacedMarked filter words h slot buckets) ≡ length filter
 unfolding displacedMarked
 displaced-length filter words h slot buckets = go (leb 2 (displaced (firstBucket h buckets) (slot / 8) buckets))
   where
@@ -90,7 +90,7 @@ packed-index-length buckets index scratch = go (leb (8 * buckets) (length index)
     go true e false = refl
     go false e q = refl
 
-layout-length : (packed : Bool) (buckets : ℕ) (index scratch : List ℕ) → length (pick packed (packedIndex buckets index scratch) index) ≡ length index
+pub layout-length : (packed : Bool) (buckets : ℕ) (index scratch : List ℕ) → length (pick packed (packedIndex buckets index scratch) index) ≡ length index
 layout-length true buckets index scratch = packed-index-length buckets index scratch
 layout-length false buckets index scratch = refl
 

@@ -35,11 +35,11 @@ module _ {A : Type 0} where
 -- ---- a plan
 
 module _ {A : Type 0} where
-  planned-yes : (n : ℕ) (x y : A) → _≡_ {A = Reply A (Unit {0})} (decided n (accept x) (λ m. refuse m tt)) (accept y) → (n ≡ 0) × (x ≡ y)
+  pub planned-yes : (n : ℕ) (x y : A) → _≡_ {A = Reply A (Unit {0})} (decided n (accept x) (λ m. refuse m tt)) (accept y) → (n ≡ 0) × (x ≡ y)
   planned-yes zero x y e = (refl, cc)
   planned-yes (suc n) x y e = absurd (let z : _≡_ {A = ℕ} 0 1 = cc in omega arith)
 
-  planned-no : (n m : ℕ) (x : A) → _≡_ {A = Reply A (Unit {0})} (decided n (accept x) (λ k. refuse k tt)) (refuse m tt) → n ≡ m
+  pub planned-no : (n m : ℕ) (x : A) → _≡_ {A = Reply A (Unit {0})} (decided n (accept x) (λ k. refuse k tt)) (refuse m tt) → n ≡ m
   planned-no zero m x e = absurd (let z : _≡_ {A = ℕ} 0 1 = cc in omega arith)
   planned-no (suc n) m x e = cc
 

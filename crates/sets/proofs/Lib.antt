@@ -6,5 +6,13 @@ pub mod Counts
 pub mod Decides
 pub mod EmptySlots
 pub mod Finding
+pub mod KeptBits
+pub mod KeptWords
+pub mod ReadInside
+pub mod RebuildAccepted
+pub mod RebuildAsked
+pub mod RebuildClosure
+pub mod RebuildSteps
+pub mod SourceClosure
 pub mod Splitting
 pub mod WalkSteps

@@ -23,6 +23,14 @@ use Rattle.sets.specs.declared.cache.TakeAnswer.{TakeAnswer}
 use Rattle.sets.specs.declared.cache.TakeAnswer.the-variants as take
 use Rattle.sets.specs.declared.cache.WalkAnswer.{WalkAnswer}
 use Rattle.sets.specs.declared.cache.WalkAnswer.the-variants as walk
+use Rattle.sets.specs.declared.rebuild.RebuildFinishAnswer.{RebuildFinishAnswer}
+use Rattle.sets.specs.declared.rebuild.RebuildFinishAnswer.the-variants as refinish
+use Rattle.sets.specs.declared.rebuild.RebuildOpenAnswer.{RebuildOpenAnswer}
+use Rattle.sets.specs.declared.rebuild.RebuildOpenAnswer.the-variants as reopen
+use Rattle.sets.specs.declared.rebuild.RebuildPushAnswer.{RebuildPushAnswer}
+use Rattle.sets.specs.declared.rebuild.RebuildPushAnswer.the-variants as repush
+use Rattle.sets.specs.declared.rebuild.SharedSegmentCacheBuild.{SharedSegmentCacheBuild}
+use Rattle.sets.specs.declared.rebuild.SharedSegmentCacheBuilder.{SharedSegmentCacheBuilder}
 use Rattle.sets.specs.declared.stats.SegmentCacheStats.{SegmentCacheStats}
 
 -- accepted, with the call's values; or refused, with a number and what is handed back
@@ -78,3 +86,23 @@ walkReply (walk.Refused e) = refuse (errorNumber e) tt
 abbrev pub statsReply : StatsAnswer → Reply SegmentCacheStats (Unit {0})
 statsReply (stats.Stats n) = accept n
 statsReply (stats.Refused e) = refuse (errorNumber e) tt
+
+-- ---- rebuilds
+
+-- where a record of a rebuild was put
+pub record RebuildPlaced : Type 0 where
+  pub builder : SharedSegmentCacheBuilder
+  pub slot : ℕ
+  pub location : ℕ
+
+abbrev pub rebuildOpenReply : RebuildOpenAnswer → Reply SharedSegmentCacheBuilder FrozenSegmentCache
+rebuildOpenReply (reopen.Opened r) = accept r
+rebuildOpenReply (reopen.Refused e source) = refuse (errorNumber e) source
+
+abbrev pub rebuildPushReply : RebuildPushAnswer → Reply RebuildPlaced SharedSegmentCacheBuilder
+rebuildPushReply (repush.Pushed r slot location) = accept record { builder = r; slot = slot; location = location }
+rebuildPushReply (repush.Refused e r) = refuse (errorNumber e) r
+
+abbrev pub rebuildFinishReply : RebuildFinishAnswer → Reply SharedSegmentCacheBuild SharedSegmentCacheBuilder
+rebuildFinishReply (refinish.Finished b) = accept b
+rebuildFinishReply (refinish.Refused e r) = refuse (errorNumber e) r

@@ -78,7 +78,7 @@ pub enum FinishAnswer {
 }
 
 // Where a push will put its record, and with which deadline.
-enum PushPlan {
+pub(crate) enum PushPlan {
     Place(usize, u16),
     Refused(SegmentCacheBuildError),
 }
@@ -409,7 +409,7 @@ fn plan_deadline(config: SegmentCacheConfig, slot: usize, ttl: Lifetime) -> Push
 }
 
 // The packed layout, where the setting asks for it.
-fn pack_index(packed: bool, index: &mut [u64], buckets: usize, scratch: &mut [u64])
+pub(crate) fn pack_index(packed: bool, index: &mut [u64], buckets: usize, scratch: &mut [u64])
     ensures { λ r. ⌜ (now (index .exit) ≡ pick packed (packedIndex buckets (now (index .entry)) (now (scratch .entry))) (now (index .entry))) × (now (scratch .exit) ≡ pick packed (packedScratch buckets (now (index .entry)) (now (scratch .entry))) (now (scratch .entry))) ⌝ }
 {
     if packed {

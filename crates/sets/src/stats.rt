@@ -54,7 +54,7 @@ impl SegmentCacheStats {
     }
 }
 
-fn wrapping_sum(a: usize, b: usize) -> usize
+pub(crate) fn wrapping_sum(a: usize, b: usize) -> usize
     ensures { λ r. ⌜ r ≡ (a + b) % 2 ^ 64 ⌝ }
 {
     std::num::wrapping_add_u64(a as u64, b as u64) as usize

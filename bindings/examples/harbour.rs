@@ -1,0 +1,178 @@
+//! Depths by cell and notes of a harbour, some with a lapse time: built, asked before and after they
+//! lapse and, where the library can, rebuilt after a new survey. Prints the lines of harbour.c.
+use segment_cache::{AreaWords, Arena, Builder, Refusal, Remaining, Set, Setting};
+use std::time::Duration;
+
+struct Note {
+    key: &'static str,
+    value: &'static str,
+    lifetime: Option<Duration>,
+}
+
+const fn note(key: &'static str, value: &'static str, lifetime: Option<Duration>) -> Note {
+    Note {
+        key,
+        value,
+        lifetime,
+    }
+}
+
+const fn minutes(minutes: u64) -> Option<Duration> {
+    Some(Duration::from_secs(60 * minutes))
+}
+
+const NOTES: [Note; 4] = [
+    note("cell 1204", "11.4 m", minutes(90)),
+    note("cell 1205", "10.9 m", minutes(30)),
+    note("berth 7", "mud, 9.1 m alongside", None),
+    note("Aurora", "air draft 28.2 m", minutes(360)),
+];
+
+const SEGMENT_TARGET: usize = 32;
+
+// FNV-1a, 64 bits.
+fn hash_of(key: &[u8]) -> u64 {
+    key.iter().fold(0xcbf2_9ce4_8422_2325, |hash: u64, byte| {
+        (hash ^ u64::from(*byte)).wrapping_mul(0x0100_0000_01b3)
+    })
+}
+
+fn put(builder: &mut Builder<'_>, note: &Note) -> Result<(), Refusal> {
+    let key = note.key.as_bytes();
+    builder.push(hash_of(key), key, note.value.as_bytes(), note.lifetime)?;
+    Ok(())
+}
+
+fn build(arena: &mut Arena) -> Result<Set, Refusal> {
+    let setting = Setting::with_relative_expiry(Duration::from_secs(60))
+        .with_negative_filter_bits_per_entry(8);
+    let need = AreaWords::of(&setting, NOTES.len())?;
+    println!(
+        "{} records: index {}, filter {}, scratch {} words",
+        NOTES.len(),
+        need.index,
+        need.filter,
+        need.scratch
+    );
+    let mut builder = Builder::open(arena, &setting, NOTES.len())?;
+    for note in &NOTES[..3] {
+        put(&mut builder, note)?;
+    }
+    if let Err(refusal) = put(&mut builder, &NOTES[0]) {
+        println!("{} again: {refusal:?}", NOTES[0].key);
+    }
+    put(&mut builder, &NOTES[3])?;
+    let set = builder.finish(SEGMENT_TARGET)?;
+    println!(
+        "built: {} records, {} segments, {} bytes",
+        set.len(),
+        set.segments(),
+        set.filled_bytes()
+    );
+    Ok(set)
+}
+
+fn ask(set: &mut Set, arena: &Arena, name: &str, key: &str, tick: u64) -> Result<(), Refusal> {
+    let answer = set.get(arena, hash_of(key.as_bytes()), key.as_bytes(), tick)?;
+    let known = match answer {
+        Some(value) => String::from_utf8_lossy(value),
+        None => "not known".into(),
+    };
+    println!("{name}, minute {tick}: {key} is {known}");
+    Ok(())
+}
+
+fn take_mark(set: &mut Set, arena: &Arena, key: &str) -> Result<(), Refusal> {
+    let asked = set.take_accessed(arena, hash_of(key.as_bytes()), key.as_bytes())?;
+    println!("{key} was {}", if asked { "asked" } else { "not asked" });
+    Ok(())
+}
+
+fn walk(set: &Set, arena: &Arena, tick: u64) -> Result<(), Refusal> {
+    for entry in set.entries(arena, tick)? {
+        let left = match entry.remaining {
+            Remaining::Never => "never lapses".to_string(),
+            Remaining::Finite(time) => format!("has {} s left", time.as_secs()),
+            Remaining::Nothing => "has lapsed".to_string(),
+        };
+        let key = String::from_utf8_lossy(entry.key);
+        println!("slot {}: {key} {left}", entry.slot);
+    }
+    Ok(())
+}
+
+fn count(set: &Set) -> Result<(), Refusal> {
+    let stats = set.stats()?;
+    let load = stats.index_load_bps();
+    println!(
+        "{} bytes held, {}.{:02} % of the slots taken",
+        stats.modeled_retained_bytes(),
+        load / 100,
+        load % 100
+    );
+    Ok(())
+}
+
+// After a new survey both depths are copied behind the filled part of the arena, the segment of the old
+// ones is dropped, and the other records stay where they are.
+fn rebuild(arena: &mut Arena, source: &Set, tick: u64) -> Result<Set, Refusal> {
+    use segment_cache::{Place, Plan, Rebuild};
+    let survey = [
+        note("cell 1204", "11.3 m", minutes(90)),
+        note("cell 1205", "10.7 m", minutes(30)),
+    ];
+    let kept: Vec<(u64, Place)> = source
+        .entries(arena, tick)?
+        .filter(|entry| entry.place().segment() == 1)
+        .map(|entry| (hash_of(entry.key), entry.place()))
+        .collect();
+    let plan = Plan {
+        records: kept.len() + survey.len(),
+        copied_record_capacity: 38,
+        keep: &[false, true],
+        now_tick: tick,
+    };
+    let mut rebuild = Rebuild::open(arena, source, &plan)?;
+    for (hash, place) in kept {
+        rebuild.push_reused(hash, place)?;
+    }
+    for note in &survey {
+        let key = note.key.as_bytes();
+        rebuild.push_copied(hash_of(key), key, note.value.as_bytes(), note.lifetime)?;
+    }
+    let rebuilt = rebuild.finish()?;
+    println!(
+        "rebuilt: {} records, {} segments; {} records reused, {} bytes copied",
+        rebuilt.set.len(),
+        rebuilt.set.segments(),
+        rebuilt.reused_entries,
+        rebuilt.copied_record_bytes
+    );
+    Ok(rebuilt.set)
+}
+
+fn rebuild_and_ask(arena: &mut Arena, first: &mut Set) -> Result<(), Refusal> {
+    let mut second = rebuild(arena, first, 30)?;
+    ask(&mut second, arena, "second", "cell 1205", 59)?;
+    ask(&mut second, arena, "second", "cell 1205", 60)?;
+    ask(&mut second, arena, "second", "Aurora", 359)?;
+    ask(&mut second, arena, "second", "Aurora", 360)?;
+    ask(first, arena, "first", "cell 1204", 31)?;
+    walk(&second, arena, 31)
+}
+
+fn main() -> Result<(), Refusal> {
+    let mut arena = Arena::new(1024);
+    let mut first = build(&mut arena)?;
+    ask(&mut first, &arena, "first", "cell 1205", 0)?;
+    ask(&mut first, &arena, "first", "cell 1205", 29)?;
+    ask(&mut first, &arena, "first", "cell 1205", 30)?;
+    ask(&mut first, &arena, "first", "berth 7", 70_000)?;
+    ask(&mut first, &arena, "first", "cell 1206", 0)?;
+    take_mark(&mut first, &arena, "cell 1205")?;
+    take_mark(&mut first, &arena, "Aurora")?;
+    walk(&first, &arena, 30)?;
+    count(&first)?;
+    rebuild_and_ask(&mut arena, &mut first)?;
+    Ok(())
+}

@@ -1,0 +1,139 @@
+//! Records as probe and walk tell them.
+use crate::arena::{Arena, Stamp};
+use crate::set::Set;
+use std::time::Duration;
+
+pub(crate) const RECORD_WORDS: usize = 11;
+
+/// What is left of a record's time.
+#[derive(Clone, Copy, Debug, PartialEq, Eq)]
+pub enum Remaining {
+    /// It never lapses.
+    Never,
+    /// It lapses after this time.
+    Finite(Duration),
+    /// It has lapsed; or the time is longer than a [`Duration`].
+    Nothing,
+}
+
+/// A record of a set.
+#[derive(Clone, Copy, Debug, PartialEq, Eq)]
+pub struct Entry<'a> {
+    /// The slot of the index.
+    pub slot: usize,
+    /// The key, a part of the arena.
+    pub key: &'a [u8],
+    /// The value, a part of the arena.
+    pub value: &'a [u8],
+    /// What is left of its time.
+    pub remaining: Remaining,
+    place: Place,
+}
+
+/// Where a record stands, for reuse in a rebuild: unlike an [`Entry`] it borrows nothing.
+#[derive(Clone, Copy, Debug, PartialEq, Eq)]
+pub struct Place {
+    pub(crate) location: u64,
+    pub(crate) header_bytes: usize,
+    pub(crate) key: (usize, usize),
+    pub(crate) value: (usize, usize),
+    pub(crate) source: Stamp,
+}
+
+impl Place {
+    /// The number of the segment that the record stands in.
+    pub fn segment(&self) -> usize {
+        (self.location >> 32) as usize
+    }
+}
+
+impl<'a> Entry<'a> {
+    // The eleven words: 1, slot, location, bytes before the key, place and length of key and value, and
+    // what is left; or zeros.
+    pub(crate) fn of_words(
+        words: &[u64; RECORD_WORDS],
+        arena: &'a Arena,
+        source: Stamp,
+    ) -> Option<Entry<'a>> {
+        if words[0] == 0 {
+            return None;
+        }
+        let [slot, _, header_bytes, key_at, key_len, value_at, value_len] =
+            std::array::from_fn(|i| words[i + 1] as usize);
+        Some(Entry {
+            slot,
+            key: &arena.bytes()[key_at..key_at + key_len],
+            value: &arena.bytes()[value_at..value_at + value_len],
+            remaining: remaining_of(words[8], words[9], words[10]),
+            place: Place {
+                location: words[2],
+                header_bytes,
+                key: (key_at, key_len),
+                value: (value_at, value_len),
+                source,
+            },
+        })
+    }
+
+    /// Where the record stands.
+    pub fn place(&self) -> Place {
+        self.place
+    }
+}
+
+fn remaining_of(kind: u64, seconds: u64, nanoseconds: u64) -> Remaining {
+    match kind {
+        0 => Remaining::Never,
+        1 => Remaining::Finite(Duration::new(seconds, nanoseconds as u32)),
+        _ => Remaining::Nothing,
+    }
+}
+
+/// The walk over all records of a set, by ascending slots; see [`Set::entries`].
+///
+/// ```
+/// use segment_cache::{Arena, Builder, Refusal, Remaining, Setting};
+///
+/// let mut arena = Arena::new(64);
+/// let mut builder = Builder::open(&mut arena, &Setting::without_expiry(), 2)?;
+/// builder.push(1, b"x", b"east", None)?;
+/// builder.push(2, b"y", b"west", None)?;
+/// let set = builder.finish(4096)?;
+///
+/// let values: Vec<&[u8]> = set.entries(&arena, 0)?.map(|entry| entry.value).collect();
+/// assert_eq!(values, [b"east", b"west"]);
+/// assert!(set.entries(&arena, 0)?.all(|entry| entry.remaining == Remaining::Never));
+/// # Ok::<(), Refusal>(())
+/// ```
+#[derive(Clone, Debug)]
+pub struct Entries<'a> {
+    set: &'a Set,
+    arena: &'a Arena,
+    tick: u64,
+    from: usize,
+}
+
+impl<'a> Entries<'a> {
+    pub(crate) fn new(set: &'a Set, arena: &'a Arena, tick: u64) -> Entries<'a> {
+        Entries {
+            set,
+            arena,
+            tick,
+            from: 0,
+        }
+    }
+}
+
+impl<'a> Iterator for Entries<'a> {
+    type Item = Entry<'a>;
+
+    fn next(&mut self) -> Option<Entry<'a>> {
+        // The set was asked for this arena when the walk began, and neither can change while it goes on.
+        let entry = self
+            .set
+            .next_entry(self.arena, self.from, self.tick)
+            .expect("a set and its own arena belong together")?;
+        self.from = entry.slot + 1;
+        Some(entry)
+    }
+}

@@ -1,0 +1,228 @@
+/*
+ * A frozen set of keyed records with lapse times: filled once, frozen, asked many times, rebuilt from
+ * itself. Link with libcapi.a. C99 or C++, 64-bit targets.
+ *
+ * The library allocates nothing, keeps nothing between calls and has no clock and no hash function.
+ * The caller owns all memory and lends it to each call; the hash of a key and the present tick are
+ * arguments. Equal keys must come with equal hashes, and a hash should be spread well in its upper
+ * bits: they select the bucket and the tag.
+ *
+ *   area      element   at least                               must live and stay untouched
+ *   builder   uint64_t  SEGMENT_CACHE_BUILDER_WORDS, exactly   from open to finish
+ *   rebuild   uint64_t  SEGMENT_CACHE_REBUILD_WORDS, exactly   from rebuild_open to rebuild_finish
+ *   set       uint64_t  SEGMENT_CACHE_SET_WORDS, exactly       from finish on, while the set is asked
+ *   index     uint64_t  8 a bucket (area_words tells)          from open on, while the set is asked
+ *   filter    uint64_t  as area_words tells, also none         from open on, while the set is asked
+ *   starts    uint64_t  SEGMENT_CACHE_SEGMENT_WORDS            from finish on, while the set is asked
+ *   lengths   uint64_t  SEGMENT_CACHE_SEGMENT_WORDS            from finish on, while the set is asked
+ *   scratch   uint64_t  1 a bucket if packed, else none        during finish only
+ *   arena     uint8_t   the records (encoded_record_bytes)     while any set over it is asked
+ *
+ * A rebuild's starts and lengths live from rebuild_open on. Longer areas are fine; what lies past the
+ * words in use is never written. All other areas are read or written during the one call.
+ *
+ * Rules of lending, which the library can't check:
+ *  - A slice is a pointer and a length in elements. The pointer is aligned for its element and never
+ *    null, not even with length 0.
+ *  - A slice that a call writes (a pointer to non-const) overlaps no other slice of that call.
+ *  - Between calls nobody writes into the areas above, and each call gets them as the last one left
+ *    them, all of the same set.
+ *  - Two sets share no index, filter, starts, lengths or set words. They share an arena only in one
+ *    line of rebuilds, each from the newest set of that arena. Opening a builder in an arena ends
+ *    every set over it; opening a rebuild ends an unfinished one.
+ *  - get and take_accessed write the set's index: one thread at a time. peek, probe, next_entry and
+ *    stats only read.
+ *
+ * Every call but the functions without arguments returns 0 (accepted) or the number of a refusal. A
+ * refusal changes no area, with one exception: finish refused with SEGMENT_CACHE_ARENA_TOO_LARGE
+ * leaves the first 256 starts in `starts`. A builder or rebuild stays open after any refusal. Words
+ * of a wrong number or form are refused with SEGMENT_CACHE_INVALID_STATE.
+ *
+ * Example: two records, a tick of one second.
+ *
+ *   uint64_t setting[SEGMENT_CACHE_SETTING_WORDS], need[SEGMENT_CACHE_AREA_WORDS], life[2];
+ *   uint64_t builder[SEGMENT_CACHE_BUILDER_WORDS], set[SEGMENT_CACHE_SET_WORDS], place[2], span[3];
+ *   uint64_t index[8], filter[1], starts[256], lengths[256], scratch[1];
+ *   uint8_t arena[4096];
+ *
+ *   segment_cache_setting_with_relative_expiry(setting, 1, 0);
+ *   segment_cache_area_words(setting, 6, 2, need, 5);            // need: 8, 0, 256, 256, 1
+ *   segment_cache_open(setting, 6, 2, builder, 13, index, 8, filter, 0, starts, 256, lengths, 256,
+ *                      arena, 4096);
+ *   segment_cache_lifetime(life, 9, 500000000);                  // 9.5 s: lapses at tick 10
+ *   segment_cache_push(builder, 13, 1, (const uint8_t *)"a", 1, (const uint8_t *)"AB", 2, life, 2,
+ *                      index, 8, filter, 0, arena, 4096, place, 2);      // slot 0, location 0
+ *   segment_cache_push(builder, 13, 2, (const uint8_t *)"b", 1, (const uint8_t *)"", 0, life, 0,
+ *                      index, 8, filter, 0, arena, 4096, place, 2);      // never; slot 1, location 7
+ *   segment_cache_finish(builder, 13, 4096, index, 8, starts, 256, lengths, 256, scratch, 1,
+ *                        arena, 4096, set, 15);                  // 1 segment, 12 record bytes
+ *   segment_cache_get(set, 15, 1, (const uint8_t *)"a", 1, 9, index, 8, filter, 0, starts, 256,
+ *                     lengths, 256, arena, 4096, span, 3);       // span 1, 5, 2: arena[5..7) is "AB"
+ *   segment_cache_get(set, 15, 1, (const uint8_t *)"a", 1, 10, index, 8, filter, 0, starts, 256,
+ *                     lengths, 256, arena, 4096, span, 3);       // span 0, 0, 0: lapsed
+ *   segment_cache_get(set, 15, 2, (const uint8_t *)"b", 1, 70000, index, 8, filter, 0, starts, 256,
+ *                     lengths, 256, arena, 4096, span, 3);       // span 1, 12, 0: an empty value
+ */
+#ifndef SEGMENT_CACHE_H
+#define SEGMENT_CACHE_H
+
+#include <stddef.h>
+#include <stdint.h>
+
+#include "segment_cache_words.h"
+
+#if SIZE_MAX != UINT64_MAX
+#error "segment_cache.h: size_t must have 64 bits"
+#endif
+
+#ifdef __cplusplus
+extern "C" {
+#endif
+
+/* ---- building a set */
+
+/* The numbers SEGMENT_CACHE_BUILDER_WORDS and SEGMENT_CACHE_SET_WORDS of the library linked. */
+size_t segment_cache_builder_words(void);
+size_t segment_cache_set_words(void);
+
+/* Opens a builder for this many records and clears the index and filter words in use. Refusals: 9, 1,
+   2, 3, 10. */
+uint64_t segment_cache_open(const uint64_t *setting, size_t setting_len, size_t records,
+                            uint64_t *builder, size_t builder_len, uint64_t *index,
+                            size_t index_len, uint64_t *filter, size_t filter_len,
+                            const uint64_t *starts, size_t starts_len, const uint64_t *lengths,
+                            size_t lengths_len, const uint8_t *arena, size_t arena_len);
+
+/* Adds a record behind the filled part of the arena; place: slot and location. Refusals: 11, 9, 3, 4,
+   5, 6, 10. */
+uint64_t segment_cache_push(uint64_t *builder, size_t builder_len, uint64_t hash,
+                            const uint8_t *key, size_t key_len, const uint8_t *value,
+                            size_t value_len, const uint64_t *lifetime, size_t lifetime_len,
+                            uint64_t *index, size_t index_len, uint64_t *filter, size_t filter_len,
+                            uint8_t *arena, size_t arena_len, uint64_t *place, size_t place_len);
+
+/* Freezes the records into a set, in segments of about `target` bytes. Refusals: 11, 3, 8, 10, 7. */
+uint64_t segment_cache_finish(const uint64_t *builder, size_t builder_len, size_t target,
+                              uint64_t *index, size_t index_len, uint64_t *starts,
+                              size_t starts_len, uint64_t *lengths, size_t lengths_len,
+                              uint64_t *scratch, size_t scratch_len, const uint8_t *arena,
+                              size_t arena_len, uint64_t *set, size_t set_len);
+
+/* The arena bytes that a record of these lengths takes, in size[0]. Refusal: 3. */
+uint64_t segment_cache_encoded_record_bytes(const uint64_t *setting, size_t setting_len,
+                                            size_t key_bytes, size_t value_bytes, uint64_t *size,
+                                            size_t size_len);
+
+/* ---- asking a set; the one refusal is 11 */
+
+/* The live value of a key, as a span of the arena; a hit sets the record's access mark. */
+uint64_t segment_cache_get(const uint64_t *set, size_t set_len, uint64_t hash, const uint8_t *key,
+                           size_t key_len, uint64_t tick, uint64_t *index, size_t index_len,
+                           const uint64_t *filter, size_t filter_len, const uint64_t *starts,
+                           size_t starts_len, const uint64_t *lengths, size_t lengths_len,
+                           const uint8_t *arena, size_t arena_len, uint64_t *span,
+                           size_t span_len);
+
+/* The same without the mark. */
+uint64_t segment_cache_peek(const uint64_t *set, size_t set_len, uint64_t hash, const uint8_t *key,
+                            size_t key_len, uint64_t tick, const uint64_t *index, size_t index_len,
+                            const uint64_t *filter, size_t filter_len, const uint64_t *starts,
+                            size_t starts_len, const uint64_t *lengths, size_t lengths_len,
+                            const uint8_t *arena, size_t arena_len, uint64_t *span,
+                            size_t span_len);
+
+/* Clears the access mark of a key, lapsed or not; accessed[0]: 1 where it was set, else 0. */
+uint64_t segment_cache_take_accessed(const uint64_t *set, size_t set_len, uint64_t hash,
+                                     const uint8_t *key, size_t key_len, uint64_t *index,
+                                     size_t index_len, const uint64_t *filter, size_t filter_len,
+                                     const uint64_t *starts, size_t starts_len,
+                                     const uint64_t *lengths, size_t lengths_len,
+                                     const uint8_t *arena, size_t arena_len, uint64_t *accessed,
+                                     size_t accessed_len);
+
+/* The record of a key, lapsed or not, with what is left of its time; sets no mark. */
+uint64_t segment_cache_probe(const uint64_t *set, size_t set_len, uint64_t hash,
+                             const uint8_t *key, size_t key_len, uint64_t tick,
+                             const uint64_t *index, size_t index_len, const uint64_t *filter,
+                             size_t filter_len, const uint64_t *starts, size_t starts_len,
+                             const uint64_t *lengths, size_t lengths_len, const uint8_t *arena,
+                             size_t arena_len, uint64_t *record, size_t record_len);
+
+/* The first record from slot `from` on, lapsed or not. Walk: begin at 0, go on with its slot + 1. */
+uint64_t segment_cache_next_entry(const uint64_t *set, size_t set_len, size_t from, uint64_t tick,
+                                  const uint64_t *index, size_t index_len, const uint64_t *starts,
+                                  size_t starts_len, const uint64_t *lengths, size_t lengths_len,
+                                  const uint8_t *arena, size_t arena_len, uint64_t *record,
+                                  size_t record_len);
+
+/* Counts of a set, and three numbers worked out of them: bytes held, bytes beyond keys and values,
+   filled slots in hundredths of a percent. */
+uint64_t segment_cache_stats(const uint64_t *set, size_t set_len, uint64_t *stats,
+                             size_t stats_len);
+uint64_t segment_cache_modeled_retained_bytes(const uint64_t *stats, size_t stats_len,
+                                              uint64_t *out, size_t out_len);
+uint64_t segment_cache_modeled_overhead_bytes(const uint64_t *stats, size_t stats_len,
+                                              uint64_t *out, size_t out_len);
+uint64_t segment_cache_index_load_bps(const uint64_t *stats, size_t stats_len, uint64_t *out,
+                                      size_t out_len);
+
+/* ---- rebuilding a set from the newest one of its arena
+
+   Segments that are kept stay where they are; copied records are appended behind the filled part of
+   the arena, so that older sets can be asked at any time. The new set has areas of its own. Duplicate
+   keys are accepted: the first one pushed counts. */
+
+/* The number SEGMENT_CACHE_REBUILD_WORDS of the library linked. */
+size_t segment_cache_rebuild_words(void);
+
+/* Opens a rebuild for this many records. used_source_segments: a flag for each segment of the source,
+   0 drops it. copied_record_capacity: 0 if nothing is to be copied. source_now_tick: the tick from
+   which lifetimes of copied records count. Refusals: 11, 3, 7, 10. */
+uint64_t segment_cache_rebuild_open(
+    const uint64_t *set, size_t set_len, const uint64_t *source_starts, size_t source_starts_len,
+    const uint64_t *source_lengths, size_t source_lengths_len, const uint8_t *arena,
+    size_t arena_len, size_t records, size_t copied_record_capacity,
+    const uint8_t *used_source_segments, size_t used_source_segments_len, uint64_t source_now_tick,
+    uint64_t *rebuild, size_t rebuild_len, uint64_t *index, size_t index_len, uint64_t *filter,
+    size_t filter_len, uint64_t *starts, size_t starts_len, uint64_t *lengths, size_t lengths_len);
+
+/* Takes over a record of a kept segment, with its own deadline. Location and header bytes are those
+   that probe or next_entry told of the source; key and value may be parts of the arena. Refusals: 11,
+   3, 12. */
+uint64_t segment_cache_push_reused(uint64_t *rebuild, size_t rebuild_len, uint64_t hash,
+                                   const uint8_t *key, size_t key_len, const uint8_t *value,
+                                   size_t value_len, size_t location, size_t header_bytes,
+                                   uint64_t *index, size_t index_len, uint64_t *filter,
+                                   size_t filter_len, const uint64_t *starts, size_t starts_len,
+                                   const uint64_t *lengths, size_t lengths_len,
+                                   const uint8_t *arena, size_t arena_len, uint64_t *place,
+                                   size_t place_len);
+
+/* Appends a record. Key and value are not parts of the arena: copy them out first. Refusals: 11, 9, 3,
+   5, 6, 10, 7. */
+uint64_t segment_cache_push_copied(uint64_t *rebuild, size_t rebuild_len, uint64_t hash,
+                                   const uint8_t *key, size_t key_len, const uint8_t *value,
+                                   size_t value_len, const uint64_t *lifetime, size_t lifetime_len,
+                                   uint64_t *index, size_t index_len, uint64_t *filter,
+                                   size_t filter_len, const uint64_t *starts, size_t starts_len,
+                                   const uint64_t *lengths, size_t lengths_len, uint8_t *arena,
+                                   size_t arena_len, uint64_t *place, size_t place_len);
+
+/* Freezes the rebuilt set and tells what it took. Refusals: 11, 3, 10. */
+uint64_t segment_cache_rebuild_finish(const uint64_t *rebuild, size_t rebuild_len, uint64_t *index,
+                                      size_t index_len, uint64_t *starts, size_t starts_len,
+                                      uint64_t *lengths, size_t lengths_len, uint64_t *scratch,
+                                      size_t scratch_len, const uint8_t *arena, size_t arena_len,
+                                      uint64_t *set, size_t set_len, uint64_t *totals,
+                                      size_t totals_len);
+
+/* The words that index, filter, starts, lengths and scratch need for this many records. Refusals: 9,
+   1, 2, 3, as of open. */
+uint64_t segment_cache_area_words(const uint64_t *setting, size_t setting_len, size_t records,
+                                  uint64_t *words, size_t words_len);
+
+#ifdef __cplusplus
+}
+#endif
+
+#endif

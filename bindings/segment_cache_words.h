@@ -1,0 +1,201 @@
+/*
+ * Words of segment_cache.h: refusals by number, limits, what each word of a state or an answer is, and
+ * helpers that fill settings and lifetimes, so that nobody does it by hand.
+ */
+#ifndef SEGMENT_CACHE_WORDS_H
+#define SEGMENT_CACHE_WORDS_H
+
+#include <stdint.h>
+
+enum segment_cache_refusal {
+    SEGMENT_CACHE_ACCEPTED = 0,
+    SEGMENT_CACHE_INVALID_BUCKET_OCCUPANCY = 1, /* occupancy is not 1 to 7 */
+    SEGMENT_CACHE_ZERO_EXPIRY_TICK = 2,         /* the tick length is zero */
+    SEGMENT_CACHE_CAPACITY_OVERFLOW = 3,        /* more records than announced or allowed, fewer at
+                                                   finish, wrong number of keep flags, segment not kept */
+    SEGMENT_CACHE_DUPLICATE_KEY = 4,            /* the key is in the set */
+    SEGMENT_CACHE_EXPIRY_DISABLED = 5,          /* a lifetime where the setting has no expiry */
+    SEGMENT_CACHE_EXPIRY_OUT_OF_RANGE = 6,      /* the deadline would be past tick 65,534 */
+    SEGMENT_CACHE_ARENA_TOO_LARGE = 7,          /* more than 256 segments */
+    SEGMENT_CACHE_INVALID_SEGMENT_TARGET = 8,   /* target is not 1 to 100,663,296 */
+    SEGMENT_CACHE_INVALID_NANOSECONDS = 9,      /* 1,000,000,000 nanoseconds or more */
+    SEGMENT_CACHE_AREA_TOO_SHORT = 10,          /* an area or the arena's rest is too short, or the
+                                                   arena too long at open */
+    SEGMENT_CACHE_INVALID_STATE = 11,           /* state and areas contradict each other */
+    SEGMENT_CACHE_RECORD_MISMATCH = 12          /* no such record at the location to reuse */
+};
+
+/* ---- limits and lengths in words */
+
+#define SEGMENT_CACHE_MAX_RECORDS 1048576u
+#define SEGMENT_CACHE_MAX_ARENA_BYTES 1073741824u
+#define SEGMENT_CACHE_MAX_SEGMENT_TARGET 100663296u
+#define SEGMENT_CACHE_SETTING_WORDS 6
+#define SEGMENT_CACHE_LIFETIME_WORDS 2 /* length 0: never */
+#define SEGMENT_CACHE_BUILDER_WORDS 13
+#define SEGMENT_CACHE_SET_WORDS 15
+#define SEGMENT_CACHE_REBUILD_WORDS 22
+#define SEGMENT_CACHE_SEGMENT_WORDS 256
+#define SEGMENT_CACHE_AREA_WORDS 5
+#define SEGMENT_CACHE_PLACE_WORDS 2
+#define SEGMENT_CACHE_SPAN_WORDS 3
+#define SEGMENT_CACHE_RECORD_WORDS 11
+#define SEGMENT_CACHE_STATS_WORDS 8
+#define SEGMENT_CACHE_TOTALS_WORDS 4
+
+/* ---- what each word is; builder, set and rebuild begin with the six words of their setting */
+
+enum segment_cache_setting_word {
+    SEGMENT_CACHE_SETTING_EXPIRY = 0, /* 0 or 1 */
+    SEGMENT_CACHE_SETTING_TICK_SECONDS = 1,
+    SEGMENT_CACHE_SETTING_TICK_NANOSECONDS = 2,
+    SEGMENT_CACHE_SETTING_OCCUPANCY = 3,
+    SEGMENT_CACHE_SETTING_PACKED = 4, /* 0 or 1 */
+    SEGMENT_CACHE_SETTING_FILTER_BITS = 5
+};
+
+enum segment_cache_builder_word {
+    SEGMENT_CACHE_BUILDER_EXPECTED_ENTRIES = 6,
+    SEGMENT_CACHE_BUILDER_INSERTED_ENTRIES = 7,
+    SEGMENT_CACHE_BUILDER_BUCKETS = 8,
+    SEGMENT_CACHE_BUILDER_FILTER_WORDS = 9,
+    SEGMENT_CACHE_BUILDER_FILLED = 10, /* arena bytes in use */
+    SEGMENT_CACHE_BUILDER_KEY_BYTES = 11,
+    SEGMENT_CACHE_BUILDER_VALUE_BYTES = 12
+};
+
+enum segment_cache_set_word {
+    SEGMENT_CACHE_SET_ENTRIES = 6,
+    SEGMENT_CACHE_SET_BUCKETS = 7,
+    SEGMENT_CACHE_SET_FILTER_WORDS = 8,
+    SEGMENT_CACHE_SET_SEGMENTS = 9,
+    SEGMENT_CACHE_SET_FILLED = 10, /* arena bytes in use */
+    SEGMENT_CACHE_SET_RECORD_BYTES = 11,
+    SEGMENT_CACHE_SET_KEY_BYTES = 12,
+    SEGMENT_CACHE_SET_VALUE_BYTES = 13,
+    SEGMENT_CACHE_SET_HEADER_BYTES = 14
+};
+
+enum segment_cache_rebuild_word {
+    SEGMENT_CACHE_REBUILD_EXPECTED_ENTRIES = 6,
+    SEGMENT_CACHE_REBUILD_INSERTED_ENTRIES = 7,
+    SEGMENT_CACHE_REBUILD_BUCKETS = 8,
+    SEGMENT_CACHE_REBUILD_FILTER_WORDS = 9,
+    SEGMENT_CACHE_REBUILD_KEPT = 10, /* four words, a bit for each source segment */
+    SEGMENT_CACHE_REBUILD_SOURCE_FILLED = 14,
+    SEGMENT_CACHE_REBUILD_COPIED_BYTES = 15,
+    SEGMENT_CACHE_REBUILD_KEY_BYTES = 16,
+    SEGMENT_CACHE_REBUILD_VALUE_BYTES = 17,
+    SEGMENT_CACHE_REBUILD_HEADER_BYTES = 18,
+    SEGMENT_CACHE_REBUILD_REUSED_ENTRIES = 19,
+    SEGMENT_CACHE_REBUILD_REUSED_RECORD_BYTES = 20,
+    SEGMENT_CACHE_REBUILD_SOURCE_NOW_TICK = 21
+};
+
+enum segment_cache_area_word {
+    SEGMENT_CACHE_AREA_INDEX = 0,
+    SEGMENT_CACHE_AREA_FILTER = 1,
+    SEGMENT_CACHE_AREA_STARTS = 2,
+    SEGMENT_CACHE_AREA_LENGTHS = 3,
+    SEGMENT_CACHE_AREA_SCRATCH = 4
+};
+
+enum segment_cache_place_word { SEGMENT_CACHE_PLACE_SLOT = 0, SEGMENT_CACHE_PLACE_LOCATION = 1 };
+
+enum segment_cache_span_word {
+    SEGMENT_CACHE_SPAN_FOUND = 0, /* 0 or 1 */
+    SEGMENT_CACHE_SPAN_AT = 1,    /* the value's first byte in the arena */
+    SEGMENT_CACHE_SPAN_LENGTH = 2
+};
+
+enum segment_cache_record_word {
+    SEGMENT_CACHE_RECORD_FOUND = 0, /* 0 or 1 */
+    SEGMENT_CACHE_RECORD_SLOT = 1,
+    SEGMENT_CACHE_RECORD_LOCATION = 2,     /* segment * 2^32 + offset */
+    SEGMENT_CACHE_RECORD_HEADER_BYTES = 3, /* bytes before the key */
+    SEGMENT_CACHE_RECORD_KEY_AT = 4,
+    SEGMENT_CACHE_RECORD_KEY_LENGTH = 5,
+    SEGMENT_CACHE_RECORD_VALUE_AT = 6,
+    SEGMENT_CACHE_RECORD_VALUE_LENGTH = 7,
+    SEGMENT_CACHE_RECORD_REMAINING = 8, /* an enum segment_cache_remaining */
+    SEGMENT_CACHE_RECORD_REMAINING_SECONDS = 9,
+    SEGMENT_CACHE_RECORD_REMAINING_NANOSECONDS = 10
+};
+
+enum segment_cache_remaining {
+    SEGMENT_CACHE_REMAINING_NEVER = 0,  /* it never lapses */
+    SEGMENT_CACHE_REMAINING_FINITE = 1, /* seconds and nanoseconds are left */
+    SEGMENT_CACHE_REMAINING_NOTHING = 2 /* lapsed, or more than a duration can hold */
+};
+
+enum segment_cache_stats_word {
+    SEGMENT_CACHE_STATS_ENTRIES = 0,
+    SEGMENT_CACHE_STATS_BUCKETS = 1,
+    SEGMENT_CACHE_STATS_INDEX_SLOTS = 2,
+    SEGMENT_CACHE_STATS_INDEX_BYTES = 3,
+    SEGMENT_CACHE_STATS_RECORD_BYTES = 4,
+    SEGMENT_CACHE_STATS_KEY_BYTES = 5,
+    SEGMENT_CACHE_STATS_VALUE_BYTES = 6,
+    SEGMENT_CACHE_STATS_HEADER_BYTES = 7
+};
+
+enum segment_cache_totals_word {
+    SEGMENT_CACHE_TOTALS_REUSED_ENTRIES = 0,
+    SEGMENT_CACHE_TOTALS_REUSED_RECORD_BYTES = 1,
+    SEGMENT_CACHE_TOTALS_COPIED_RECORD_BYTES = 2,
+    SEGMENT_CACHE_TOTALS_NEWLY_ALLOCATED_BYTES = 3
+};
+
+/* ---- settings, lifetimes and names */
+
+/* No expiry, occupancy 7, packed index, no filter. */
+static inline void segment_cache_setting_without_expiry(uint64_t *setting) {
+    setting[SEGMENT_CACHE_SETTING_EXPIRY] = 0;
+    setting[SEGMENT_CACHE_SETTING_TICK_SECONDS] = 0;
+    setting[SEGMENT_CACHE_SETTING_TICK_NANOSECONDS] = 0;
+    setting[SEGMENT_CACHE_SETTING_OCCUPANCY] = 7;
+    setting[SEGMENT_CACHE_SETTING_PACKED] = 1;
+    setting[SEGMENT_CACHE_SETTING_FILTER_BITS] = 0;
+}
+
+/* The same with lifetimes counted in ticks of this length. */
+static inline void segment_cache_setting_with_relative_expiry(uint64_t *setting, uint64_t seconds,
+                                                              uint32_t nanoseconds) {
+    segment_cache_setting_without_expiry(setting);
+    setting[SEGMENT_CACHE_SETTING_EXPIRY] = 1;
+    setting[SEGMENT_CACHE_SETTING_TICK_SECONDS] = seconds;
+    setting[SEGMENT_CACHE_SETTING_TICK_NANOSECONDS] = nanoseconds;
+}
+
+/* How many of a bucket's eight slots are reckoned with: 1 to 7. */
+static inline void segment_cache_setting_occupancy(uint64_t *setting, uint8_t occupancy) {
+    setting[SEGMENT_CACHE_SETTING_OCCUPANCY] = occupancy;
+}
+
+/* 1: packed index; 0: index of words. */
+static inline void segment_cache_setting_packed(uint64_t *setting, int packed) {
+    setting[SEGMENT_CACHE_SETTING_PACKED] = packed ? 1 : 0;
+}
+
+/* Bits of the negative filter a record; 0: no filter. */
+static inline void segment_cache_setting_filter_bits(uint64_t *setting, uint8_t bits) {
+    setting[SEGMENT_CACHE_SETTING_FILTER_BITS] = bits;
+}
+
+/* A lifetime; for a record that never lapses lend any pointer with length 0. */
+static inline void segment_cache_lifetime(uint64_t *lifetime, uint64_t seconds,
+                                          uint32_t nanoseconds) {
+    lifetime[0] = seconds;
+    lifetime[1] = nanoseconds;
+}
+
+static inline const char *segment_cache_refusal_name(uint64_t refusal) {
+    static const char *const names[] = {
+        "Accepted",          "InvalidBucketOccupancy", "ZeroExpiryTick",       "CapacityOverflow",
+        "DuplicateKey",      "ExpiryDisabled",         "ExpiryOutOfRange",     "ArenaTooLarge",
+        "InvalidSegmentTarget", "InvalidNanoseconds",  "AreaTooShort",         "InvalidState",
+        "RecordMismatch"};
+    return refusal <= SEGMENT_CACHE_RECORD_MISMATCH ? names[refusal] : "unknown";
+}
+
+#endif

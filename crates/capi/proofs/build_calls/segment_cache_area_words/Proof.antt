@@ -1,0 +1,51 @@
+-- `segment_cache_area_words` meets its contract: the form of the words, then the call and what it hands back. Assumes nothing.
+use Rattle.capi.specs.Calls.{exportedAreaWords}
+use borrow.Author.Tests.{eq-eqb, ne-eqb}
+use mathlib.Core.Path.{sym, _∙_}
+use borrow.Author.Needs.{needs}
+use Rattle.capi.proofs.build_calls.segment_cache_area_words.Statement.{statement}
+use Rattle.capi.proofs.build_calls.segment_cache_area_words.Tie as tie
+
+returns : tie.Need-returns
+unfolding exportedAreaWords
+returns c = rw (ne-eqb _ _ (c .if1 .taken))
+
+load-setting-requires : tie.Need-load-setting-requires
+load-setting-requires c κs = search needs
+
+enum-known-config : tie.Need-enum-known-config
+enum-known-config c = search needs
+
+enum-told : tie.Need-enum-told
+enum-told c = search needs
+
+returns-2 : tie.Need-returns-2
+unfolding exportedAreaWords
+returns-2 c = rw (eq-eqb _ _ (c .before .before .before .if1 .left), sym (c .before .before .load-setting .ensures) ∙ c .enum-told .given .1)
+
+area-words-requires : tie.Need-area-words-requires
+area-words-requires c κs = search needs
+
+tell-area-words-requires : tie.Need-tell-area-words-requires
+tell-area-words-requires c κs = search needs
+
+same-length : tie.Need-same-length
+same-length c = search needs
+
+returns-3 : tie.Need-returns-3
+unfolding exportedAreaWords
+returns-3 c = rw (eq-eqb _ _ (c .before .before .before .before .before .before .before .before .before .if1 .left), sym (c .before .before .before .before .before .before .before .before .load-setting .ensures) ∙ c .before .before .before .before .before .before .config .given .1, sym (c .before .before .before .before .area-words .ensures), sym (c .before .before .tell-area-words .ensures))
+
+pub segment-cache-area-words-spec : {M : Type 1} → statement M
+segment-cache-area-words-spec =
+    tie.close
+    (tie.spec
+    returns
+    load-setting-requires
+    enum-known-config
+    enum-told
+    returns-2
+    area-words-requires
+    tell-area-words-requires
+    same-length
+    returns-3)

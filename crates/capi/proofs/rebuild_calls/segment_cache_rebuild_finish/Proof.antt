@@ -1,0 +1,82 @@
+-- `segment_cache_rebuild_finish` meets its contract: the form of the words, then the call and what it hands back. Assumes nothing.
+use Rattle.capi.specs.Rebuilds.{exportedRebuildFinish}
+use borrow.Author.Tests.{eq-eqb, ne-eqb}
+use mathlib.Core.Path.{sym, _∙_}
+use borrow.Author.Needs.{needs}
+use Rattle.capi.proofs.rebuild_calls.segment_cache_rebuild_finish.Statement.{statement}
+use Rattle.capi.proofs.rebuild_calls.segment_cache_rebuild_finish.Tie as tie
+
+returns : tie.Need-returns
+unfolding exportedRebuildFinish
+returns c = rw (ne-eqb _ _ (c .if1 .taken))
+
+returns-2 : tie.Need-returns-2
+unfolding exportedRebuildFinish
+returns-2 c = rw (eq-eqb _ _ (c .before .if1 .left), ne-eqb _ _ (c .if2 .taken))
+
+load-rebuild-requires : tie.Need-load-rebuild-requires
+load-rebuild-requires c κs = search needs
+
+enum-known-state : tie.Need-enum-known-state
+enum-known-state c = search needs
+
+enum-told : tie.Need-enum-told
+enum-told c = search needs
+
+returns-3 : tie.Need-returns-3
+unfolding exportedRebuildFinish
+returns-3 c = rw (eq-eqb _ _ (c .before .before .before .before .if1 .left), eq-eqb _ _ (c .before .before .before .if2 .left), sym (c .before .before .load-rebuild .ensures) ∙ c .enum-told .given .1)
+
+finish-requires : tie.Need-finish-requires
+finish-requires c κs = search needs
+
+tell-rebuild-finish-requires : tie.Need-tell-rebuild-finish-requires
+tell-rebuild-finish-requires c κs = search needs
+
+same-length : tie.Need-same-length
+same-length c = search needs
+
+same-length-2 : tie.Need-same-length-2
+same-length-2 c = search needs
+
+same-length-3 : tie.Need-same-length-3
+same-length-3 c = search needs
+
+same-length-4 : tie.Need-same-length-4
+same-length-4 c = search needs
+
+same-length-5 : tie.Need-same-length-5
+same-length-5 c = search needs
+
+same-length-6 : tie.Need-same-length-6
+same-length-6 c = search needs
+
+returns-4 : tie.Need-returns-4
+unfolding exportedRebuildFinish
+returns-4 c =
+    let tells = c .before .before .before .before in
+    let finishes = tells .before .before .before .before .before .before .before .before .before .before .before in
+    let given = finishes .before .before .before .before .before .before in
+    let loads = given .before .before in
+    let second = loads .before in
+    rw (eq-eqb _ _ (second .before .if1 .left), eq-eqb _ _ (second .if2 .left), sym (loads .load-rebuild .ensures) ∙ given .state .given .1, sym (finishes .finish .ensures), sym (tells .tell-rebuild-finish .ensures))
+
+pub segment-cache-rebuild-finish-spec : {M : Type 1} → statement M
+segment-cache-rebuild-finish-spec =
+    tie.close
+    (tie.spec
+    returns
+    returns-2
+    load-rebuild-requires
+    enum-known-state
+    enum-told
+    returns-3
+    finish-requires
+    tell-rebuild-finish-requires
+    same-length
+    same-length-2
+    same-length-3
+    same-length-4
+    same-length-5
+    same-length-6
+    returns-4)

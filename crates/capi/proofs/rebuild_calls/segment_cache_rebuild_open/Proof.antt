@@ -1,0 +1,72 @@
+-- `segment_cache_rebuild_open` meets its contract: the form of the words, then the call and what it hands back. Assumes nothing.
+use Rattle.capi.specs.Rebuilds.{exportedRebuildOpen}
+use borrow.Author.Tests.{eq-eqb, ne-eqb}
+use mathlib.Core.Path.{sym, _∙_}
+use borrow.Author.Needs.{needs}
+use Rattle.capi.proofs.rebuild_calls.segment_cache_rebuild_open.Statement.{statement}
+use Rattle.capi.proofs.rebuild_calls.segment_cache_rebuild_open.Tie as tie
+
+returns : tie.Need-returns
+unfolding exportedRebuildOpen
+returns c = rw (ne-eqb _ _ (c .if1 .taken))
+
+load-set-requires : tie.Need-load-set-requires
+load-set-requires c κs = search needs
+
+enum-known-source : tie.Need-enum-known-source
+enum-known-source c = search needs
+
+enum-told : tie.Need-enum-told
+enum-told c = search needs
+
+returns-2 : tie.Need-returns-2
+unfolding exportedRebuildOpen
+returns-2 c = rw (eq-eqb _ _ (c .before .before .before .if1 .left), sym (c .before .before .load-set .ensures) ∙ c .enum-told .given .1)
+
+try-new-requires : tie.Need-try-new-requires
+try-new-requires c κs = search needs
+
+tell-rebuild-open-requires : tie.Need-tell-rebuild-open-requires
+tell-rebuild-open-requires c κs = search needs
+
+same-length : tie.Need-same-length
+same-length c = search needs
+
+same-length-2 : tie.Need-same-length-2
+same-length-2 c = search needs
+
+same-length-3 : tie.Need-same-length-3
+same-length-3 c = search needs
+
+same-length-4 : tie.Need-same-length-4
+same-length-4 c = search needs
+
+same-length-5 : tie.Need-same-length-5
+same-length-5 c = search needs
+
+returns-3 : tie.Need-returns-3
+unfolding exportedRebuildOpen
+returns-3 c =
+    let tells = c .before .before in
+    let opens = tells .before .before .before .before .before .before .before .before .before .before in
+    let given = opens .before .before .before .before .before .before in
+    let loads = given .before .before in
+    rw (eq-eqb _ _ (loads .before .if1 .left), sym (loads .load-set .ensures) ∙ given .source .given .1, sym (opens .try-new .ensures), sym (tells .tell-rebuild-open .ensures))
+
+pub segment-cache-rebuild-open-spec : {M : Type 1} → statement M
+segment-cache-rebuild-open-spec =
+    tie.close
+    (tie.spec
+    returns
+    load-set-requires
+    enum-known-source
+    enum-told
+    returns-2
+    try-new-requires
+    tell-rebuild-open-requires
+    same-length
+    same-length-2
+    same-length-3
+    same-length-4
+    same-length-5
+    returns-3)

@@ -1,0 +1,38 @@
+-- `words_needed` meets its contract. Assumes nothing.
+use mathlib.Core.Path.{_≡_}
+use Prim.Native.Nat.{ℕ, _+_, _-_, _*_}
+use native.Mathlib.Omega.{arith}
+use native.Mathlib.Nat.{div-le-self}
+use borrow.Author.Needs.{needs}
+use Rattle.index.specs.Build.{bucketsFor}
+use Rattle.index.proofs.build.bucket_count.Reads as bucket-count-reads
+use Rattle.sets.proofs.areas.words_needed.Statement.{statement}
+use Rattle.sets.proofs.areas.words_needed.Tie as tie
+use Rattle.sets.proofs.areas.words_needed.Reads as reads
+use Rattle.sets.proofs.areas.words_needed.Lts as lts
+use Rattle.sets.proofs.areas.scratch_words.Reads as scratch-words-reads
+use Rattle.sets.proofs.questions.filter_words_for.Reads as filter-words-for-reads
+
+bucket-count-requires : tie.Need-bucket-count-requires
+bucket-count-requires c κs = search needs
+
+mul-t4 : tie.Need-mul-t4
+unfolding bucketsFor
+mul-t4 c =
+    let a = c .before .args in
+    omega (arith, c .bucket-count .ensures, c .before .pre .1, div-le-self (a .entry-count + (a .config .«target_occupied_slots» - 1)) (a .config .«target_occupied_slots»))
+
+filter-words-for-requires : tie.Need-filter-words-for-requires
+filter-words-for-requires c κs = search needs
+
+scratch-words-requires : tie.Need-scratch-words-requires
+scratch-words-requires c κs = search needs
+
+returns : tie.Need-returns
+returns c =
+    let buckets = c .before .before .bucket-count in
+    let eight : buckets .result * 8 ≡ 8 * buckets .result = omega arith in
+    rw (eight, c .scratch-words .ensures, c .before .filter-words-for .ensures, buckets .ensures)
+
+pub words-needed-spec : {M : Type 1} → statement M
+words-needed-spec = tie.close (tie.spec bucket-count-requires mul-t4 filter-words-for-requires scratch-words-requires returns)

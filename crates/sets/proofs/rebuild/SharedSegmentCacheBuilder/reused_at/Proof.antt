@@ -1,0 +1,39 @@
+-- `reused_at` meets its contract. Assumes nothing.
+use native.Mathlib.Omega.{arith}
+use Rattle.sets.proofs.RebuildSteps.{reused-left}
+use borrow.Author.Needs.{needs}
+use Rattle.sets.proofs.rebuild.SharedSegmentCacheBuilder.reused_at.Statement.{statement}
+use Rattle.sets.proofs.rebuild.SharedSegmentCacheBuilder.reused_at.Tie as tie
+
+moved-location-requires : tie.Need-moved-location-requires
+moved-location-requires c κs = c .before .before .pre .0
+
+push-index-requires : tie.Need-push-index-requires
+push-index-requires c κs = search needs
+
+reused-grown-requires : tie.Need-reused-grown-requires
+reused-grown-requires c κs = omega arith
+
+same-length : tie.Need-same-length
+same-length c = search needs
+
+same-length-2 : tie.Need-same-length-2
+same-length-2 c = search needs
+
+returns : tie.Need-returns
+returns c =
+    let a = c .before .before .before .before .before .before .before .before .before .before .before .args in
+    let moved-location = c .before .before .before .before .before .before .before .before .moved-location in
+    let push-index = c .before .before .before .before .before .push-index in
+    reused-left (a .slot) (a .self) (a .hash) (a .key-bytes) (a .value-bytes) (a .source) (a .index .now) (a .filter .now) (c .reused-grown .result) (moved-location .result) _ _ (c .reused-grown .ensures) (moved-location .ensures) (push-index .ensures .0) (push-index .ensures .1)
+
+pub reused-at-spec : {M : Type 1} → statement M
+reused-at-spec =
+    tie.close
+    (tie.spec
+    moved-location-requires
+    push-index-requires
+    reused-grown-requires
+    same-length
+    same-length-2
+    returns)

@@ -1,0 +1,34 @@
+-- `keep_words` meets its contract. Assumes nothing.
+use mathlib.Core.Path.{_∙_}
+use Prim.Native.Nat.{_≤_}
+use native.Mathlib.Omega.{arith}
+use lib.ListN.{length}
+use Rattle.sets.specs.Kept.{chosen}
+use Rattle.sets.proofs.KeptBits.{chosen-length}
+use Rattle.sets.proofs.RebuildSteps.{kept-most, over-cleared}
+use borrow.Author.Needs.{needs}
+use Rattle.sets.proofs.rebuild.keep_words.Statement.{statement}
+use Rattle.sets.proofs.rebuild.keep_words.Tie as tie
+
+clear-words-requires : tie.Need-clear-words-requires
+clear-words-requires c κs = search needs
+
+copy-kept-requires : tie.Need-copy-kept-requires
+copy-kept-requires c κs =
+    let a = c .before .before .before .before .before .before .before .before .args in
+    (omega arith, omega (arith, kept-most (a .flags .now)))
+
+same-length : tie.Need-same-length
+same-length c = search needs
+
+returns : tie.Need-returns
+returns c =
+    let a = c .before .before .before .before .before .before .before .before .before .before .before .args in
+    let clear-words = c .before .before .before .before .before .before .clear-words in
+    let copy-kept = c .before .before .copy-kept in
+    let s = chosen (a .flags .now) (a .words .now) in
+    let few : length s ≤ 256 = omega (arith, chosen-length (a .flags .now) (a .words .now) (c .before .before .before .before .before .before .before .before .before .before .before .pre .0), kept-most (a .flags .now), c .before .before .before .before .before .before .before .before .before .before .before .pre .1) in
+    copy-kept .ensures ∙ over-cleared s (a .area .now) _ few (c .before .before .before .before .before .before .before .before .before .before .before .pre .2) (clear-words .ensures)
+
+pub keep-words-spec : {M : Type 1} → statement M
+keep-words-spec = tie.close (tie.spec clear-words-requires copy-kept-requires same-length returns)

@@ -1,0 +1,38 @@
+-- `record_fits` meets its contract. Assumes nothing.
+use mathlib.Core.Path.{sym, ap, _∙_}
+use borrow.Author.Tests.{lt-leb}
+use Prim.Native.Nat.{ℕ, _<_}
+use native.Mathlib.Omega.{arith}
+use lib.Dec.{leb}
+use Rattle.records.specs.Record.{recordSize, sizeOutcome}
+use Rattle.sets.proofs.RebuildSteps.{size-large, size-told}
+use borrow.Author.Needs.{needs}
+use Rattle.sets.proofs.rebuild_questions.record_fits.Statement.{statement}
+use Rattle.sets.proofs.rebuild_questions.record_fits.Tie as tie
+
+encoded-record-bytes-requires : tie.Need-encoded-record-bytes-requires
+encoded-record-bytes-requires c κs = search needs
+
+enum-known-size : tie.Need-enum-known-size
+enum-known-size c = search needs
+
+enum-told : tie.Need-enum-told
+enum-told c = search needs
+
+returns : tie.Need-returns
+returns c =
+    let a = c .before .before .before .args in
+    let encoded-record-bytes = c .before .before .encoded-record-bytes in
+    let q = size-large (a .expiry) (a .key-bytes) (a .value-bytes) (c .enum-told .given .0 .0) (ap sizeOutcome (sym (c .enum-told .given .1)) ∙ encoded-record-bytes .ensures) in
+    let n : a .rest < recordSize (a .expiry) (a .key-bytes) (a .value-bytes) = omega (arith, q, c .before .before .before .fits .rest .fits) in
+    sym (lt-leb _ _ n)
+
+returns-2 : tie.Need-returns-2
+returns-2 c =
+    let a = c .before .before .before .before .args in
+    let encoded-record-bytes = c .before .before .before .encoded-record-bytes in
+    ap (λ (n : ℕ). leb n (a .rest)) (size-told (a .expiry) (a .key-bytes) (a .value-bytes) (c .before .size .given .0 .0) (ap sizeOutcome (sym (c .before .size .given .1)) ∙ encoded-record-bytes .ensures))
+
+pub record-fits-spec : {M : Type 1} → statement M
+record-fits-spec =
+    tie.close (tie.spec encoded-record-bytes-requires enum-known-size enum-told returns returns-2)

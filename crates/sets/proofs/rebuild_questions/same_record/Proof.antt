@@ -1,0 +1,57 @@
+-- `same_record` meets its contract. Assumes nothing.
+use mathlib.Core.Path.{sym, ap, _∙_}
+use borrow.Author.Tests.{eq-eqb, ne-eqb, not-true, not-false}
+use Prim.Native.Nat.{ℕ}
+use mathlib.Core.List.{List}
+use Rattle.records.specs.Area.{sameBytes}
+use Rattle.sets.specs.Rebuild.{holdsRecord}
+use borrow.Author.Needs.{needs}
+use Rattle.sets.proofs.rebuild_questions.same_record.Statement.{statement}
+use Rattle.sets.proofs.rebuild_questions.same_record.Tie as tie
+
+returns : tie.Need-returns
+unfolding holdsRecord
+returns c = rw (ne-eqb _ _ (c .if1 .taken))
+
+value-slice-requires : tie.Need-value-slice-requires
+value-slice-requires c κs = search needs
+
+same-bytes-requires : tie.Need-same-bytes-requires
+same-bytes-requires c κs = search needs
+
+returns-2 : tie.Need-returns-2
+unfolding holdsRecord
+returns-2 c =
+    let a = c .before .before .before .before .before .before .before .before .before .args in
+    let if1 = c .before .before .before .before .if1 in
+    let value-slice = c .before .before .value-slice in
+    rw (eq-eqb _ _ (if1 .left), ap (λ (l : List ℕ). sameBytes l (a .key .now)) (sym (value-slice .ensures)) ∙ sym (c .before .same-bytes .ensures) ∙ not-true (c .before .same-bytes .result) (c .if2 .taken))
+
+value-slice-requires-2 : tie.Need-value-slice-requires-2
+value-slice-requires-2 c κs = search needs
+
+same-bytes-requires-2 : tie.Need-same-bytes-requires-2
+same-bytes-requires-2 c κs = search needs
+
+returns-3 : tie.Need-returns-3
+unfolding holdsRecord
+returns-3 c =
+    let a = c .before .before .before .before .before .before .before .before .before .before .before .before .args in
+    let if1 = c .before .before .before .before .before .before .before .if1 in
+    let value-slice = c .before .before .before .before .before .value-slice in
+    let same-bytes = c .before .before .before .before .same-bytes in
+    let if2 = c .before .before .before .if2 in
+    rw (eq-eqb _ _ (if1 .left), ap (λ (l : List ℕ). sameBytes l (a .key .now)) (sym (value-slice .ensures)) ∙ sym (same-bytes .ensures) ∙ not-false (same-bytes .result) (if2 .left))
+    (c .same-bytes2 .ensures ∙ ap (λ (l : List ℕ). sameBytes l (a .value .now)) (c .before .value-slice2 .ensures))
+
+pub same-record-spec : {M : Type 1} → statement M
+same-record-spec =
+    tie.close
+    (tie.spec
+    returns
+    value-slice-requires
+    same-bytes-requires
+    returns-2
+    value-slice-requires-2
+    same-bytes-requires-2
+    returns-3)

@@ -1,0 +1,26 @@
+/* Runs the example in the header's comment and compares what it leaves with document 01. */
+#include <stdio.h>
+#include <string.h>
+
+#include "segment_cache.h"
+
+static int same(const char *what, int holds) {
+    if (!holds) fprintf(stderr, "header example: %s differ\n", what);
+    return holds;
+}
+
+int main(void) {
+#include "header_example.inc"
+    static const uint8_t records[12] = {1, 2, 10, 0, 0x61, 0x41, 0x42, 1, 0, 0xff, 0xff, 0x62};
+    static const uint64_t needed[SEGMENT_CACHE_AREA_WORDS] = {8, 0, 256, 256, 1};
+    int well = same("area words", memcmp(need, needed, sizeof needed) == 0);
+    well &= same("records", memcmp(arena, records, sizeof records) == 0);
+    well &= same("index words", index[0] == 0x8181 && index[1] == 0x10000 && index[2] == 0x800);
+    well &= same("places", place[0] == 1 && place[1] == 7);
+    well &= same("segments", set[SEGMENT_CACHE_SET_SEGMENTS] == 1 && starts[0] == 0 && lengths[0] == 12);
+    well &= same("the last answer", span[0] == 1 && span[1] == 12 && span[2] == 0);
+    well &= same("word counts", segment_cache_builder_words() == SEGMENT_CACHE_BUILDER_WORDS &&
+                                    segment_cache_set_words() == SEGMENT_CACHE_SET_WORDS);
+    well &= same("names", strcmp(segment_cache_refusal_name(12), "RecordMismatch") == 0);
+    return well ? 0 : 1;
+}
