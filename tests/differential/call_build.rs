@@ -1,14 +1,15 @@
 // One set from open to finish by the public calls, beside the Rust's own builder; after each call
 // all areas are compared whole. This file is a module twice, once for each build of the Rust.
 use super::call_lookups::Finished;
+use super::lines::forged;
 use super::oracle;
 use super::oracle::access::SEGMENT_TARGET;
 use super::oracle::access_index::{self as access, Builder, Set, Setting};
 use crate::call_lists::{Entry, duration, too_long, total};
 use crate::report::Group;
-use crate::rng::Rng;
+use crate::rng::{Rng, has_pattern};
 use crate::set_rules;
-use crate::set_world::{Ask, By, Pushed, Sizes, UNSET, World};
+use crate::set_world::{Ask, By, Pushed, Sizes, UNSET, World, model};
 
 pub const LARGEST_TARGET: u64 = 100_663_296;
 
@@ -40,7 +41,7 @@ pub fn setting_words(setting: Setting) -> [u64; 6] {
     ]
 }
 
-// The whole of it: nothing is handed on where the finish was refused.
+// The whole of it, in an arena of so many bytes: nothing is handed on where the finish was refused.
 pub fn built(
     group: &mut Group,
     rng: &mut Rng,
@@ -48,8 +49,8 @@ pub fn built(
     about: &str,
     setting: Setting,
     list: &[Entry],
+    arena: usize,
 ) -> Option<Finished> {
-    let arena = total(list, setting.tick.is_some());
     let mut build = Build::open(group, by, about, setting, list, arena)?;
     let early = rng.index(list.len() + 1);
     for (i, entry) in list.iter().enumerate() {
@@ -125,8 +126,8 @@ impl Build {
         let counts = rust.as_ref().map(|rust| (rust.buckets(), filter(rust)));
         let (buckets, words) = counts.unwrap_or((1, 0));
         let sizes = Sizes::for_counts(buckets, words, arena);
-        let plain = World::new(&setting_words(setting), sizes);
-        let mut world = plain.clone();
+        let mut world = World::new(&setting_words(setting), sizes);
+        let plain = world.kept();
         let records = list.len() as u64;
         let refusal = by(&mut world, &Ask::Open { records }, 0);
         let wanted = rust.as_ref().map_or_else(|&refusal| refusal, |_| 0);
@@ -147,7 +148,7 @@ impl Build {
     // Builder, index, filter and arena as the Rust has them, and all else as it was.
     fn compare(&mut self, group: &mut Group, call: &str, input: impl Fn() -> String) {
         self.asked += 1;
-        let (world, plain, builder) = (&self.world, &self.plain, &self.builder);
+        let (world, builder) = (&self.world, &self.builder);
         let about = || format!("{call}, {}, {}", self.about, input());
         let state = [&setting_words(self.setting)[..], &builder.counts()].concat();
         group.area("builder", &world.builder, &state, about);
@@ -157,6 +158,12 @@ impl Build {
             group.area("arena", &world.arena[last..filled], &records[last..], about);
             return;
         }
+        self.areas(group, about);
+    }
+
+    fn areas(&self, group: &mut Group, about: impl Fn() -> String + Copy) {
+        let (world, plain, builder) = (&self.world, &self.plain, &self.builder);
+        let (records, filled) = (builder.records(), builder.records().len());
         let slots = builder.index().len();
         group.area("index", &world.index[..slots], builder.index(), about);
         group.area("index", &world.index[slots..], &plain.index[slots..], about);
@@ -166,8 +173,13 @@ impl Build {
         let rest = (&world.filter[words..], &plain.filter[words..]);
         group.area("filter", rest.0, rest.1, about);
         group.area("arena", &world.arena[..filled], records, about);
-        let rest = (&world.arena[filled..], &plain.arena[filled..]);
-        group.area("arena", rest.0, rest.1, about);
+        if plain.arena.is_empty() {
+            let rest = has_pattern(&world.arena, filled);
+            group.rule("arena past the records", rest, true, about);
+        } else {
+            let rest = (&world.arena[filled..], &plain.arena[filled..]);
+            group.area("arena", rest.0, rest.1, about);
+        }
         group.area("starts", &world.starts, &plain.starts, about);
         group.area("lengths", &world.lengths, &plain.lengths, about);
         group.area("scratch", &world.scratch, &plain.scratch, about);
@@ -279,7 +291,10 @@ impl Build {
         } else {
             self.world.lent.scratch = 0;
         }
-        let before = self.world.clone();
+        if self.world.arena.len() > SMALL {
+            self.areas(group, || format!("before the finish, {}", self.about));
+        }
+        let before = self.world.kept();
         let index = self.builder.index().to_vec();
         let target = SEGMENT_TARGET as u64;
         let refusal = (self.by)(&mut self.world, &Ask::Finish { target }, 0);
@@ -287,14 +302,36 @@ impl Build {
         let wanted = rust.as_ref().map_or_else(|&refusal| refusal, |_| 0);
         group.rust("finish", refusal, wanted, || self.about.clone());
         let Ok(set) = rust else {
-            refused_segments(group, &self.about, &self.world, before, &index);
-            return None;
+            refused_segments(group, &self.about, &mut self.world, before, &index);
+            let large = self.world.arena.len() > SMALL;
+            return large.then(|| goes_on(group, self.by, self.about, self.setting, self.world));
         };
         let wanted = finished(before, &set, self.setting.packed);
+        let same = self.world.same(&wanted);
         let about = || format!("finish, {}: {}", self.about, self.world.difference(&wanted));
-        group.rust("finished areas", self.world == wanted, true, about);
+        group.rust("finished areas", same, true, about);
         (refusal == 0).then(|| Finished::new(self.by, self.about, self.world, set))
     }
+}
+
+// The builder stays open after refusal 7. The Rust has no other target: the model finishes with one
+// for about 200 segments, and the Rust goes on with a set put together from these areas.
+fn goes_on(
+    group: &mut Group,
+    by: By,
+    about: String,
+    setting: Setting,
+    mut world: World,
+) -> Finished {
+    let target = world.builder[10] / 200;
+    let mut wanted = world.clone();
+    let refusal = by(&mut world, &Ask::Finish { target }, 0);
+    let number = model(&mut wanted, &Ask::Finish { target }, 0);
+    group.rule("finish", refusal, number, || about.clone());
+    let input = || format!("{about}: {}", world.difference(&wanted));
+    group.rule("finished areas", world == wanted, true, input);
+    let set = forged(setting, &world, &world.arena);
+    Finished::new(by, about, world, set).put_together()
 }
 
 // What a finish leaves: the Rust's segments, index and statistics.
@@ -324,12 +361,13 @@ fn finished(mut world: World, set: &Set, packed: bool) -> World {
 fn refused_segments(
     group: &mut Group,
     about: &str,
-    world: &World,
+    world: &mut World,
     mut wanted: World,
     index: &[u64],
 ) {
     let starts = set_rules::segment_starts(index, SEGMENT_TARGET as u64);
     wanted.starts[..256].copy_from_slice(&starts[..256]);
+    let same = world.same(&wanted);
     let input = || format!("{about}: {}", world.difference(&wanted));
-    group.rule("areas after refusal 7", *world == wanted, true, input);
+    group.rule("areas after refusal 7", same, true, input);
 }

@@ -5,8 +5,10 @@ use super::oracle::access_sets;
 use crate::call_lists::Entry;
 use crate::port_sets;
 use crate::report::Group;
-use crate::rng::Rng;
+use crate::rng::{Rng, has_pattern};
 use crate::set_world::{Ask, By, UNSET, World};
+use std::mem::take;
+use std::rc::Rc;
 
 pub struct Finished {
     by: By,
@@ -14,7 +16,11 @@ pub struct Finished {
     pub world: World,
     // The areas as the finish left them; only the index changes, by marks.
     plain: World,
-    pub set: Set,
+    pub set: Rc<Set>,
+    // Bytes of the arena that are filled, also by later sets of its line.
+    pub filled: usize,
+    // Made by the Rust itself, so that its statistics are its own.
+    own: bool,
     // So many calls were asked.
     asked: usize,
 }
@@ -26,16 +32,30 @@ const SMALL: usize = 70_000;
 const FEW_WORDS: usize = 50_000;
 
 impl Finished {
-    pub fn new(by: By, about: String, world: World, set: Set) -> Finished {
-        let plain = world.clone();
+    pub fn new(by: By, about: String, mut world: World, set: Set) -> Finished {
+        let plain = world.kept();
         Finished {
             by,
             about,
-            world,
             plain,
-            set,
+            set: Rc::new(set),
+            filled: world.set[10] as usize,
+            world,
+            own: true,
             asked: 0,
         }
+    }
+
+    // With a set that was put together from the areas.
+    pub fn put_together(self) -> Finished {
+        Finished { own: false, ..self }
+    }
+
+    // The arena of a later set of the line, in which more is filled than in a copy.
+    pub fn borrow_arena(&mut self, later: &mut Finished) {
+        self.world.arena = take(&mut later.world.arena);
+        self.plain.arena = Vec::new();
+        self.filled = later.filled;
     }
 
     // One call and all areas after it: the index is the Rust's, marks included.
@@ -64,12 +84,28 @@ impl Finished {
     fn rest(&self, group: &mut Group, name: &str) {
         let (world, plain) = (&self.world, &self.plain);
         let input = || format!("{}, {name}", self.about);
-        group.area("arena", &world.arena, &plain.arena, input);
+        if plain.arena.is_empty() {
+            self.records(group, input);
+        } else {
+            group.area("arena", &world.arena, &plain.arena, input);
+        }
         let same = world.filter == plain.filter
             && world.starts == plain.starts
             && world.lengths == plain.lengths
             && world.scratch == plain.scratch;
         group.rust("filter, starts, lengths, scratch", same, true, input);
+    }
+
+    // An arena of which there is no copy: the Rust's segments, and nothing behind the filled bytes.
+    fn records(&self, group: &mut Group, input: impl Fn() -> String) {
+        let arena = &self.world.arena;
+        for (start, bytes) in self.set.segments() {
+            let there = arena.get(start as usize..).unwrap_or(&[]);
+            let there = &there[..bytes.len().min(there.len())];
+            group.area("segment", there, &bytes, &input);
+        }
+        let rest = has_pattern(arena, self.filled);
+        group.rule("arena past the records", rest, true, input);
     }
 
     pub fn get(&mut self, group: &mut Group, key: &[u8], hash: u64, tick: u64) {
@@ -163,6 +199,9 @@ impl Finished {
     }
 
     pub fn stats(&mut self, group: &mut Group) {
+        if !self.own {
+            return;
+        }
         let stats = self.set.stats();
         self.call(group, "stats", Ask::Stats, &stats);
         methods(group, &stats);

@@ -3,7 +3,7 @@
 use super::call_build::{built, damaged};
 use super::oracle::access::SEGMENT_TARGET;
 use super::oracle::access_index::Setting;
-use crate::call_lists::{Entry, entries};
+use crate::call_lists::{Entry, entries, total};
 use crate::report::Group;
 use crate::rng::Rng;
 use crate::set_world::{By, model, port};
@@ -148,7 +148,8 @@ fn one(group: &mut Group, rng: &mut Rng, by: By, spread: &Spread, count: usize, 
 }
 
 fn asked(group: &mut Group, rng: &mut Rng, by: By, about: &str, setting: Setting, list: &[Entry]) {
-    let Some(mut set) = built(group, rng, by, about, setting, list) else {
+    let arena = total(list, setting.tick.is_some());
+    let Some(mut set) = built(group, rng, by, about, setting, list, arena) else {
         return;
     };
     set.stats(group);

@@ -7,6 +7,12 @@ mod call_build;
 pub mod call_lookups;
 #[path = "calls.rs"]
 pub mod calls;
+#[path = "full_lines.rs"]
+pub mod full_lines;
+#[path = "full_rebuilds.rs"]
+mod full_rebuilds;
+#[path = "full_sets.rs"]
+pub mod full_sets;
 #[path = "line_calls.rs"]
 mod line_calls;
 #[path = "line_lists.rs"]

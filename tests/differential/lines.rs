@@ -348,7 +348,7 @@ pub fn forged(setting: Setting, world: &World, arena: &[u8]) -> Set {
 }
 
 // An area against what belongs at its front.
-fn front<T: PartialEq + std::fmt::Debug>(
+pub(super) fn front<T: PartialEq + std::fmt::Debug>(
     group: &mut Group,
     name: &str,
     area: &[T],
@@ -358,7 +358,7 @@ fn front<T: PartialEq + std::fmt::Debug>(
     group.area(name, &area[..wanted.len().min(area.len())], wanted, about);
 }
 
-fn same_segments<B: AsRef<[u8]>>(
+pub(super) fn same_segments<B: AsRef<[u8]>>(
     group: &mut Group,
     about: impl Fn() -> String,
     world: &World,

@@ -12,6 +12,8 @@ mod forged_calls;
 mod forged_finds;
 mod forged_rebuilds;
 mod forged_states;
+mod full;
+mod full_records;
 mod hash;
 mod index_words;
 mod large;
@@ -58,17 +60,34 @@ fn long(random: u64) -> bool {
 }
 
 fn main() -> ExitCode {
-    let random = match std::env::args().nth(1).as_deref() {
-        Some("short") => RANDOM_CASES,
-        Some("long") => 10 * RANDOM_CASES,
+    let suite = std::env::args().nth(1).unwrap_or_default();
+    let only = std::env::args().nth(2).unwrap_or_default();
+    let random = match suite.as_str() {
+        "short" => RANDOM_CASES,
+        "long" => 10 * RANDOM_CASES,
+        "full" => 0,
         _ => {
-            eprintln!("usage: driver short|long [part of a group's name]");
+            eprintln!("usage: driver short|long|full [part of a group's name]");
             return ExitCode::from(2);
         }
     };
-    let only = std::env::args().nth(2).unwrap_or_default();
     let mut run = Run::new(random, only);
     run.group("oracle", oracle);
+    if suite == "full" {
+        full::run(&mut run);
+    } else {
+        parts(&mut run);
+        sets(&mut run);
+    }
+    if run.end() {
+        ExitCode::SUCCESS
+    } else {
+        ExitCode::FAILURE
+    }
+}
+
+// The functions of the lower crates.
+fn parts(run: &mut Run) {
     run.group("hash parts", hash::parts);
     run.group("tags", hash::tags);
     run.group("zero bytes and marks", hash::marks);
@@ -90,12 +109,6 @@ fn main() -> ExitCode {
     run.group("segments, large target", large::segments::split);
     run.group("segments, small target", small::segments::split);
     run.group("packed index", packed_index::packing);
-    sets(&mut run);
-    if run.end() {
-        ExitCode::SUCCESS
-    } else {
-        ExitCode::FAILURE
-    }
 }
 
 // Whole sets, call by call of the lower crates and by the public calls.

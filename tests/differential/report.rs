@@ -30,14 +30,14 @@ impl Run {
         if !name.contains(&self.only) {
             return;
         }
-        let start = Instant::now();
         let mut group = Group {
             name,
+            start: Instant::now(),
             cases: 0,
             differences: 0,
         };
         compare(&mut group, self.random);
-        let seconds = start.elapsed().as_secs_f64();
+        let seconds = group.start.elapsed().as_secs_f64();
         println!(
             "{name}: {} cases, {} differences ({seconds:.1} s)",
             group.cases, group.differences
@@ -55,11 +55,18 @@ impl Run {
 
 pub struct Group {
     name: &'static str,
+    start: Instant,
     cases: u64,
     differences: u64,
 }
 
 impl Group {
+    // A part of a long group is done: how far it is by now.
+    pub fn done(&self, part: &str) {
+        let (cases, seconds) = (self.cases, self.start.elapsed().as_secs_f64());
+        println!("  {part}: {cases} cases by now ({seconds:.1} s)");
+    }
+
     // The port's answer against the Rust's.
     pub fn rust<T: PartialEq + Debug>(
         &mut self,

@@ -71,6 +71,22 @@ pub fn pattern(len: usize) -> Vec<u8> {
         .collect()
 }
 
+// Whether an area has the pattern from a place on.
+pub fn has_pattern(area: &[u8], from: usize) -> bool {
+    // The pattern repeats after 256 bytes.
+    const PART: usize = 1 << 16;
+    let part = pattern(PART + 256);
+    let mut from = from;
+    while let Some(rest) = area.get(from..).filter(|rest| !rest.is_empty()) {
+        let bytes = &rest[..rest.len().min(PART)];
+        if bytes != &part[from % 256..][..bytes.len()] {
+            return false;
+        }
+        from += bytes.len();
+    }
+    true
+}
+
 // The same in words.
 pub fn word_pattern(len: usize) -> Vec<u64> {
     (0..len as u64)

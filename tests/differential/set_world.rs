@@ -1,5 +1,6 @@
 // The areas and states of one set, and the calls on them, asked of the port or of the model.
 use crate::rng::{pattern, word_pattern};
+use crate::set_rules::ARENA_MAX;
 use crate::{port_sets, set_model, set_model_rebuilds};
 
 // Each area is longer than what is lent of it, so that what is written behind shows.
@@ -42,7 +43,8 @@ pub struct Sizes {
 }
 
 impl Sizes {
-    // Three words or bytes more than so many buckets, filter words and bytes need.
+    // Three words or bytes more than so many buckets, filter words and bytes need, as far as an
+    // arena may be so long.
     pub fn for_counts(buckets: usize, filter_words: usize, arena: usize) -> Sizes {
         Sizes {
             index: 8 * buckets + 3,
@@ -50,12 +52,15 @@ impl Sizes {
             starts: 259,
             lengths: 259,
             scratch: buckets + 3,
-            arena: arena + 3,
+            arena: (arena + 3).min(ARENA_MAX as usize),
         }
     }
 }
 
 const OUT: usize = 14;
+
+// Arenas of so many bytes are held once.
+const LARGE: usize = 1 << 28;
 
 // What stands in the answer's words before a call.
 pub const UNSET: u64 = 0xa5c3_9d71_e6b4_2f8d;
@@ -89,6 +94,29 @@ impl World {
             lengths: source.lengths[..source.lent.lengths].to_vec(),
         };
         world
+    }
+
+    // A copy to compare with later. A large arena is not in it: what is filled there stands in the
+    // Rust as well, and what is not has the pattern.
+    pub fn kept(&mut self) -> World {
+        if self.arena.len() < LARGE {
+            return self.clone();
+        }
+        let arena = std::mem::take(&mut self.arena);
+        let copy = self.clone();
+        self.arena = arena;
+        copy
+    }
+
+    // Whether all is as in such a copy.
+    pub fn same(&mut self, kept: &World) -> bool {
+        if !kept.arena.is_empty() {
+            return self == kept;
+        }
+        let arena = std::mem::take(&mut self.arena);
+        let same = self == kept;
+        self.arena = arena;
+        same
     }
 
     // The first area that is not the same, and where.
