@@ -9,9 +9,13 @@ run:
 test:
 	bash .ci/run
 
-# The differential runs at ten times their length, and all wrong answers.
+# The differential runs at ten times their length and at full size, ten million calls with anything, and all
+# wrong answers.
 soak:
 	tests/differential/run long
+	tests/differential/run full
+	tests/fuzz/run 10
+	tests/fuzz/run stand-ins
 	tests/wrong_answers/run hash_parts
 	tests/wrong_answers/run records
 	tests/wrong_answers/run index
