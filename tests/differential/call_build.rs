@@ -7,7 +7,7 @@ use super::oracle::access::SEGMENT_TARGET;
 use super::oracle::access_index::{self as access, Builder, Set, Setting};
 use crate::call_lists::{Entry, duration, too_long, total};
 use crate::report::Group;
-use crate::rng::{Rng, has_pattern};
+use crate::rng::{Rng, has_pattern, has_pattern_near};
 use crate::set_rules;
 use crate::set_world::{Ask, By, Pushed, Sizes, UNSET, World, model};
 
@@ -156,6 +156,8 @@ impl Build {
         if world.arena.len() > SMALL && self.asked % (world.arena.len() / 16_384) > 0 {
             let last = filled.saturating_sub(600);
             group.area("arena", &world.arena[last..filled], &records[last..], about);
+            let near = has_pattern_near(&world.arena, filled);
+            group.rule("arena behind the record", near, true, about);
             return;
         }
         self.areas(group, about);

@@ -8,7 +8,7 @@ use super::oracle::access_index::{self as access, Set, Setting};
 use super::oracle::access_rebuilds::{Opening, Rebuild};
 use crate::call_lists::{Entry, duration};
 use crate::report::Group;
-use crate::rng::has_pattern;
+use crate::rng::{has_pattern, has_pattern_near};
 use crate::set_world::{Ask, Opened, Pushed, Reused, Sizes, UNSET, World, port};
 use std::mem::take;
 
@@ -148,9 +148,11 @@ impl Making {
 
     fn state(&self, group: &mut Group) {
         let state = [&setting_words(self.setting)[..], &self.rust.numbers()].concat();
-        group.area("rebuild", &self.world.rebuild, &state, || {
-            self.about.clone()
-        });
+        let about = || self.about.clone();
+        group.area("rebuild", &self.world.rebuild, &state, about);
+        let end = (state[14] + state[15]) as usize;
+        let near = has_pattern_near(&self.world.arena, end);
+        group.rule("arena behind the record", near, true, about);
     }
 
     fn areas(&self, group: &mut Group) {

@@ -66,9 +66,11 @@ pub fn edges() -> Vec<u64> {
 // What fills an area before a call, so that a byte which the call must leave alone is noticed
 // when it is changed or moved.
 pub fn pattern(len: usize) -> Vec<u8> {
-    (0..len)
-        .map(|i| (i as u8).wrapping_mul(37).wrapping_add(0x5b))
-        .collect()
+    (0..len).map(pattern_byte).collect()
+}
+
+fn pattern_byte(at: usize) -> u8 {
+    (at as u8).wrapping_mul(37).wrapping_add(0x5b)
 }
 
 // Whether an area has the pattern from a place on.
@@ -85,6 +87,12 @@ pub fn has_pattern(area: &[u8], from: usize) -> bool {
         from += bytes.len();
     }
     true
+}
+
+// The same of the next bytes only: what is written there by one call is written over by later ones.
+pub fn has_pattern_near(area: &[u8], from: usize) -> bool {
+    let mut near = area.iter().enumerate().skip(from).take(256);
+    near.all(|(at, &byte)| byte == pattern_byte(at))
 }
 
 // The same in words.
