@@ -18,7 +18,7 @@ pub fn wrong(export: &Export, before: &World, lent: &Lent, answer: u64) -> Optio
         if new.bytes != old.len() || old == new.content() {
             continue;
         }
-        let limit = match export.writes.contains(&role) {
+        let limit = match export.writes(role) {
             true if answer == 0 => may_write(export.name, role, before, lent),
             true if answer == 7 && export.name == "finish" && role == Starts => 0..256,
             _ => 0..0,

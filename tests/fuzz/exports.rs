@@ -1,20 +1,68 @@
-// The 21 exports: what each may answer, the areas that it reads and writes, and how it is called.
-use crate::calls::*;
+// The 21 exports: what each may answer, the areas and numbers that it is lent, and how it is called.
+use crate::ffi::*;
 use crate::lent::Role::*;
 use crate::lent::{Lent, Numbers, Role};
 
 pub struct Export {
     pub name: &'static str,
     pub answers: &'static [u64],
-    pub reads: &'static [Role],
-    pub writes: &'static [Role],
+    // The areas in the order of the arguments, and whether the call writes them.
+    areas: &'static [Option<(Role, bool)>],
     pub call: fn(&Lent, &Numbers) -> u64,
 }
 
 impl Export {
     pub fn roles(&self) -> impl Iterator<Item = Role> {
-        self.reads.iter().chain(self.writes).copied()
+        self.areas.iter().flatten().map(|&(role, _)| role)
     }
+
+    pub fn writes(&self, role: Role) -> bool {
+        self.areas.contains(&Some((role, true)))
+    }
+
+    pub fn reads(&self, role: Role) -> bool {
+        self.areas.contains(&Some((role, false)))
+    }
+}
+
+// One argument as an area, if it is one.
+macro_rules! area {
+    (words $role:ident) => {
+        Some(($role, false))
+    };
+    (bytes $role:ident) => {
+        Some(($role, false))
+    };
+    (words_mut $role:ident) => {
+        Some(($role, true))
+    };
+    (bytes_mut $role:ident) => {
+        Some(($role, true))
+    };
+    (number $field:ident) => {
+        None
+    };
+}
+
+// One argument as the call takes it.
+macro_rules! argument {
+    ($areas:ident, $numbers:ident, number $field:ident) => {
+        $numbers.$field as _
+    };
+    ($areas:ident, $numbers:ident, $kind:ident $role:ident) => {
+        $areas.$kind($role)
+    };
+}
+
+macro_rules! export {
+    ($name:literal, $answers:expr, $call:ident($($kind:ident $what:ident),* $(,)?)) => {
+        Export {
+            name: $name,
+            answers: &$answers,
+            areas: &[$(area!($kind $what)),*],
+            call: |areas, _numbers| $call($(argument!(areas, _numbers, $kind $what)),*),
+        }
+    };
 }
 
 unsafe extern "C" {
@@ -24,306 +72,84 @@ unsafe extern "C" {
 }
 
 // A count answers 0 where it is the right one.
-fn counted(count: usize, right: usize) -> u64 {
-    if count == right { 0 } else { 13 }
-}
-
-const fn count(name: &'static str, call: fn(&Lent, &Numbers) -> u64) -> Export {
-    Export {
-        name,
-        answers: &[0],
-        reads: &[],
-        writes: &[],
-        call,
-    }
-}
-
-const fn method(name: &'static str, call: fn(&Lent, &Numbers) -> u64) -> Export {
-    Export {
-        name,
-        answers: &[0, 11],
-        reads: &[Stats],
-        writes: &[Out],
-        call,
-    }
+macro_rules! count {
+    ($name:literal, $call:ident, $right:literal) => {
+        Export {
+            name: $name,
+            answers: &[0],
+            areas: &[],
+            call: |_, _| if $call() == $right { 0 } else { 13 },
+        }
+    };
 }
 
 // 11 is also the answer to words of a wrong number or form.
+#[rustfmt::skip]
 pub const EXPORTS: [Export; 21] = [
-    Export {
-        name: "open",
-        answers: &[0, 1, 2, 3, 9, 10, 11],
-        reads: &[Setting, Starts, Lengths, Arena],
-        writes: &[Builder, Index, Filter],
-        call: |a, n| {
-            segment_cache_open(
-                a.words(Setting),
-                n.count(),
-                a.words_mut(Builder),
-                a.words_mut(Index),
-                a.words_mut(Filter),
-                a.words(Starts),
-                a.words(Lengths),
-                a.bytes(Arena),
-            )
-        },
-    },
-    Export {
-        name: "push",
-        answers: &[0, 3, 4, 5, 6, 9, 10, 11],
-        reads: &[Key, Value, Lifetime],
-        writes: &[Builder, Index, Filter, Arena, Out],
-        call: |a, n| {
-            segment_cache_push(
-                a.words_mut(Builder),
-                n.hash,
-                a.bytes(Key),
-                a.bytes(Value),
-                a.words(Lifetime),
-                a.words_mut(Index),
-                a.words_mut(Filter),
-                a.bytes_mut(Arena),
-                a.words_mut(Out),
-            )
-        },
-    },
-    Export {
-        name: "finish",
-        answers: &[0, 3, 7, 8, 10, 11],
-        reads: &[Builder, Arena],
-        writes: &[Index, Starts, Lengths, Scratch, Set],
-        call: |a, n| {
-            segment_cache_finish(
-                a.words(Builder),
-                n.count(),
-                a.words_mut(Index),
-                a.words_mut(Starts),
-                a.words_mut(Lengths),
-                a.words_mut(Scratch),
-                a.bytes(Arena),
-                a.words_mut(Set),
-            )
-        },
-    },
-    Export {
-        name: "get",
-        answers: &[0, 11],
-        reads: &[Set, Key, Filter, Starts, Lengths, Arena],
-        writes: &[Index, Out],
-        call: |a, n| {
-            segment_cache_get(
-                a.words(Set),
-                n.hash,
-                a.bytes(Key),
-                n.tick,
-                a.words_mut(Index),
-                a.words(Filter),
-                a.words(Starts),
-                a.words(Lengths),
-                a.bytes(Arena),
-                a.words_mut(Out),
-            )
-        },
-    },
-    Export {
-        name: "peek",
-        answers: &[0, 11],
-        reads: &[Set, Key, Index, Filter, Starts, Lengths, Arena],
-        writes: &[Out],
-        call: |a, n| {
-            segment_cache_peek(
-                a.words(Set),
-                n.hash,
-                a.bytes(Key),
-                n.tick,
-                a.words(Index),
-                a.words(Filter),
-                a.words(Starts),
-                a.words(Lengths),
-                a.bytes(Arena),
-                a.words_mut(Out),
-            )
-        },
-    },
-    Export {
-        name: "take_accessed",
-        answers: &[0, 11],
-        reads: &[Set, Key, Filter, Starts, Lengths, Arena],
-        writes: &[Index, Out],
-        call: |a, n| {
-            segment_cache_take_accessed(
-                a.words(Set),
-                n.hash,
-                a.bytes(Key),
-                a.words_mut(Index),
-                a.words(Filter),
-                a.words(Starts),
-                a.words(Lengths),
-                a.bytes(Arena),
-                a.words_mut(Out),
-            )
-        },
-    },
-    Export {
-        name: "probe",
-        answers: &[0, 11],
-        reads: &[Set, Key, Index, Filter, Starts, Lengths, Arena],
-        writes: &[Out],
-        call: |a, n| {
-            segment_cache_probe(
-                a.words(Set),
-                n.hash,
-                a.bytes(Key),
-                n.tick,
-                a.words(Index),
-                a.words(Filter),
-                a.words(Starts),
-                a.words(Lengths),
-                a.bytes(Arena),
-                a.words_mut(Out),
-            )
-        },
-    },
-    Export {
-        name: "next_entry",
-        answers: &[0, 11],
-        reads: &[Set, Index, Starts, Lengths, Arena],
-        writes: &[Out],
-        call: |a, n| {
-            segment_cache_next_entry(
-                a.words(Set),
-                n.count(),
-                n.tick,
-                a.words(Index),
-                a.words(Starts),
-                a.words(Lengths),
-                a.bytes(Arena),
-                a.words_mut(Out),
-            )
-        },
-    },
-    Export {
-        name: "stats",
-        answers: &[0, 11],
-        reads: &[Set],
-        writes: &[Out],
-        call: |a, _| segment_cache_stats(a.words(Set), a.words_mut(Out)),
-    },
-    Export {
-        name: "rebuild_open",
-        answers: &[0, 3, 7, 10, 11],
-        reads: &[Set, SourceStarts, SourceLengths, Arena, Keep],
-        writes: &[Rebuild, Index, Filter, Starts, Lengths],
-        call: |a, n| {
-            segment_cache_rebuild_open(
-                a.words(Set),
-                a.words(SourceStarts),
-                a.words(SourceLengths),
-                a.bytes(Arena),
-                n.count(),
-                n.size(),
-                a.bytes(Keep),
-                n.tick,
-                a.words_mut(Rebuild),
-                a.words_mut(Index),
-                a.words_mut(Filter),
-                a.words_mut(Starts),
-                a.words_mut(Lengths),
-            )
-        },
-    },
-    Export {
-        name: "push_reused",
-        answers: &[0, 3, 11, 12],
-        reads: &[Key, Value, Starts, Lengths, Arena],
-        writes: &[Rebuild, Index, Filter, Out],
-        call: |a, n| {
-            segment_cache_push_reused(
-                a.words_mut(Rebuild),
-                n.hash,
-                a.bytes(Key),
-                a.bytes(Value),
-                n.location as usize,
-                n.size(),
-                a.words_mut(Index),
-                a.words_mut(Filter),
-                a.words(Starts),
-                a.words(Lengths),
-                a.bytes(Arena),
-                a.words_mut(Out),
-            )
-        },
-    },
-    Export {
-        name: "push_copied",
-        answers: &[0, 3, 5, 6, 7, 9, 10, 11],
-        reads: &[Key, Value, Lifetime, Starts, Lengths],
-        writes: &[Rebuild, Index, Filter, Arena, Out],
-        call: |a, n| {
-            segment_cache_push_copied(
-                a.words_mut(Rebuild),
-                n.hash,
-                a.bytes(Key),
-                a.bytes(Value),
-                a.words(Lifetime),
-                a.words_mut(Index),
-                a.words_mut(Filter),
-                a.words(Starts),
-                a.words(Lengths),
-                a.bytes_mut(Arena),
-                a.words_mut(Out),
-            )
-        },
-    },
-    Export {
-        name: "rebuild_finish",
-        answers: &[0, 3, 10, 11],
-        reads: &[Rebuild, Arena],
-        writes: &[Index, Starts, Lengths, Scratch, Set, Out],
-        call: |a, _| {
-            segment_cache_rebuild_finish(
-                a.words(Rebuild),
-                a.words_mut(Index),
-                a.words_mut(Starts),
-                a.words_mut(Lengths),
-                a.words_mut(Scratch),
-                a.bytes(Arena),
-                a.words_mut(Set),
-                a.words_mut(Out),
-            )
-        },
-    },
-    Export {
-        name: "area_words",
-        answers: &[0, 1, 2, 3, 9, 11],
-        reads: &[Setting],
-        writes: &[Out],
-        call: |a, n| segment_cache_area_words(a.words(Setting), n.count(), a.words_mut(Out)),
-    },
-    Export {
-        name: "encoded_record_bytes",
-        answers: &[0, 3, 11],
-        reads: &[Setting],
-        writes: &[Out],
-        call: |a, n| {
-            let (setting, out) = (a.words(Setting), a.words_mut(Out));
-            segment_cache_encoded_record_bytes(setting, n.count(), n.size(), out)
-        },
-    },
-    method("modeled_retained_bytes", |a, _| {
-        segment_cache_modeled_retained_bytes(a.words(Stats), a.words_mut(Out))
-    }),
-    method("modeled_overhead_bytes", |a, _| {
-        segment_cache_modeled_overhead_bytes(a.words(Stats), a.words_mut(Out))
-    }),
-    method("index_load_bps", |a, _| {
-        segment_cache_index_load_bps(a.words(Stats), a.words_mut(Out))
-    }),
-    count("builder_words", |_, _| {
-        counted(segment_cache_builder_words(), 13)
-    }),
-    count("set_words", |_, _| counted(segment_cache_set_words(), 15)),
-    count("rebuild_words", |_, _| {
-        counted(segment_cache_rebuild_words(), 22)
-    }),
+    export!("open", [0, 1, 2, 3, 9, 10, 11], segment_cache_open(
+        words Setting, number count, words_mut Builder, words_mut Index, words_mut Filter, words Starts,
+        words Lengths, bytes Arena,
+    )),
+    export!("push", [0, 3, 4, 5, 6, 9, 10, 11], segment_cache_push(
+        words_mut Builder, number hash, bytes Key, bytes Value, words Lifetime, words_mut Index,
+        words_mut Filter, bytes_mut Arena, words_mut Out,
+    )),
+    export!("finish", [0, 3, 7, 8, 10, 11], segment_cache_finish(
+        words Builder, number count, words_mut Index, words_mut Starts, words_mut Lengths,
+        words_mut Scratch, bytes Arena, words_mut Set,
+    )),
+    export!("get", [0, 11], segment_cache_get(
+        words Set, number hash, bytes Key, number tick, words_mut Index, words Filter, words Starts,
+        words Lengths, bytes Arena, words_mut Out,
+    )),
+    export!("peek", [0, 11], segment_cache_peek(
+        words Set, number hash, bytes Key, number tick, words Index, words Filter, words Starts,
+        words Lengths, bytes Arena, words_mut Out,
+    )),
+    export!("take_accessed", [0, 11], segment_cache_take_accessed(
+        words Set, number hash, bytes Key, words_mut Index, words Filter, words Starts, words Lengths,
+        bytes Arena, words_mut Out,
+    )),
+    export!("probe", [0, 11], segment_cache_probe(
+        words Set, number hash, bytes Key, number tick, words Index, words Filter, words Starts,
+        words Lengths, bytes Arena, words_mut Out,
+    )),
+    export!("next_entry", [0, 11], segment_cache_next_entry(
+        words Set, number count, number tick, words Index, words Starts, words Lengths, bytes Arena,
+        words_mut Out,
+    )),
+    export!("stats", [0, 11], segment_cache_stats(words Set, words_mut Out)),
+    export!("rebuild_open", [0, 3, 7, 10, 11], segment_cache_rebuild_open(
+        words Set, words SourceStarts, words SourceLengths, bytes Arena, number count, number size,
+        bytes Keep, number tick, words_mut Rebuild, words_mut Index, words_mut Filter,
+        words_mut Starts, words_mut Lengths,
+    )),
+    export!("push_reused", [0, 3, 11, 12], segment_cache_push_reused(
+        words_mut Rebuild, number hash, bytes Key, bytes Value, number location, number size,
+        words_mut Index, words_mut Filter, words Starts, words Lengths, bytes Arena, words_mut Out,
+    )),
+    export!("push_copied", [0, 3, 5, 6, 7, 9, 10, 11], segment_cache_push_copied(
+        words_mut Rebuild, number hash, bytes Key, bytes Value, words Lifetime, words_mut Index,
+        words_mut Filter, words Starts, words Lengths, bytes_mut Arena, words_mut Out,
+    )),
+    export!("rebuild_finish", [0, 3, 10, 11], segment_cache_rebuild_finish(
+        words Rebuild, words_mut Index, words_mut Starts, words_mut Lengths, words_mut Scratch,
+        bytes Arena, words_mut Set, words_mut Out,
+    )),
+    export!("area_words", [0, 1, 2, 3, 9, 11], segment_cache_area_words(
+        words Setting, number count, words_mut Out,
+    )),
+    export!("encoded_record_bytes", [0, 3, 11], segment_cache_encoded_record_bytes(
+        words Setting, number count, number size, words_mut Out,
+    )),
+    export!("modeled_retained_bytes", [0, 11], segment_cache_modeled_retained_bytes(
+        words Stats, words_mut Out,
+    )),
+    export!("modeled_overhead_bytes", [0, 11], segment_cache_modeled_overhead_bytes(
+        words Stats, words_mut Out,
+    )),
+    export!("index_load_bps", [0, 11], segment_cache_index_load_bps(words Stats, words_mut Out)),
+    count!("builder_words", segment_cache_builder_words, 13),
+    count!("set_words", segment_cache_set_words, 15),
+    count!("rebuild_words", segment_cache_rebuild_words, 22),
 ];

@@ -2,29 +2,19 @@
 use crate::guarded::Placed;
 use Role::*;
 
-#[derive(Clone, Copy, PartialEq, Debug)]
-pub enum Role {
-    Setting,
-    Builder,
-    Set,
-    Rebuild,
-    Index,
-    Filter,
-    Starts,
-    Lengths,
-    Scratch,
-    SourceStarts,
-    SourceLengths,
-    Lifetime,
-    Stats,
-    Out,
-    Arena,
-    Key,
-    Value,
-    Keep,
+macro_rules! roles {
+    ($($role:ident),* $(,)?) => {
+        #[derive(Clone, Copy, PartialEq, Debug)]
+        pub enum Role {
+            $($role),*
+        }
+
+        pub const ROLES: &[Role] = &[$($role),*];
+    };
 }
 
-pub const ROLES: [Role; 18] = [
+// Out: what the call tells beside its answer.
+roles!(
     Setting,
     Builder,
     Set,
@@ -43,7 +33,7 @@ pub const ROLES: [Role; 18] = [
     Key,
     Value,
     Keep,
-];
+);
 
 impl Role {
     pub fn is_bytes(self) -> bool {
@@ -60,16 +50,6 @@ pub struct Numbers {
     pub count: u64,
     pub size: u64,
     pub location: u64,
-}
-
-impl Numbers {
-    pub fn count(&self) -> usize {
-        self.count as usize
-    }
-
-    pub fn size(&self) -> usize {
-        self.size as usize
-    }
 }
 
 // The areas of one call; no two of them overlap.

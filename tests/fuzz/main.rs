@@ -17,13 +17,18 @@ mod ffi;
 #[path = "../differential/rng.rs"]
 mod rng;
 
-// What is called: the library's exports, or some of them wrong, to see that it is noticed.
+// How an export is called; with an error in it, to see that it is noticed.
 #[cfg(not(stand_in))]
-mod calls {
-    pub use crate::ffi::*;
+mod calling {
+    use crate::exports::Export;
+    use crate::lent::{Lent, Numbers};
+
+    pub fn call(export: &Export, lent: &Lent, numbers: &Numbers) -> u64 {
+        (export.call)(lent, numbers)
+    }
 }
 #[cfg(stand_in)]
-mod calls {
+mod calling {
     include!(env!("STAND_IN"));
 }
 
@@ -62,7 +67,7 @@ impl Fuzz {
         Fuzz {
             rng: Rng::new(seed),
             seed,
-            memory: ROLES.map(|_| Guarded::new(ROOM)),
+            memory: std::array::from_fn(|_| Guarded::new(ROOM)),
             vast: Guarded::zeros(VAST + 1),
             calls: 0,
             differences: 0,
@@ -98,11 +103,11 @@ impl Fuzz {
         let export = &EXPORTS[number];
         let lent = self.lend(number, world);
         alarm::calling(self.calls, number);
-        let answer = (export.call)(&lent, &world.numbers);
+        let answer = calling::call(export, &lent, &world.numbers);
         let mut wrong = check::wrong(export, world, &lent, answer);
         let goes_on = answer == 0 && !lent.is_vast(Role::Arena);
         if goes_on {
-            world.take_over(export.writes, &lent);
+            world.take_over(export.roles().filter(|&role| export.writes(role)), &lent);
         }
         if let Some(role) = self.take_back(number, &lent) {
             wrong = Some(format!("something beside {role:?} changed"));
@@ -143,7 +148,7 @@ impl Fuzz {
             let memory = &mut self.memory[role as usize];
             places[role as usize] = Some(memory.place(world.area(role), at_end));
         }
-        if export.reads.contains(&Role::Arena) && self.rng.one_in(100) {
+        if export.reads(Role::Arena) && self.rng.one_in(100) {
             let content = places[Role::Arena as usize].take();
             content.map(|placed| self.memory[Role::Arena as usize].clear(placed));
             let bytes = VAST + self.rng.index(2);

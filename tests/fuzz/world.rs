@@ -10,7 +10,7 @@ pub struct World {
 impl World {
     pub fn empty() -> World {
         World {
-            areas: ROLES.map(|_| Vec::new()),
+            areas: [const { Vec::new() }; ROLES.len()],
             numbers: Numbers::default(),
         }
     }
@@ -53,8 +53,8 @@ impl World {
     }
 
     // What an accepted call has left.
-    pub fn take_over(&mut self, roles: &[Role], lent: &Lent) {
-        for &role in roles {
+    pub fn take_over(&mut self, roles: impl Iterator<Item = Role>, lent: &Lent) {
+        for role in roles {
             if let Some(placed) = lent.places[role as usize] {
                 self.areas[role as usize].copy_from_slice(placed.content());
             }

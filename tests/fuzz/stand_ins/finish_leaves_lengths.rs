@@ -1,21 +1,11 @@
 // Writes a length where there are too many segments.
-pub use crate::ffi::*;
+use crate::exports::Export;
+use crate::lent::{Lent, Numbers, Role};
 
-pub fn segment_cache_finish(
-    builder: &[u64],
-    target: usize,
-    index: &mut [u64],
-    starts: &mut [u64],
-    lengths: &mut [u64],
-    scratch: &mut [u64],
-    arena: &[u8],
-    set: &mut [u64],
-) -> u64 {
-    let answer = crate::ffi::segment_cache_finish(
-        builder, target, index, starts, lengths, scratch, arena, set,
-    );
-    if answer == 7 {
-        lengths[255] = target as u64;
+pub fn call(export: &Export, lent: &Lent, numbers: &Numbers) -> u64 {
+    let answer = (export.call)(lent, numbers);
+    if export.name == "finish" && answer == 7 {
+        lent.words_mut(Role::Lengths)[255] = numbers.count;
     }
     answer
 }

@@ -1,20 +1,11 @@
 // Writes one word behind the index.
-pub use crate::ffi::*;
+use crate::exports::Export;
+use crate::lent::{Lent, Numbers, Role};
 
-pub fn segment_cache_get(
-    set: &[u64],
-    hash: u64,
-    key: &[u8],
-    tick: u64,
-    index: &mut [u64],
-    filter: &[u64],
-    starts: &[u64],
-    lengths: &[u64],
-    arena: &[u8],
-    span: &mut [u64],
-) -> u64 {
-    unsafe { index.as_mut_ptr().add(index.len()).write(0) };
-    crate::ffi::segment_cache_get(
-        set, hash, key, tick, index, filter, starts, lengths, arena, span,
-    )
+pub fn call(export: &Export, lent: &Lent, numbers: &Numbers) -> u64 {
+    if export.name == "get" {
+        let index = lent.words_mut(Role::Index);
+        unsafe { index.as_mut_ptr().add(index.len()).write(0) };
+    }
+    (export.call)(lent, numbers)
 }

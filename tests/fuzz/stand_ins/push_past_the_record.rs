@@ -1,21 +1,12 @@
 // Writes one byte of the arena behind the record.
-pub use crate::ffi::*;
+use crate::exports::Export;
+use crate::lent::{Lent, Numbers, Role};
 
-pub fn segment_cache_push(
-    builder: &mut [u64],
-    hash: u64,
-    key: &[u8],
-    value: &[u8],
-    lifetime: &[u64],
-    index: &mut [u64],
-    filter: &mut [u64],
-    arena: &mut [u8],
-    place: &mut [u64],
-) -> u64 {
-    let answer = crate::ffi::segment_cache_push(
-        builder, hash, key, value, lifetime, index, filter, arena, place,
-    );
-    if let Some(byte) = arena.get_mut(builder[10] as usize).filter(|_| answer == 0) {
+pub fn call(export: &Export, lent: &Lent, numbers: &Numbers) -> u64 {
+    let answer = (export.call)(lent, numbers);
+    let arena = (export.name == "push" && answer == 0).then(|| lent.bytes_mut(Role::Arena));
+    let filled = || lent.words(Role::Builder)[10] as usize;
+    if let Some(byte) = arena.and_then(|arena| arena.get_mut(filled())) {
         *byte = 0;
     }
     answer

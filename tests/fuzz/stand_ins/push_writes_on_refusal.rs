@@ -1,22 +1,11 @@
 // Leaves a place where a push is refused for a duplicate.
-pub use crate::ffi::*;
+use crate::exports::Export;
+use crate::lent::{Lent, Numbers, Role};
 
-pub fn segment_cache_push(
-    builder: &mut [u64],
-    hash: u64,
-    key: &[u8],
-    value: &[u8],
-    lifetime: &[u64],
-    index: &mut [u64],
-    filter: &mut [u64],
-    arena: &mut [u8],
-    place: &mut [u64],
-) -> u64 {
-    let answer = crate::ffi::segment_cache_push(
-        builder, hash, key, value, lifetime, index, filter, arena, place,
-    );
-    if answer == 4 {
-        place[0] = 0;
+pub fn call(export: &Export, lent: &Lent, numbers: &Numbers) -> u64 {
+    let answer = (export.call)(lent, numbers);
+    if export.name == "push" && answer == 4 {
+        lent.words_mut(Role::Out)[0] = 0;
     }
     answer
 }

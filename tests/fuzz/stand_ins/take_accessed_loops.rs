@@ -1,21 +1,10 @@
 // Does not come back where a mark was set.
-pub use crate::ffi::*;
+use crate::exports::Export;
+use crate::lent::{Lent, Numbers, Role};
 
-pub fn segment_cache_take_accessed(
-    set: &[u64],
-    hash: u64,
-    key: &[u8],
-    index: &mut [u64],
-    filter: &[u64],
-    starts: &[u64],
-    lengths: &[u64],
-    arena: &[u8],
-    accessed: &mut [u64],
-) -> u64 {
-    let answer = crate::ffi::segment_cache_take_accessed(
-        set, hash, key, index, filter, starts, lengths, arena, accessed,
-    );
-    while answer == 0 && accessed[0] == 1 {
+pub fn call(export: &Export, lent: &Lent, numbers: &Numbers) -> u64 {
+    let answer = (export.call)(lent, numbers);
+    while export.name == "take_accessed" && answer == 0 && lent.words(Role::Out)[0] == 1 {
         std::hint::spin_loop();
     }
     answer
