@@ -16,10 +16,16 @@
  *   starts    uint64_t  SEGMENT_CACHE_SEGMENT_WORDS            from finish on, while the set is asked
  *   lengths   uint64_t  SEGMENT_CACHE_SEGMENT_WORDS            from finish on, while the set is asked
  *   scratch   uint64_t  1 a bucket if packed, else none        during finish only
- *   arena     uint8_t   the records (encoded_record_bytes)     while any set over it is asked
+ *   arena     uint8_t   the records (encoded_record_bytes)     from open on, while any set over it is asked
  *
- * A rebuild's starts and lengths live from rebuild_open on. Longer areas are fine; what lies past the
- * words in use is never written. All other areas are read or written during the one call.
+ * For a rebuild read rebuild_open and rebuild_finish; its starts and lengths live from rebuild_open on.
+ * "Asked" includes being the source of a rebuild. Longer areas are fine, up to an arena of
+ * SEGMENT_CACHE_MAX_ARENA_BYTES; what lies past the words in use is never written. A value that was
+ * found is a part of the arena, and stays there until a builder is opened in it.
+ *
+ * All other areas are read or written during the one call: setting, lifetime, key, value and keep flags
+ * are read, and answers go to areas of exactly the length that segment_cache_words.h names (place, span,
+ * record, stats, totals, area words; accessed, size and out are one word).
  *
  * Rules of lending, which the library can't check:
  *  - A slice is a pointer and a length in elements. The pointer is aligned for its element and never
@@ -30,13 +36,23 @@
  *  - Two sets share no index, filter, starts, lengths or set words. They share an arena only in one
  *    line of rebuilds, each from the newest set of that arena. Opening a builder in an arena ends
  *    every set over it; opening a rebuild ends an unfinished one.
- *  - get and take_accessed write the set's index: one thread at a time. peek, probe, next_entry and
- *    stats only read.
+ *  - While a call runs that writes an area (a pointer to non-const), no other call is lent that area.
+ *    get and take_accessed write the set's index; peek, probe, next_entry and stats only read, and may
+ *    run beside each other.
  *
- * Every call but the functions without arguments returns 0 (accepted) or the number of a refusal. A
- * refusal changes no area, with one exception: finish refused with SEGMENT_CACHE_ARENA_TOO_LARGE
- * leaves the first 256 starts in `starts`. A builder or rebuild stays open after any refusal. Words
- * of a wrong number or form are refused with SEGMENT_CACHE_INVALID_STATE.
+ * Every call but the functions without arguments returns 0 (accepted) or the number of a refusal, here
+ * by the name that segment_cache_refusal_name gives it; enum segment_cache_refusal says when:
+ *
+ *    1 InvalidBucketOccupancy    5 ExpiryDisabled           9 InvalidNanoseconds
+ *    2 ZeroExpiryTick            6 ExpiryOutOfRange        10 AreaTooShort
+ *    3 CapacityOverflow          7 ArenaTooLarge           11 InvalidState
+ *    4 DuplicateKey              8 InvalidSegmentTarget    12 RecordMismatch
+ *
+ * A refusal changes no area, answers included, with one exception: finish refused with 7 leaves the
+ * first 256 starts in `starts`. A builder or rebuild stays open after any refusal. Each call below lists
+ * its refusals in the order in which it asks. In every call words of a wrong number or form are 11 before
+ * anything else is asked. For what goes back to open or rebuild_open under the rules above 11 does not
+ * occur otherwise, and there is always an empty slot (else pushes answer 3).
  *
  * Example: two records, a tick of one second.
  *
@@ -85,8 +101,8 @@ extern "C" {
 size_t segment_cache_builder_words(void);
 size_t segment_cache_set_words(void);
 
-/* Opens a builder for this many records and clears the index and filter words in use. Refusals: 9, 1,
-   2, 3, 10. */
+/* Opens a builder for this many records and clears the index and filter words in use. Refusals: 11 (of
+   the words alone), 9, 1, 2, 3, 10. */
 uint64_t segment_cache_open(const uint64_t *setting, size_t setting_len, size_t records,
                             uint64_t *builder, size_t builder_len, uint64_t *index,
                             size_t index_len, uint64_t *filter, size_t filter_len,
@@ -101,21 +117,24 @@ uint64_t segment_cache_push(uint64_t *builder, size_t builder_len, uint64_t hash
                             uint64_t *index, size_t index_len, uint64_t *filter, size_t filter_len,
                             uint8_t *arena, size_t arena_len, uint64_t *place, size_t place_len);
 
-/* Freezes the records into a set, in segments of about `target` bytes. Refusals: 11, 3, 8, 10, 7. */
+/* Freezes the records into a set. A segment ends where the first record begins that is `target` bytes or
+   more past its start. Refusals: 11, 3, 8, 10, 11 (an index word that names no record), 7. */
 uint64_t segment_cache_finish(const uint64_t *builder, size_t builder_len, size_t target,
                               uint64_t *index, size_t index_len, uint64_t *starts,
                               size_t starts_len, uint64_t *lengths, size_t lengths_len,
                               uint64_t *scratch, size_t scratch_len, const uint8_t *arena,
                               size_t arena_len, uint64_t *set, size_t set_len);
 
-/* The arena bytes that a record of these lengths takes, in size[0]. Refusal: 3. */
+/* The arena bytes that a record of these lengths takes, in size[0]. Refusals: 11 (of the words alone),
+   3. */
 uint64_t segment_cache_encoded_record_bytes(const uint64_t *setting, size_t setting_len,
                                             size_t key_bytes, size_t value_bytes, uint64_t *size,
                                             size_t size_len);
 
 /* ---- asking a set; the one refusal is 11 */
 
-/* The live value of a key, as a span of the arena; a hit sets the record's access mark. */
+/* The live value of a key, as a span of the arena, or span[0] is 0; a live hit sets the record's access
+   mark. */
 uint64_t segment_cache_get(const uint64_t *set, size_t set_len, uint64_t hash, const uint8_t *key,
                            size_t key_len, uint64_t tick, uint64_t *index, size_t index_len,
                            const uint64_t *filter, size_t filter_len, const uint64_t *starts,
@@ -148,15 +167,16 @@ uint64_t segment_cache_probe(const uint64_t *set, size_t set_len, uint64_t hash,
                              const uint64_t *lengths, size_t lengths_len, const uint8_t *arena,
                              size_t arena_len, uint64_t *record, size_t record_len);
 
-/* The first record from slot `from` on, lapsed or not. Walk: begin at 0, go on with its slot + 1. */
+/* The first record from slot `from` on, lapsed or not; record[0] is 0 at the end. Walk: begin at 0, go on
+   with its slot + 1. */
 uint64_t segment_cache_next_entry(const uint64_t *set, size_t set_len, size_t from, uint64_t tick,
                                   const uint64_t *index, size_t index_len, const uint64_t *starts,
                                   size_t starts_len, const uint64_t *lengths, size_t lengths_len,
                                   const uint8_t *arena, size_t arena_len, uint64_t *record,
                                   size_t record_len);
 
-/* Counts of a set, and three numbers worked out of them: bytes held, bytes beyond keys and values,
-   filled slots in hundredths of a percent. */
+/* Counts of a set, and three numbers worked out of them, in out[0]: bytes held, bytes beyond keys and
+   values, filled slots in hundredths of a percent. */
 uint64_t segment_cache_stats(const uint64_t *set, size_t set_len, uint64_t *stats,
                              size_t stats_len);
 uint64_t segment_cache_modeled_retained_bytes(const uint64_t *stats, size_t stats_len,
@@ -177,7 +197,8 @@ size_t segment_cache_rebuild_words(void);
 
 /* Opens a rebuild for this many records. used_source_segments: a flag for each segment of the source,
    0 drops it. copied_record_capacity: 0 if nothing is to be copied. source_now_tick: the tick from
-   which lifetimes of copied records count. Refusals: 11, 3, 7, 10. */
+   which lifetimes of copied records count. index, filter, starts and lengths are the new set's own.
+   Refusals: 11, 3, 7, 10. */
 uint64_t segment_cache_rebuild_open(
     const uint64_t *set, size_t set_len, const uint64_t *source_starts, size_t source_starts_len,
     const uint64_t *source_lengths, size_t source_lengths_len, const uint8_t *arena,
@@ -216,8 +237,8 @@ uint64_t segment_cache_rebuild_finish(const uint64_t *rebuild, size_t rebuild_le
                                       uint64_t *set, size_t set_len, uint64_t *totals,
                                       size_t totals_len);
 
-/* The words that index, filter, starts, lengths and scratch need for this many records. Refusals: 9,
-   1, 2, 3, as of open. */
+/* The words that index, filter, starts, lengths and scratch need for this many records, of a build or a
+   rebuild. Refusals: 11 (of the words alone), 9, 1, 2, 3, as of open. */
 uint64_t segment_cache_area_words(const uint64_t *setting, size_t setting_len, size_t records,
                                   uint64_t *words, size_t words_len);
 

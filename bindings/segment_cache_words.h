@@ -12,8 +12,9 @@ enum segment_cache_refusal {
     SEGMENT_CACHE_INVALID_BUCKET_OCCUPANCY = 1, /* occupancy is not 1 to 7 */
     SEGMENT_CACHE_ZERO_EXPIRY_TICK = 2,         /* the tick length is zero */
     SEGMENT_CACHE_CAPACITY_OVERFLOW = 3,        /* more records than announced or allowed, fewer at
-                                                   finish, wrong number of keep flags, segment not kept */
-    SEGMENT_CACHE_DUPLICATE_KEY = 4,            /* the key is in the set */
+                                                   finish, wrong number of keep flags, segment not
+                                                   kept, no empty slot, a size past 64 bits */
+    SEGMENT_CACHE_DUPLICATE_KEY = 4,            /* the key is in the builder; rebuilds take it twice */
     SEGMENT_CACHE_EXPIRY_DISABLED = 5,          /* a lifetime where the setting has no expiry */
     SEGMENT_CACHE_EXPIRY_OUT_OF_RANGE = 6,      /* the deadline would be past tick 65,534 */
     SEGMENT_CACHE_ARENA_TOO_LARGE = 7,          /* more than 256 segments */
@@ -21,7 +22,8 @@ enum segment_cache_refusal {
     SEGMENT_CACHE_INVALID_NANOSECONDS = 9,      /* 1,000,000,000 nanoseconds or more */
     SEGMENT_CACHE_AREA_TOO_SHORT = 10,          /* an area or the arena's rest is too short, or the
                                                    arena too long at open */
-    SEGMENT_CACHE_INVALID_STATE = 11,           /* state and areas contradict each other */
+    SEGMENT_CACHE_INVALID_STATE = 11,           /* state and areas contradict each other, or words have
+                                                   a wrong number or form */
     SEGMENT_CACHE_RECORD_MISMATCH = 12          /* no such record at the location to reuse */
 };
 
@@ -43,7 +45,10 @@ enum segment_cache_refusal {
 #define SEGMENT_CACHE_STATS_WORDS 8
 #define SEGMENT_CACHE_TOTALS_WORDS 4
 
-/* ---- what each word is; builder, set and rebuild begin with the six words of their setting */
+/* ---- what each word is; builder, set and rebuild begin with the six words of their setting
+
+   The form of a setting: flags are 0 or 1, nanoseconds below 2^32, occupancy and filter bits below 256.
+   Without expiry the tick is not looked at. */
 
 enum segment_cache_setting_word {
     SEGMENT_CACHE_SETTING_EXPIRY = 0, /* 0 or 1 */
