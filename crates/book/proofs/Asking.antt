@@ -28,8 +28,8 @@ use Rattle.index.proofs.Kept.{marked-indexed, unmarked-indexed, control-marked-
 use Rattle.index.proofs.Lookups.{find-nothing, find-found}
 use Rattle.index.proofs.Table.{only}
 use Rattle.sets.specs.Answers.{accept}
-use Rattle.sets.specs.Lookup.{viewOf, findOf, lookupOf, slotMarked, slotCleared, liveValue, liveMarked, Got, gotten, afterGet, takenOf, afterTake}
-use Rattle.sets.proofs.Closure.{setPasses, set-index-holds, get-asks, take-asks, get-passes, take-passes}
+use Rattle.sets.specs.Lookup.{areasHoldLookup, viewOf, findOf, lookupOf, slotMarked, slotCleared, liveValue, liveMarked, Got, gotten, afterGet, takenOf, afterTake}
+use Rattle.sets.proofs.Closure.{set-index-holds, get-asks, take-asks, get-passes, take-passes}
 use Rattle.sets.proofs.ReadInside.{read-inside}
 use Rattle.book.specs.Book.{Entry, ListedSet, firstOf, ruled}
 use Rattle.book.specs.Calls.{value, nothing}
@@ -111,7 +111,7 @@ module _ {H : List ℕ → ℕ} {Holds : ℕ → Entry → Type 0} (view : Segme
 module _ (H : List ℕ → ℕ) (x : SegmentExpiry) (arena : List ℕ) (top : ℕ) (s : FinishedSet) (l : ListedSet) (ok : SetHolds H x arena top s l) where
   -- another index of the same length that stands for the same list
   reindexed : (index : List ℕ)
-      → setPasses (s .cache) (length index) (length (s .areas .filter)) (length (s .areas .starts)) (length (s .areas .lengths)) (length arena) ≡ true
+      → areasHoldLookup (s .cache) (length index) (length (s .areas .filter)) (length (s .areas .starts)) (length (s .areas .lengths)) (length arena) ≡ true
       → Indexed storedOf H (s .cache .config .«packed_bucket_index»)
       (λ m e. storedIn (viewOf (s .cache)) arena (s .areas .starts) (s .areas .lengths) m ≡ some (storedOf e))
       (s .cache .buckets) (indexSlots (s .cache .config .«packed_bucket_index») (s .cache .buckets) index)

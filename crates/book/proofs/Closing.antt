@@ -12,12 +12,11 @@ use Rattle.index.specs.View.{storedIn}
 use Rattle.index.proofs.Filling.{filled-back}
 use Rattle.index.proofs.Kept.{one-start, split-indexed}
 use Rattle.sets.specs.Build.{setOf}
-use Rattle.sets.specs.Lookup.{viewOf}
+use Rattle.sets.specs.Lookup.{areasHoldLookup, viewOf}
 use Rattle.sets.specs.Questions.{scratchHolds}
 use Rattle.sets.specs.declared.builder.SegmentCacheBuilder.{SegmentCacheBuilder}
 use Rattle.sets.proofs.Accepted.{startsMade, finishMade}
 use Rattle.sets.proofs.Asked.{FinishAsked}
-use Rattle.sets.proofs.Closure.{setPasses}
 use Rattle.book.specs.Book.{Entry, Book, startsOf}
 use Rattle.book.specs.World.{Areas}
 use Rattle.book.proofs.Cutting.{index-starts, every-start}
@@ -37,7 +36,7 @@ module _ (H : List ℕ → ℕ) where
   pub builder-finish : (b : SegmentCacheBuilder) (a : Areas) (arena scratch : List ℕ) (target : ℕ) (k : Book) → BuilderHolds H b a (length arena) k
       → FinishAsked b target (a .index) (length (a .starts)) (length (a .lengths)) (length scratch) (length arena) → length (startsMade b target (a .index) (a .starts) (a .lengths) scratch arena) ≤ 256
       → take (length (k .tape)) arena ≡ k .tape
-      → setPasses (setOf b (length (startsMade b target (a .index) (a .starts) (a .lengths) scratch arena)))
+      → areasHoldLookup (setOf b (length (startsMade b target (a .index) (a .starts) (a .lengths) scratch arena)))
       (length (finishMade b target (a .index) (a .starts) (a .lengths) scratch arena .index)) (length (a .filter))
       (length (finishMade b target (a .index) (a .starts) (a .lengths) scratch arena .starts))
       (length (finishMade b target (a .index) (a .starts) (a .lengths) scratch arena .lengths)) (length arena) ≡ true

@@ -14,12 +14,12 @@ use Rattle.hash_parts.specs.declared.setting.SegmentExpiry.{SegmentExpiry}
 use Rattle.records.specs.Area.{pasted}
 use Rattle.records.specs.Record.{recordBytes, recordSize}
 use Rattle.records.proofs.Parts.{size-is}
+use Rattle.sets.specs.Lookup.{areasHoldLookup}
 use Rattle.sets.specs.Answers.{accept, RebuildPlaced}
 use Rattle.sets.specs.Rebuild.{RebuildOpened, Reused, Copied, RebuildFinished}
 use Rattle.sets.specs.declared.rebuild.SegmentRecordLocation.{SegmentRecordLocation}
 use Rattle.sets.specs.declared.rebuild.SharedSegmentCacheBuild.{SharedSegmentCacheBuild}
 use Rattle.sets.specs.declared.rebuild.SharedSegmentCacheBuilder.{SharedSegmentCacheBuilder}
-use Rattle.sets.proofs.Closure.{setPasses}
 use Rattle.sets.proofs.RebuildAccepted.{ReopenCase, reopen-made, reopen-refused, reopen-case, ReusedCase, reused-made, reused-refused, reused-case, CopiedCase, copied-made, copied-refused, copied-case, RefinishCase, refinish-made, refinish-refused, refinish-case}
 use Rattle.sets.proofs.RebuildClosure.{rebuildPasses, rebuild-filter-holds, reopen-passes, reused-passes, copied-passes, refinish-passes}
 use Rattle.book.specs.Book.{ListedSet, Book, startsIn, filledIn, rebuiltStarts, placeOf, joined, closed, reopened, rejoined, heard}
@@ -152,7 +152,7 @@ module _ (H : List ℕ → ℕ) where
       (λ b e. refinish-passes r (a .index) (a .starts) (a .lengths) scratch (w .arena) b e (length (a .filter)) (rebuild-filter-holds r _ _ _ _ _ (ok .passes)))
     where
       go : {f : RebuildFinished} → RefinishCase r (a .index) (a .starts) (a .lengths) scratch (w .arena) f
-          → ((b : SharedSegmentCacheBuild) → f .answer ≡ accept b → setPasses (b .cache) (length (f .index)) (length (a .filter)) (length (f .starts)) (length (f .lengths)) (length (w .arena)) ≡ true)
+          → ((b : SharedSegmentCacheBuild) → f .answer ≡ accept b → areasHoldLookup (b .cache) (length (f .index)) (length (a .filter)) (length (f .starts)) (length (f .lengths)) (length (w .arena)) ≡ true)
           → Holds H (refinishLeaves w a f .after) (pick (isAccepted (f .answer)) (closed k (rebuiltStarts (k .kept) (filledIn (newest (k .sets))) (length (k .tape)))) k)
       go (refinish-refused n) passes = record { memory = m .memory; top = m .top; current = is-rebuilding ok; sets = m .sets }
       go (refinish-made asked) passes = joins H w k m _ _ (rebuild-finish H r a (w .arena) scratch k ok (m .memory) asked (passes _ refl))

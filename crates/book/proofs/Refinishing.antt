@@ -19,11 +19,10 @@ use Rattle.index.specs.declared.view.SegmentView.{SegmentView}
 use Rattle.index.proofs.Entries.{reheld}
 use Rattle.index.proofs.Table.{true≢false}
 use Rattle.sets.specs.Kept.{retained}
-use Rattle.sets.specs.Lookup.{viewOf}
+use Rattle.sets.specs.Lookup.{areasHoldLookup, viewOf}
 use Rattle.sets.specs.Questions.{scratchHolds}
 use Rattle.sets.specs.Rebuild.{addsSegment, rebuiltSet, withLast, rebuildFinishMade, segmentFor}
 use Rattle.sets.specs.declared.rebuild.SharedSegmentCacheBuilder.{SharedSegmentCacheBuilder}
-use Rattle.sets.proofs.Closure.{setPasses}
 use Rattle.sets.proofs.RebuildAsked.{RefinishAsked}
 use Rattle.book.specs.Book.{Entry, Book, filledIn, rebuiltStarts}
 use Rattle.book.specs.Calls.{newest}
@@ -115,7 +114,7 @@ module _ (view : SegmentView) (tape arena starts lengths S L : List ℕ) (base n
 module _ (H : List ℕ → ℕ) where
   pub rebuild-finish : (r : SharedSegmentCacheBuilder) (a : Areas) (arena scratch : List ℕ) (k : Book) → RebuildHolds H r a (length arena) k → take (length (k .tape)) arena ≡ k .tape
       → RefinishAsked r (length (a .index)) (a .starts) (a .lengths) (length scratch) (length arena)
-      → setPasses (rebuiltSet r (a .lengths)) (length (rebuildFinishMade r (a .index) (a .starts) (a .lengths) scratch .index)) (length (a .filter))
+      → areasHoldLookup (rebuiltSet r (a .lengths)) (length (rebuildFinishMade r (a .index) (a .starts) (a .lengths) scratch .index)) (length (a .filter))
       (length (withLast r (a .starts) (r .«source_filled»))) (length (withLast r (a .lengths) (r .«copied_bytes»))) (length arena) ≡ true
       → SetHolds H (k .expiry) arena (length (k .tape))
       record {

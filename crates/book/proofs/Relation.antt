@@ -13,10 +13,10 @@ use Rattle.index.specs.View.{storedIn}
 use Rattle.index.proofs.Entries.{Indexed}
 use Rattle.index.proofs.Flat.{indexSlots}
 use Rattle.sets.specs.Kept.{isKept, newNumber, retained}
-use Rattle.sets.specs.Lookup.{viewOf}
+use Rattle.sets.specs.Lookup.{areasHoldLookup, viewOf}
 use Rattle.sets.specs.declared.builder.SegmentCacheBuilder.{SegmentCacheBuilder}
 use Rattle.sets.specs.declared.rebuild.SharedSegmentCacheBuilder.{SharedSegmentCacheBuilder}
-use Rattle.sets.proofs.Closure.{builderPasses, setPasses}
+use Rattle.sets.proofs.Closure.{builderPasses}
 use Rattle.sets.proofs.RebuildClosure.{rebuildPasses}
 use Rattle.book.specs.Book.{Entry, ListedSet, Book, startsIn, filledIn}
 use Rattle.book.specs.Calls.{newest}
@@ -61,7 +61,7 @@ module _ (H : List ℕ → ℕ) where
     pub low : s .cache .filled ≤ top
     pub filled : s .cache .filled ≡ l .filled
     pub starts : take (s .cache .segments) (s .areas .starts) ≡ l .starts
-    pub passes : setPasses (s .cache) (length (s .areas .index)) (length (s .areas .filter)) (length (s .areas .starts)) (length (s .areas .lengths)) (length arena) ≡ true
+    pub passes : areasHoldLookup (s .cache) (length (s .areas .index)) (length (s .areas .filter)) (length (s .areas .starts)) (length (s .areas .lengths)) (length arena) ≡ true
     pub index : Indexed storedOf H (s .cache .config .«packed_bucket_index»)
         (λ m e. storedIn (viewOf (s .cache)) arena (s .areas .starts) (s .areas .lengths) m ≡ some (storedOf e))
         (s .cache .buckets) (indexSlots (s .cache .config .«packed_bucket_index») (s .cache .buckets) (s .areas .index))

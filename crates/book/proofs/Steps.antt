@@ -16,13 +16,14 @@ use Rattle.records.specs.Record.{recordBytes, recordSize}
 use Rattle.records.proofs.Parts.{size-is}
 use Rattle.index.proofs.Kept.{cleared-indexed}
 use Rattle.index.proofs.Filling.{replaced-length}
+use Rattle.sets.specs.Lookup.{areasHoldLookup}
 use Rattle.sets.specs.Answers.{accept, Placed}
 use Rattle.sets.specs.Build.{Opened, Pushed, Finished}
 use Rattle.sets.specs.Questions.{bucketsIn, filterWordsIn}
 use Rattle.sets.specs.declared.builder.SegmentCacheBuilder.{SegmentCacheBuilder}
 use Rattle.sets.specs.declared.cache.FrozenSegmentCache.{FrozenSegmentCache}
 use Rattle.sets.proofs.Accepted.{OpenCase, open-made, open-refused, open-case, PushCase, push-made, push-refused, push-case, FinishCase, finish-made, finish-many, finish-refused, finish-case}
-use Rattle.sets.proofs.Closure.{builderPasses, builder-lengths, builder-filter-holds, setPasses, open-passes, push-passes, finish-passes}
+use Rattle.sets.proofs.Closure.{builderPasses, builder-lengths, builder-filter-holds, open-passes, push-passes, finish-passes}
 use Rattle.book.specs.Book.{ListedSet, Book, startsOf, blank, joined, closed, filledIn, heard, replyFrom, replied}
 use Rattle.book.specs.Calls.{Call, push, finish, lookup, clear, reopen, reuse, copy, refinish, bare, Answer, newest}
 use Rattle.book.specs.World.{Areas, Current, idle, building, rebuilding, FinishedSet, World, isAccepted, openLeaves, opened, pushLeaves, pushStep, finishLeaves, finishStep, lookupStep, clearStep, step, answerFrom, answered}
@@ -79,7 +80,7 @@ module _ (H : List ℕ → ℕ) where
       (λ s e. finish-passes b target (a .index) (a .starts) (a .lengths) scratch (w .arena) s e (length (a .filter)) (builder-filter-holds b _ _ _ _ _ (ok .passes)))
     where
       go : {f : Finished} → FinishCase b target (a .index) (a .starts) (a .lengths) scratch (w .arena) f
-          → ((s : FrozenSegmentCache) → f .answer ≡ accept s → setPasses s (length (f .index)) (length (a .filter)) (length (f .starts)) (length (f .lengths)) (length (w .arena)) ≡ true)
+          → ((s : FrozenSegmentCache) → f .answer ≡ accept s → areasHoldLookup s (length (f .index)) (length (a .filter)) (length (f .starts)) (length (f .lengths)) (length (w .arena)) ≡ true)
           → Holds H (finishLeaves w a f .after) (pick (isAccepted (f .answer)) (closed k (startsOf (length (k .tape)) target (k .list))) k)
       go (finish-refused n) passes = record { memory = m .memory; top = m .top; current = is-building ok; sets = m .sets }
       go (finish-many asked) passes =

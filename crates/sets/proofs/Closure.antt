@@ -30,12 +30,10 @@ use Rattle.index.proofs.PackedReads.{packed-length}
 use Rattle.index.proofs.Starts.{starts-first}
 use Rattle.sets.specs.Answers.{accept, Placed}
 use Rattle.sets.specs.Build.{areasHoldBuilder, builderOpened, builderGrown, deadlineFor, Opened, afterOpen, Pushed, afterPush, setOf, slotFor, slotIn, Finished, afterFinish}
-use Rattle.sets.specs.Lookup.{setFits, areasHoldSet, findOf, lookupOf, lookupIn, slotMarked, slotCleared, liveMarked, gotten, afterGet, takenOf, afterTake}
+use Rattle.sets.specs.Lookup.{Lookup, Found, Nothing, Refused, setFits, areasHoldSet, areasHoldLookup, findOf, lookupOf, lookupIn, slotMarked, slotCleared, liveMarked, gotten, afterGet, takenOf, afterTake}
 use Rattle.sets.specs.Questions.{all, arenaHolds, segmentAreasHold}
 use Rattle.sets.specs.declared.builder.SegmentCacheBuilder.{SegmentCacheBuilder}
 use Rattle.sets.specs.declared.cache.FrozenSegmentCache.{FrozenSegmentCache}
-use Rattle.sets.specs.declared.cache.Lookup.{Lookup}
-use Rattle.sets.specs.declared.cache.Lookup.the-variants.{Found, Nothing, Refused}
 use Rattle.sets.proofs.Accepted.{OpenCase, open-made, open-refused, open-case, PushCase, push-made, push-refused, push-case, FinishCase, finish-made, finish-many, finish-refused, finish-case, startsMade}
 use Rattle.sets.proofs.Counts.{both, BuilderFits, builder-areas-pass, set-index}
 
@@ -44,10 +42,6 @@ use Rattle.sets.proofs.Counts.{both, BuilderFits, builder-areas-pass, s
 -- of a builder: what its pushes and its finish ask
 unfoldable pub builderPasses : SegmentCacheBuilder → ℕ → ℕ → ℕ → ℕ → ℕ → Bool
 builderPasses b index filter starts lengths arena = all (areasHoldBuilder b index arena ∷ leb (b .«filter_words») filter ∷ segmentAreasHold starts lengths ∷ [])
-
--- of a finished set: what its lookups and mark clearings ask
-unfoldable pub setPasses : FrozenSegmentCache → ℕ → ℕ → ℕ → ℕ → ℕ → Bool
-setPasses s index filter starts lengths arena = all (areasHoldSet s index starts lengths arena ∷ leb (s .«filter_words») filter ∷ [])
 
 -- ---- lengths of areas
 
@@ -224,8 +218,8 @@ module _ (b : SegmentCacheBuilder) (target : ℕ) (index starts lengths scratch 
 
   -- what an accepted finish leaves passes question 1; the filter is not lent to it
   pub finish-passes : (s : FrozenSegmentCache) → finished .answer ≡ accept s → (filter : ℕ) → b .«filter_words» ≤ filter
-      → setPasses s (length (finished .index)) filter (length (finished .starts)) (length (finished .lengths)) (length arena) ≡ true
-  unfolding setPasses areasHoldSet setFits segmentAreasHold arenaHolds
+      → areasHoldLookup s (length (finished .index)) filter (length (finished .starts)) (length (finished .lengths)) (length arena) ≡ true
+  unfolding areasHoldLookup areasHoldSet setFits segmentAreasHold arenaHolds
   finish-passes s e filter held = rw (finish-lengths .0, finish-lengths .1, finish-lengths .2) (go (finish-case b target index starts lengths scratch arena) e)
     where
       go : {f : Finished} → FinishCase b target index starts lengths scratch arena f → f .answer ≡ accept s
@@ -267,13 +261,13 @@ module _ (s : FrozenSegmentCache) (h : ℕ) (key index filter starts lengths are
 
   -- so a set that passes question 1 passes it after them
   pub get-passes : (tick : ℕ)
-      → setPasses s (length (afterGet s h key tick index filter starts lengths arena .index)) (length filter) (length starts) (length lengths) (length arena)
-      ≡ setPasses s (length index) (length filter) (length starts) (length lengths) (length arena)
-  get-passes tick = ap (λ (n : ℕ). setPasses s n (length filter) (length starts) (length lengths) (length arena)) (get-lengths tick)
+      → areasHoldLookup s (length (afterGet s h key tick index filter starts lengths arena .index)) (length filter) (length starts) (length lengths) (length arena)
+      ≡ areasHoldLookup s (length index) (length filter) (length starts) (length lengths) (length arena)
+  get-passes tick = ap (λ (n : ℕ). areasHoldLookup s n (length filter) (length starts) (length lengths) (length arena)) (get-lengths tick)
 
-  pub take-passes : setPasses s (length (afterTake s h key index filter starts lengths arena .index)) (length filter) (length starts) (length lengths) (length arena)
-      ≡ setPasses s (length index) (length filter) (length starts) (length lengths) (length arena)
-  take-passes = ap (λ (n : ℕ). setPasses s n (length filter) (length starts) (length lengths) (length arena)) take-lengths
+  pub take-passes : areasHoldLookup s (length (afterTake s h key index filter starts lengths arena .index)) (length filter) (length starts) (length lengths) (length arena)
+      ≡ areasHoldLookup s (length index) (length filter) (length starts) (length lengths) (length arena)
+  take-passes = ap (λ (n : ℕ). areasHoldLookup s n (length filter) (length starts) (length lengths) (length arena)) take-lengths
 
 -- ---- what question 1 tells
 
@@ -288,15 +282,15 @@ module _ (b : SegmentCacheBuilder) (index filter starts lengths arena : ℕ) (e 
   pub builder-filter-holds : b .«filter_words» ≤ filter
   builder-filter-holds = leb-true _ _ (past-areas .0)
 
-pub set-index-holds : (s : FrozenSegmentCache) (index filter starts lengths arena : ℕ) → setPasses s index filter starts lengths arena ≡ true → 8 * s .buckets ≤ index
-unfolding setPasses
+pub set-index-holds : (s : FrozenSegmentCache) (index filter starts lengths arena : ℕ) → areasHoldLookup s index filter starts lengths arena ≡ true → 8 * s .buckets ≤ index
+unfolding areasHoldLookup
 set-index-holds s index filter starts lengths arena e = set-index s index starts lengths arena (both (areasHoldSet s index starts lengths arena) _ e .0)
 
 -- a lookup and a mark clearing go on to the find
 module _ (s : FrozenSegmentCache) (h : ℕ) (key index filter starts lengths arena : List ℕ)
-    (passes : setPasses s (length index) (length filter) (length starts) (length lengths) (length arena) ≡ true) where
+    (passes : areasHoldLookup s (length index) (length filter) (length starts) (length lengths) (length arena) ≡ true) where
   lookup-asks : lookupIn s h key index filter starts lengths arena ≡ lookupOf (findOf s h key index filter starts lengths arena)
-  unfolding lookupIn setPasses
+  unfolding lookupIn
   lookup-asks = ap (λ (t : Bool). pick t (lookupOf (findOf s h key index filter starts lengths arena)) (Refused InvalidState)) passes
 
   pub get-asks : (tick : ℕ) → afterGet s h key tick index filter starts lengths arena

@@ -1,30 +1,25 @@
 -- The find of a finished set, and what the calls make of it. Assumes nothing.
-use mathlib.Core.Path.{_≡_, refl, ap}
-use mathlib.Core.Bool.{Bool, true, false}
-use mathlib.Core.List.{List, [], _∷_}
+use mathlib.Core.Path.{_≡_}
+use mathlib.Core.Bool.{Bool, true}
+use mathlib.Core.List.{List}
 use mathlib.Core.Option.{Option}
 use Prim.Native.Nat.{ℕ, _+_, _-_, _*_, _^_, _≤_, _<_}
 use native.Mathlib.Nat.{div-le-self, mul-le-mul-left}
 use native.Mathlib.Omega.{arith}
-use lib.Dec.{leb}
 use lib.ListN.{length}
-use Rattle.hash_parts.specs.Choice.{pick}
-use Rattle.hash_parts.specs.declared.error.SegmentCacheBuildError.the-variants.{InvalidState}
 use Rattle.hash_parts.specs.declared.setting.SegmentCacheConfig.{SegmentCacheConfig}
 use Rattle.records.specs.declared.record.Span.{Span}
 use Rattle.index.specs.Build.{bucketsFor}
-use Rattle.index.specs.declared.find.FindAnswer.{FindAnswer}
 use Rattle.index.specs.declared.find.FindAnswer.the-variants as find
 use Rattle.index.specs.declared.find.FoundRecord.{FoundRecord}
 use Rattle.index.proofs.FoundSlots.{find-slot}
 use Rattle.sets.specs.Answers.{Reply}
-use Rattle.sets.specs.Lookup.{Got, Taken, areasHoldSet, findOf, lookupIn, lookupOf, viewOf}
-use Rattle.sets.specs.Questions.{all, countsFit}
+use Rattle.sets.specs.Lookup.{Got, Taken, areasHoldLookup, areasHoldSet, findOf, viewOf}
+use Rattle.sets.specs.Questions.{countsFit}
 use Rattle.sets.specs.Stats.{statsOf}
 use Rattle.sets.specs.declared.cache.FrozenSegmentCache.{FrozenSegmentCache}
-use Rattle.sets.specs.declared.cache.Lookup.the-variants.{Found, Nothing, Refused}
 use Rattle.sets.specs.declared.stats.SegmentCacheStats.{SegmentCacheStats}
-use Rattle.sets.proofs.Counts.{counts-buckets, counts-records, counts-setting, counts-words, set-index, setting-occupied}
+use Rattle.sets.proofs.Counts.{both, counts-buckets, counts-records, counts-setting, counts-words, set-index, setting-occupied}
 
 -- buckets and filter words are few
 module _ (c : SegmentCacheConfig) (records buckets words : ℕ) (fits : countsFit c records buckets words ≡ true) where
@@ -43,23 +38,13 @@ module _ (c : SegmentCacheConfig) (records buckets words : ℕ) (fits : countsFi
 -- ---- the slot of a record that was found
 
 pub lookup-slot : (s : FrozenSegmentCache) (h : ℕ) (key index filter starts lengths arena : List ℕ) (y : FoundRecord) → h < 2 ^ 64
-    → lookupIn s h key index filter starts lengths arena ≡ Found y → y .slot < length index
-unfolding lookupIn
-lookup-slot s h key index filter starts lengths arena y bound e =
-    asked (areasHoldSet s (length index) (length starts) (length lengths) (length arena)) (leb (s .«filter_words») (length filter)) refl e
-  where
-    found : (a : FindAnswer) → lookupOf a ≡ Found y → a ≡ find.Found y
-    found (find.Found x) q = ap find.Found (cc)
-    found find.Nothing q = absurd (let z : _≡_ {A = ℕ} 0 1 = cc in omega arith)
-
-    asked : (b f : Bool) → areasHoldSet s (length index) (length starts) (length lengths) (length arena) ≡ b
-        → pick (all (b ∷ f ∷ [])) (lookupOf (findOf s h key index filter starts lengths arena)) (Refused InvalidState) ≡ Found y → y .slot < length index
-    asked false f p q = absurd (let z : _≡_ {A = ℕ} 0 1 = cc in omega arith)
-    asked true false p q = absurd (let z : _≡_ {A = ℕ} 0 1 = cc in omega arith)
-    asked true true p q =
-        let t = find-slot (viewOf s) (s .config .«packed_bucket_index») index (s .buckets) filter (s .«filter_words») starts lengths arena key h y bound
-        (found (findOf s h key index filter starts lengths arena) q) in
-        omega (arith, t .1, set-index s (length index) (length starts) (length lengths) (length arena) p)
+    → areasHoldLookup s (length index) (length filter) (length starts) (length lengths) (length arena) ≡ true
+    → findOf s h key index filter starts lengths arena ≡ find.Found y → y .slot < length index
+unfolding areasHoldLookup
+lookup-slot s h key index filter starts lengths arena y bound holds e =
+    let t = find-slot (viewOf s) (s .config .«packed_bucket_index») index (s .buckets) filter (s .«filter_words») starts lengths arena key h y bound e in
+    let areas = both (areasHoldSet s (length index) (length starts) (length lengths) (length arena)) _ holds .0 in
+    omega (arith, t .1, set-index s (length index) (length starts) (length lengths) (length arena) areas)
 
 -- ---- two parts of what a call leaves
 

@@ -22,14 +22,14 @@ use Rattle.index.proofs.Table.{true≢false}
 use Rattle.sets.specs.Answers.{accept, RebuildPlaced}
 use Rattle.sets.specs.Build.{slotIn}
 use Rattle.sets.specs.Kept.{chosen, keptCount, keptOf, retained}
-use Rattle.sets.specs.Lookup.{setFits, areasHoldSet}
+use Rattle.sets.specs.Lookup.{areasHoldLookup, setFits, areasHoldSet}
 use Rattle.sets.specs.Questions.{all, arenaHolds, bucketsIn, filterWordsIn, segmentAreasHold}
 use Rattle.sets.specs.Rebuild.{accounted, addsSegment, areasHoldRebuild, filledIn, segmentFor, segmentsInside, keptView, movedLocation, rebuildOpened, RebuildOpened, afterRebuildOpen, reusedGrown, Reused, afterReused, copiedDeadline, copiedGrown, copiedLocation, copiedSize, Copied, afterCopied, buildOf, rebuiltSet, withLast, RebuildFinished, afterRebuildFinish}
 use Rattle.sets.specs.declared.cache.FrozenSegmentCache.{FrozenSegmentCache}
 use Rattle.sets.specs.declared.rebuild.SegmentRecordLocation.{SegmentRecordLocation}
 use Rattle.sets.specs.declared.rebuild.SharedSegmentCacheBuild.{SharedSegmentCacheBuild}
 use Rattle.sets.specs.declared.rebuild.SharedSegmentCacheBuilder.{SharedSegmentCacheBuilder}
-use Rattle.sets.proofs.Closure.{setPasses, cleared-length, pasted-length, displaced-length, layout-length}
+use Rattle.sets.proofs.Closure.{cleared-length, pasted-length, displaced-length, layout-length}
 use Rattle.sets.proofs.Counts.{both}
 use Rattle.sets.proofs.KeptBits.{chosen-length, retained-256, retained-kept}
 use Rattle.sets.proofs.ReadInside.{reused-record}
@@ -343,8 +343,8 @@ module _ (r : SharedSegmentCacheBuilder) (index starts lengths scratch arena : L
 
   -- what an accepted rebuild finish leaves passes question 1; the filter is not lent to it
   pub refinish-passes : (b : SharedSegmentCacheBuild) → refinished .answer ≡ accept b → (filter : ℕ) → r .«filter_words» ≤ filter
-      → setPasses (b .cache) (length (refinished .index)) filter (length (refinished .starts)) (length (refinished .lengths)) (length arena) ≡ true
-  unfolding setPasses areasHoldSet setFits segmentAreasHold arenaHolds
+      → areasHoldLookup (b .cache) (length (refinished .index)) filter (length (refinished .starts)) (length (refinished .lengths)) (length arena) ≡ true
+  unfolding areasHoldLookup areasHoldSet setFits segmentAreasHold arenaHolds
   refinish-passes b e filter held = rw (refinish-lengths .0, refinish-lengths .1, refinish-lengths .2) (go (refinish-case r index starts lengths scratch arena) e)
     where
       go : {f : RebuildFinished} → RefinishCase r index starts lengths scratch arena f → f .answer ≡ accept b

@@ -15,7 +15,7 @@ use Rattle.index.proofs.Splits.{lengths-length}
 use Rattle.index.proofs.Starts.{inside-at, locations-in, next-start-from}
 use Rattle.sets.specs.Answers.{accept}
 use Rattle.sets.specs.Build.{setOf, Finished, afterFinish}
-use Rattle.sets.specs.Lookup.{areasHoldSet, setFits}
+use Rattle.sets.specs.Lookup.{areasHoldLookup, areasHoldSet, setFits}
 use Rattle.sets.specs.Questions.{segmentAreasHold}
 use Rattle.sets.specs.Rebuild.{areasHoldSource, segmentsInside, RebuildFinished, afterRebuildFinish}
 use Rattle.sets.specs.declared.builder.SegmentCacheBuilder.{SegmentCacheBuilder}
@@ -23,7 +23,7 @@ use Rattle.sets.specs.declared.cache.FrozenSegmentCache.{FrozenSegmentCa
 use Rattle.sets.specs.declared.rebuild.SharedSegmentCacheBuild.{SharedSegmentCacheBuild}
 use Rattle.sets.specs.declared.rebuild.SharedSegmentCacheBuilder.{SharedSegmentCacheBuilder}
 use Rattle.sets.proofs.Accepted.{FinishCase, finish-made, finish-many, finish-refused, finish-case, startsMade}
-use Rattle.sets.proofs.Closure.{setPasses, finish-passes}
+use Rattle.sets.proofs.Closure.{finish-passes}
 use Rattle.sets.proofs.Counts.{both}
 use Rattle.sets.proofs.RebuildAsked.{EachInside, segments-pass}
 use Rattle.sets.proofs.RebuildClosure.{filled-inside, refinish-passes, refinish-inside}
@@ -93,9 +93,9 @@ lengths-inside filled (a ∷ b ∷ ss) each (suc g) h =
 -- ---- question 1 of a source, from question 1 of the set
 
 passed-source : (s : FrozenSegmentCache) (index filter : ℕ) (starts lengths : List ℕ) (arena : ℕ)
-    → setPasses s index filter (length starts) (length lengths) arena ≡ true → segmentsInside (s .segments) (s .filled) starts lengths ≡ true
+    → areasHoldLookup s index filter (length starts) (length lengths) arena ≡ true → segmentsInside (s .segments) (s .filled) starts lengths ≡ true
     → areasHoldSource s starts lengths arena ≡ true
-unfolding setPasses areasHoldSet areasHoldSource
+unfolding areasHoldLookup areasHoldSet areasHoldSource
 passed-source s index filter starts lengths arena e each =
     let t = both (areasHoldSet s index (length starts) (length lengths) arena) _ e in
     let u = both (setFits s) _ (t .0) in

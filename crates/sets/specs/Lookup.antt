@@ -10,6 +10,7 @@ use Rattle.hash_parts.specs.Choice.{pick}
 use Rattle.hash_parts.specs.Duration.{livesAt, remaining}
 use Rattle.hash_parts.specs.Error.{errorNumber}
 use Rattle.hash_parts.specs.ZeroBytes.{bytesOf}
+use Rattle.hash_parts.specs.declared.error.SegmentCacheBuildError.{SegmentCacheBuildError}
 use Rattle.hash_parts.specs.declared.error.SegmentCacheBuildError.the-variants.{InvalidState}
 use Rattle.hash_parts.specs.declared.setting.SegmentCacheConfig.{SegmentCacheConfig}
 use Rattle.records.specs.declared.record.RecordAnswer.{RecordAnswer}
@@ -30,8 +31,6 @@ use Rattle.sets.specs.Questions.{all, arenaHolds, bytesFit, countsFit, s
 use Rattle.sets.specs.Stats.{statsOf}
 use Rattle.sets.specs.declared.cache.FrozenSegmentCache.{FrozenSegmentCache}
 use Rattle.sets.specs.declared.cache.GetAnswer.{GetAnswer}
-use Rattle.sets.specs.declared.cache.Lookup.{Lookup}
-use Rattle.sets.specs.declared.cache.Lookup.the-variants.{Found, Nothing, Refused}
 use Rattle.sets.specs.declared.cache.SegmentBaseRecord.{SegmentBaseRecord}
 use Rattle.sets.specs.declared.cache.TakeAnswer.{TakeAnswer}
 use Rattle.sets.specs.declared.stats.SegmentCacheStats.{SegmentCacheStats}
@@ -65,14 +64,24 @@ abbrev pub findOf : FrozenSegmentCache → ℕ → List ℕ → List ℕ → Lis
 findOf s h key index filter starts lengths arena =
     findIn (viewOf s) (s .config .«packed_bucket_index») index (s .buckets) filter (s .«filter_words») starts lengths arena key h
 
+-- what a call on a key comes to: its record, none, or the refusal of question 1
+pub data Lookup : Type 0 where
+  Found : FoundRecord → Lookup
+  Nothing : Lookup
+  Refused : SegmentCacheBuildError → Lookup
+
 abbrev pub lookupOf : FindAnswer → Lookup
 lookupOf (find.Found y) = Found y
 lookupOf find.Nothing = Nothing
 
--- question 1 with the filter, and the find
+-- question 1 with the filter
+unfoldable pub areasHoldLookup : FrozenSegmentCache → ℕ → ℕ → ℕ → ℕ → ℕ → Bool
+areasHoldLookup s index filter starts lengths arena = all (areasHoldSet s index starts lengths arena ∷ leb (s .«filter_words») filter ∷ [])
+
+-- and the find
 unfoldable pub lookupIn : FrozenSegmentCache → ℕ → List ℕ → List ℕ → List ℕ → List ℕ → List ℕ → List ℕ → Lookup
 lookupIn s h key index filter starts lengths arena =
-    pick (all (areasHoldSet s (length index) (length starts) (length lengths) (length arena) ∷ leb (s .«filter_words») (length filter) ∷ []))
+    pick (areasHoldLookup s (length index) (length filter) (length starts) (length lengths) (length arena))
     (lookupOf (findOf s h key index filter starts lengths arena))
     (Refused InvalidState)
 

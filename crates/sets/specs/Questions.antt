@@ -7,8 +7,12 @@ use lib.Dec.{eqb, leb, ltb}
 use Rattle.hash_parts.specs.Choice.{pick}
 use Rattle.hash_parts.specs.Duration.{ceilDiv, nanosOf}
 use Rattle.hash_parts.specs.Error.{errorNumber}
+use Rattle.hash_parts.specs.declared.duration.EncodedExpiry.{EncodedExpiry}
+use Rattle.hash_parts.specs.declared.duration.EncodedExpiry.the-variants as encoded
 use Rattle.hash_parts.specs.declared.duration.Lifetime.{Lifetime}
 use Rattle.hash_parts.specs.declared.duration.Lifetime.the-variants as life
+use Rattle.hash_parts.specs.declared.error.SegmentCacheBuildError.{SegmentCacheBuildError}
+use Rattle.hash_parts.specs.declared.error.SegmentCacheBuildError.the-variants.{ExpiryOutOfRange}
 use Rattle.hash_parts.specs.declared.setting.SegmentExpiry.{SegmentExpiry}
 use Rattle.hash_parts.specs.declared.setting.SegmentExpiry.the-variants.{None, Relative16}
 use Rattle.hash_parts.specs.declared.setting.SegmentCacheConfig.{SegmentCacheConfig}
@@ -108,6 +112,11 @@ askOpen c records index filter starts lengths arena =
     ∷ (segmentAreasHold starts lengths, 10)
     ∷ (leb arena 1_073_741_824, 10)
     ∷ []
+
+-- the refusal in the answer of a deadline; where that has none, any
+abbrev pub deadlineRefusal : EncodedExpiry → SegmentCacheBuildError
+deadlineRefusal (encoded.Refused e) = e
+deadlineRefusal (encoded.At d) = ExpiryOutOfRange
 
 -- the number of what a call's questions come to
 abbrev pub checkNumber : Check → ℕ

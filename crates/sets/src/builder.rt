@@ -6,6 +6,7 @@ use crate::questions::arena_holds;
 use crate::questions::bytes_fit;
 use crate::questions::check_open;
 use crate::questions::counts_fit;
+use crate::questions::deadline_refusal;
 use crate::questions::filter_words_for;
 use crate::questions::lifetime_fits;
 use crate::questions::scratch_holds;
@@ -402,10 +403,11 @@ fn plan_deadline(config: SegmentCacheConfig, slot: usize, ttl: Lifetime) -> Push
     ensures { λ r. ⌜ planned r ≡ planDeadline config slot ttl ⌝ }
 {
     let expiry = config.expiry;
-    match encode_expiry_at_tick(expiry, ttl, 0) {
-        EncodedExpiry::Refused(refusal) => PushPlan::Refused(refusal),
-        EncodedExpiry::At(expires_at) => PushPlan::Place(slot, expires_at),
-    }
+    let deadline = encode_expiry_at_tick(expiry, ttl, 0);
+    let EncodedExpiry::At(expires_at) = deadline else {
+        return PushPlan::Refused(deadline_refusal(deadline));
+    };
+    PushPlan::Place(slot, expires_at)
 }
 
 // The packed layout, where the setting asks for it.

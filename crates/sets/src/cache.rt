@@ -22,7 +22,7 @@ use index::word::BUCKET_SLOTS;
 use records::record::Span;
 ghost use mathlib.Core.Path.{_≡_};
 ghost use Rattle.sets.specs.Answers.{getReply, probeReply, statsReply, walkReply};
-ghost use Rattle.sets.specs.Lookup.{areasHoldSet, afterGet, getResult, lookupIn, peekAnswer, probeAnswer, setFits, statsAnswer, afterTake, takeResult, viewOf, walkAnswer};
+ghost use Rattle.sets.specs.Lookup.{areasHoldLookup, areasHoldSet, afterGet, findOf, getResult, peekAnswer, probeAnswer, setFits, statsAnswer, afterTake, takeResult, viewOf, walkAnswer};
 
 pub struct FrozenSegmentCache {
     pub config: SegmentCacheConfig,
@@ -78,13 +78,6 @@ pub enum StatsAnswer {
     Refused(SegmentCacheBuildError),
 }
 
-// What a find comes to, question 1 included.
-enum Lookup {
-    Found(FoundRecord),
-    Nothing,
-    Refused(SegmentCacheBuildError),
-}
-
 impl FrozenSegmentCache {
     // The value of a live record, as a part of the arena, and its mark set.
     pub fn get_at_tick(
@@ -100,15 +93,22 @@ impl FrozenSegmentCache {
     ) -> GetAnswer
         ensures { λ r. ⌜ getResult r (now (index .exit)) ≡ afterGet self hash (now (key .entry)) «now_tick» (now (index .entry)) (now (filter .entry)) (now (starts .entry)) (now (lengths .entry)) (now (arena .entry)) ⌝ }
     {
-        match self.find(hash, key, &index[..], filter, starts, lengths, arena) {
-            Lookup::Refused(refusal) => GetAnswer::Refused(refusal),
-            Lookup::Nothing => GetAnswer::Nothing,
-            Lookup::Found(found) => {
-                let packed = self.config.packed_bucket_index;
-                mark_live(found, now_tick, packed, index);
-                live_value(found, now_tick)
-            }
+        if !self.lookup_areas_hold(
+            index.len(),
+            filter.len(),
+            starts.len(),
+            lengths.len(),
+            arena.len(),
+        ) {
+            return GetAnswer::Refused(SegmentCacheBuildError::InvalidState);
         }
+        let answer = self.find(hash, key, &index[..], filter, starts, lengths, arena);
+        let FindAnswer::Found(found) = answer else {
+            return GetAnswer::Nothing;
+        };
+        let packed = self.config.packed_bucket_index;
+        mark_live(found, now_tick, packed, index);
+        live_value(found, now_tick)
     }
 
     // The same with no mark set.
@@ -125,11 +125,20 @@ impl FrozenSegmentCache {
     ) -> GetAnswer
         ensures { λ r. ⌜ getReply r ≡ peekAnswer self hash (now (key .entry)) «now_tick» (now (index .entry)) (now (filter .entry)) (now (starts .entry)) (now (lengths .entry)) (now (arena .entry)) ⌝ }
     {
-        match self.find(hash, key, index, filter, starts, lengths, arena) {
-            Lookup::Refused(refusal) => GetAnswer::Refused(refusal),
-            Lookup::Nothing => GetAnswer::Nothing,
-            Lookup::Found(found) => live_value(found, now_tick),
+        if !self.lookup_areas_hold(
+            index.len(),
+            filter.len(),
+            starts.len(),
+            lengths.len(),
+            arena.len(),
+        ) {
+            return GetAnswer::Refused(SegmentCacheBuildError::InvalidState);
         }
+        let answer = self.find(hash, key, index, filter, starts, lengths, arena);
+        let FindAnswer::Found(found) = answer else {
+            return GetAnswer::Nothing;
+        };
+        live_value(found, now_tick)
     }
 
     // Clears the mark of a record, lapsed or not, and says whether it was set.
@@ -145,14 +154,21 @@ impl FrozenSegmentCache {
     ) -> TakeAnswer
         ensures { λ r. ⌜ takeResult r (now (index .exit)) ≡ afterTake self hash (now (key .entry)) (now (index .entry)) (now (filter .entry)) (now (starts .entry)) (now (lengths .entry)) (now (arena .entry)) ⌝ }
     {
-        match self.find(hash, key, &index[..], filter, starts, lengths, arena) {
-            Lookup::Refused(refusal) => TakeAnswer::Refused(refusal),
-            Lookup::Nothing => TakeAnswer::Accessed(false),
-            Lookup::Found(found) => {
-                let packed = self.config.packed_bucket_index;
-                TakeAnswer::Accessed(clear_accessed(index, packed, found.slot))
-            }
+        if !self.lookup_areas_hold(
+            index.len(),
+            filter.len(),
+            starts.len(),
+            lengths.len(),
+            arena.len(),
+        ) {
+            return TakeAnswer::Refused(SegmentCacheBuildError::InvalidState);
         }
+        let answer = self.find(hash, key, &index[..], filter, starts, lengths, arena);
+        let FindAnswer::Found(found) = answer else {
+            return TakeAnswer::Accessed(false);
+        };
+        let packed = self.config.packed_bucket_index;
+        TakeAnswer::Accessed(clear_accessed(index, packed, found.slot))
     }
 
     // All that is known of a record, lapsed or not. No mark is set.
@@ -169,11 +185,20 @@ impl FrozenSegmentCache {
     ) -> ProbeAnswer
         ensures { λ r. ⌜ probeReply r ≡ probeAnswer self hash (now (key .entry)) «now_tick» (now (index .entry)) (now (filter .entry)) (now (starts .entry)) (now (lengths .entry)) (now (arena .entry)) ⌝ }
     {
-        match self.find(hash, key, index, filter, starts, lengths, arena) {
-            Lookup::Refused(refusal) => ProbeAnswer::Refused(refusal),
-            Lookup::Nothing => ProbeAnswer::Nothing,
-            Lookup::Found(found) => ProbeAnswer::Found(base_record(self.config, found, now_tick)),
+        if !self.lookup_areas_hold(
+            index.len(),
+            filter.len(),
+            starts.len(),
+            lengths.len(),
+            arena.len(),
+        ) {
+            return ProbeAnswer::Refused(SegmentCacheBuildError::InvalidState);
         }
+        let answer = self.find(hash, key, index, filter, starts, lengths, arena);
+        let FindAnswer::Found(found) = answer else {
+            return ProbeAnswer::Nothing;
+        };
+        ProbeAnswer::Found(base_record(self.config, found, now_tick))
     }
 
     // A step of the walk over all records: the first from a slot on. The walk goes on from the
@@ -227,7 +252,7 @@ impl FrozenSegmentCache {
         })
     }
 
-    // Question 1, and the record of a key.
+    // The record of a key.
     fn find(
         self,
         hash: u64,
@@ -237,17 +262,11 @@ impl FrozenSegmentCache {
         starts: &[u64],
         lengths: &[u64],
         arena: &[u8],
-    ) -> Lookup
-        ensures { λ r. ⌜ r ≡ lookupIn self hash (now (key .entry)) (now (index .entry)) (now (filter .entry)) (now (starts .entry)) (now (lengths .entry)) (now (arena .entry)) ⌝ }
+    ) -> FindAnswer
+        ensures { λ r. ⌜ r ≡ findOf self hash (now (key .entry)) (now (index .entry)) (now (filter .entry)) (now (starts .entry)) (now (lengths .entry)) (now (arena .entry)) ⌝ }
     {
-        if !self.areas_hold(index.len(), starts.len(), lengths.len(), arena.len()) {
-            return Lookup::Refused(SegmentCacheBuildError::InvalidState);
-        }
-        if filter.len() < self.filter_words {
-            return Lookup::Refused(SegmentCacheBuildError::InvalidState);
-        }
         let packed = self.config.packed_bucket_index;
-        let answer = find_record(
+        find_record(
             self.view(),
             packed,
             index,
@@ -259,11 +278,24 @@ impl FrozenSegmentCache {
             arena,
             key,
             hash,
-        );
-        let FindAnswer::Found(found) = answer else {
-            return Lookup::Nothing;
-        };
-        Lookup::Found(found)
+        )
+    }
+
+    // Question 1 of a lookup: all five areas.
+    fn lookup_areas_hold(
+        self,
+        index_len: usize,
+        filter_len: usize,
+        starts_len: usize,
+        lengths_len: usize,
+        arena_len: usize,
+    ) -> bool
+        ensures { λ r. ⌜ r ≡ areasHoldLookup self «index_len» «filter_len» «starts_len» «lengths_len» «arena_len» ⌝ }
+    {
+        if !self.areas_hold(index_len, starts_len, lengths_len, arena_len) {
+            return false;
+        }
+        self.filter_words <= filter_len
     }
 
     // What a reader must know of the set.

@@ -1,5 +1,6 @@
 // The questions that several calls ask of a state and of the lengths of the areas lent to it. Every
 // number of a state is free: sums and products are made only after what bounds them was asked.
+use hash_parts::duration::EncodedExpiry;
 use hash_parts::duration::Lifetime;
 use hash_parts::error::SegmentCacheBuildError;
 use hash_parts::setting::SegmentCacheConfig;
@@ -12,7 +13,7 @@ ghost use mathlib.Core.Path.{_≡_};
 ghost use Prim.Native.Nat.{_*_, _^_, _≤_};
 ghost use lib.Dec.{leb};
 ghost use Rattle.hash_parts.specs.Duration.{ceilDiv};
-ghost use Rattle.sets.specs.Questions.{arenaHolds, askOpen, checkNumber, countsFit, firstNo, lifetimeFits, nanosecondsFit, occupancyFits, openAreasHold, scratchHolds, segmentAreasHold, settingFits, targetFits, tickRuns};
+ghost use Rattle.sets.specs.Questions.{arenaHolds, askOpen, checkNumber, countsFit, deadlineRefusal, firstNo, lifetimeFits, nanosecondsFit, occupancyFits, openAreasHold, scratchHolds, segmentAreasHold, settingFits, targetFits, tickRuns};
 
 pub(crate) const MAX_RECORDS: usize = 1_048_576;
 
@@ -21,6 +22,16 @@ pub(crate) const MAX_ARENA_BYTES: usize = 1_073_741_824;
 const MAX_SEGMENT_TARGET: usize = 100_663_296;
 
 const NANOS_PER_SEC: u32 = 1_000_000_000;
+
+// Why there is no deadline; where there is one, no refusal is asked for.
+pub(crate) fn deadline_refusal(deadline: EncodedExpiry) -> SegmentCacheBuildError
+    ensures { λ r. ⌜ r ≡ deadlineRefusal deadline ⌝ }
+{
+    match deadline {
+        EncodedExpiry::Refused(refusal) => refusal,
+        EncodedExpiry::At(_) => SegmentCacheBuildError::ExpiryOutOfRange,
+    }
+}
 
 // What a call's questions come to.
 pub(crate) enum Check {

@@ -8,6 +8,7 @@ use crate::questions::MAX_RECORDS;
 use crate::questions::arena_holds;
 use crate::questions::bytes_fit;
 use crate::questions::counts_fit;
+use crate::questions::deadline_refusal;
 use crate::questions::lifetime_fits;
 use crate::questions::open_areas_hold;
 use crate::questions::segment_areas_hold;
@@ -224,12 +225,11 @@ impl SharedSegmentCacheBuilder {
         }
         let config = self.config;
         let expiry = config.expiry;
-        match encode_expiry_at_tick(expiry, ttl, self.source_now_tick) {
-            EncodedExpiry::Refused(refusal) => PushPlan::Refused(refusal),
-            EncodedExpiry::At(expires_at) => {
-                self.plan_room(expires_at, hash, key_bytes, value_bytes, index, arena_len)
-            }
-        }
+        let deadline = encode_expiry_at_tick(expiry, ttl, self.source_now_tick);
+        let EncodedExpiry::At(expires_at) = deadline else {
+            return PushPlan::Refused(deadline_refusal(deadline));
+        };
+        self.plan_room(expires_at, hash, key_bytes, value_bytes, index, arena_len)
     }
 
     // The last of them: room in the arena, a segment number, and a slot.

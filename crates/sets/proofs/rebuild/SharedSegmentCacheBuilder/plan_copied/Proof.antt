@@ -6,6 +6,7 @@ use lib.ListN.{length}
 use Rattle.hash_parts.specs.Duration.{expiryOutcome}
 use Rattle.hash_parts.specs.Error.{errorNumber}
 use Rattle.hash_parts.proofs.Refusals.{refusal-pos}
+use Rattle.sets.specs.Questions.{deadlineRefusal}
 use Rattle.sets.specs.Rebuild.{askCopied}
 use Rattle.sets.specs.RebuildPlans.{askRoom, planCopied, planRoom}
 use Rattle.sets.proofs.Decides.{decided-refused}
@@ -52,18 +53,14 @@ returns-4 c =
 encode-expiry-at-tick-requires : tie.Need-encode-expiry-at-tick-requires
 encode-expiry-at-tick-requires c κs = search needs
 
-enum-known-refusal : tie.Need-enum-known-refusal
-enum-known-refusal c = search needs
+enum-known-deadline : tie.Need-enum-known-deadline
+enum-known-deadline c = search needs
 
-enum-known-expires-at : tie.Need-enum-known-expires-at
-enum-known-expires-at c = search needs
+enum-told : tie.Need-enum-told
+enum-told c = search needs
 
-plan-room-requires : tie.Need-plan-room-requires
-plan-room-requires c κs =
-    let a = c .before .before .before .before .before .before .before .before .before .before .before .before .before .before .before .before .args in
-    let areas-hold = c .before .before .before .before .before .before .before .before .before .before .before .before .areas-hold in
-    let if1 = c .before .before .before .before .before .before .before .before .before .before .before .if1 in
-    rebuild-areas-asked (a .self) (length (a .index .now)) (a .starts .now) (a .lengths .now) (a .arena-len) (sym (areas-hold .ensures) ∙ not-false (areas-hold .result) (if1 .left)) .filled-held
+deadline-refusal-requires : tie.Need-deadline-refusal-requires
+deadline-refusal-requires c κs = search needs
 
 returns-5 : tie.Need-returns-5
 unfolding planCopied askCopied planRoom askRoom
@@ -75,9 +72,17 @@ returns-5 c =
     let if3 = c .before .before .before .before .before .before .before .if3 in
     let if4 = c .before .before .before .before .before .if4 in
     let encode-expiry-at-tick = c .before .before .before .encode-expiry-at-tick in
-    let e = c .before .refusal .given .0 .0 in
-    rw (sym (areas-hold .ensures) ∙ not-false (areas-hold .result) (if1 .left), le-leb _ _ (if2 .left), sym (lifetime-fits .ensures) ∙ not-false (lifetime-fits .result) (if3 .left), lt-ltb _ _ (if4 .left), sym (encode-expiry-at-tick .ensures) ∙ ap expiryOutcome (c .before .refusal .given .1), ne-eqb (errorNumber e) 0 (λ (z : errorNumber e ≡ 0). omega (arith, refusal-pos e)))
+    let told = c .before .enum-told in
+    let e = told .given .0 .0 in
+    rw (sym (areas-hold .ensures) ∙ not-false (areas-hold .result) (if1 .left), le-leb _ _ (if2 .left), sym (lifetime-fits .ensures) ∙ not-false (lifetime-fits .result) (if3 .left), lt-ltb _ _ (if4 .left), c .deadline-refusal .ensures ∙ ap deadlineRefusal (told .given .1), sym (encode-expiry-at-tick .ensures) ∙ ap expiryOutcome (told .given .1), ne-eqb (errorNumber e) 0 (λ (z : errorNumber e ≡ 0). omega (arith, refusal-pos e)))
     (sym (decided-refused e _ _))
+
+plan-room-requires : tie.Need-plan-room-requires
+plan-room-requires c κs =
+    let a = c .before .before .before .before .before .before .before .before .before .before .before .before .before .before .before .before .args in
+    let areas-hold = c .before .before .before .before .before .before .before .before .before .before .before .before .areas-hold in
+    let if1 = c .before .before .before .before .before .before .before .before .before .before .before .if1 in
+    rebuild-areas-asked (a .self) (length (a .index .now)) (a .starts .now) (a .lengths .now) (a .arena-len) (sym (areas-hold .ensures) ∙ not-false (areas-hold .result) (if1 .left)) .filled-held
 
 returns-6 : tie.Need-returns-6
 unfolding planCopied askCopied planRoom askRoom
@@ -89,8 +94,8 @@ returns-6 c =
     let if3 = c .before .before .before .before .before .before .before .before .if3 in
     let if4 = c .before .before .before .before .before .before .if4 in
     let encode-expiry-at-tick = c .before .before .before .before .encode-expiry-at-tick in
-    let expires-at = c .before .before .expires-at in
-    rw (sym (areas-hold .ensures) ∙ not-false (areas-hold .result) (if1 .left), le-leb _ _ (if2 .left), sym (lifetime-fits .ensures) ∙ not-false (lifetime-fits .result) (if3 .left), lt-ltb _ _ (if4 .left), sym (encode-expiry-at-tick .ensures) ∙ ap expiryOutcome (expires-at .given .1)) (c .plan-room .ensures)
+    let deadline = c .before .before .deadline in
+    rw (sym (areas-hold .ensures) ∙ not-false (areas-hold .result) (if1 .left), le-leb _ _ (if2 .left), sym (lifetime-fits .ensures) ∙ not-false (lifetime-fits .result) (if3 .left), lt-ltb _ _ (if4 .left), sym (encode-expiry-at-tick .ensures) ∙ ap expiryOutcome (deadline .given .1)) (c .plan-room .ensures)
 
 pub plan-copied-spec : {M : Type 1} → statement M
 plan-copied-spec =
@@ -103,8 +108,9 @@ plan-copied-spec =
     returns-3
     returns-4
     encode-expiry-at-tick-requires
-    enum-known-refusal
-    enum-known-expires-at
-    plan-room-requires
+    enum-known-deadline
+    enum-told
+    deadline-refusal-requires
     returns-5
+    plan-room-requires
     returns-6)
