@@ -7,7 +7,8 @@ pub enum SegmentCacheBuildError {
     InvalidBucketOccupancy,
     // A tick of no length cannot count deadlines.
     ZeroExpiryTick,
-    // More records than were announced or than a set holds, or fewer than were announced.
+    // More records than were announced or than a set holds, or fewer than were announced; of a rebuild,
+    // keep flags of another number than the source's segments, or a segment that is not kept.
     CapacityOverflow,
     // The key is in the set already.
     DuplicateKey,

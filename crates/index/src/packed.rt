@@ -128,8 +128,9 @@ fn control_byte(word: u64) -> u64
     packed_control_tag(index_tag(word)) as u64
 }
 
-// The reference of a slot of a bucket, whose words from the one before the slot's own are given: it
-// begins in the first of them and ends in the second. Slots count modulo 8.
+// The reference of a slot of a bucket, out of the word before the slot's own and the slot's own: it
+// begins in the first of them and ends in the second. That of slot 0 lies in the second alone, that of
+// slot 7 in the first. Slots count modulo 8.
 pub fn packed_reference_at(before: u64, word: u64, slot: usize) -> u64
     ensures { λ r. ⌜ (r ≡ numberOf (referenceIn before word (slot % 8))) × (r < 2 ^ 56) ⌝ }
 {

@@ -26,7 +26,7 @@ ghost use Rattle.passage.specs.Stage.{answerText, got, put};
 
 // What a line does and prints. The areas for key and value hold their bytes while the line is
 // answered; 4,096 bytes in each are enough for every line.
-pub fn answer_line(
+pub(crate) fn answer_line(
     stage: Stage,
     line: &[u8],
     key: &mut [u8],
@@ -167,7 +167,7 @@ fn get_line(
 
 // Writes the line of an answer from a position on, and gives the position after it; where the line
 // does not fit it writes nothing.
-pub fn put_answer(out: &mut [u8], at: usize, answer: Answer, arena: &[u8]) -> usize
+pub(crate) fn put_answer(out: &mut [u8], at: usize, answer: Answer, arena: &[u8]) -> usize
     ensures { λ r. ⌜ output r (now (out .exit)) ≡ appended at (answerText (now (arena .entry)) answer) (now (out .entry)) ⌝ }
 {
     match answer {

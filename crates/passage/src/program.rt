@@ -46,7 +46,9 @@ struct Response {
 }
 
 // Answers every line of standard input on standard output. The block is longer than a line may be,
-// and out than a line of output; key and value have 4,096 bytes or more.
+// and out than a line of output; key and value have 4,096 bytes or more. No contract can speak of
+// what is read, so what the areas hold in the end is left open; that of one line is fixed by
+// answer_line.
 pub fn run(
     block: &mut [u8],
     key: &mut [u8],

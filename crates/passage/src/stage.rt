@@ -16,25 +16,25 @@ ghost use Rattle.passage.specs.Stage.{closeStep, closed, getStep, got, o
 
 // An open is in turn until one was good, put and close while a builder is open, get once the set is
 // finished.
-pub enum Stage {
+pub(crate) enum Stage {
     Fresh,
     Building(SegmentCacheBuilder),
     Finished(FrozenSegmentCache),
 }
 
 // What a command prints: a line, or the line of a value that stands in the arena.
-pub enum Answer {
+pub(crate) enum Answer {
     Line(Reply),
     Value(Span),
 }
 
-pub struct Step {
+pub(crate) struct Step {
     pub stage: Stage,
     pub answer: Answer,
 }
 
 // Each call below is bad and changes nothing where it is out of turn.
-pub fn open_set(
+pub(crate) fn open_set(
     stage: Stage,
     records: usize,
     config: SegmentCacheConfig,
@@ -71,7 +71,7 @@ pub fn open_set(
     }
 }
 
-pub fn put_record(
+pub(crate) fn put_record(
     stage: Stage,
     hash: u64,
     key: &[u8],
@@ -115,7 +115,7 @@ pub fn put_record(
     }
 }
 
-pub fn close_set(
+pub(crate) fn close_set(
     stage: Stage,
     target: usize,
     index: &mut [u64],
@@ -154,7 +154,7 @@ pub fn close_set(
     }
 }
 
-pub fn get_value(
+pub(crate) fn get_value(
     stage: Stage,
     hash: u64,
     key: &[u8],

@@ -231,7 +231,7 @@ fn finishes() {
     );
 }
 
-pub fn run() {
+pub(crate) fn run() {
     numbers();
     bytes();
     areas();

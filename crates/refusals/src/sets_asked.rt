@@ -133,7 +133,7 @@ fn areas() {
     );
 }
 
-pub fn run() {
+pub(crate) fn run() {
     numbers();
     areas();
 }

@@ -38,11 +38,6 @@ pub data Reply (A B : Type 0) : Type 0 where
   accept : A → Reply A B
   refuse : ℕ → B → Reply A B
 
--- the refusal's number; 0 for a call that was accepted
-abbrev pub numberOf : {A B : Type 0} → Reply A B → ℕ
-numberOf (accept a) = 0
-numberOf (refuse n b) = n
-
 -- where a record was put
 pub record Placed : Type 0 where
   pub builder : SegmentCacheBuilder

@@ -96,7 +96,7 @@ targetFits target = all (leb 1 target ∷ leb target 100_663_296 ∷ [])
 unfoldable pub scratchHolds : SegmentCacheConfig → ℕ → ℕ → Bool
 scratchHolds c buckets scratch = pick (c .«packed_bucket_index») (leb buckets scratch) true
 
--- question 3: "Index, filter and segment areas long enough, arena at most 1,073,741,824 bytes? 10."
+-- question 3: "Index, filter and segment areas long enough .. ? 10." Of these index and filter, which go by the records; the others are asked beside it.
 unfoldable pub openAreasHold : SegmentCacheConfig → ℕ → ℕ → ℕ → Bool
 openAreasHold c records index filter = all (leb (8 * bucketsIn c records) index ∷ leb (filterWordsIn c records) filter ∷ [])
 

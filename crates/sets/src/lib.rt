@@ -1,4 +1,5 @@
-// Sets of records: a builder that is opened, filled and finished, and the finished set that answers.
+// Sets of records: a builder that is opened, filled and finished, the finished set that answers, and
+// its rebuild.
 // The fourth of four crates.
 pub mod areas;
 pub mod builder;

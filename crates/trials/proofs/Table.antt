@@ -1,7 +1,7 @@
 -- Document 01's trials marked P, as one table of tests on the definitions that the contracts cite.
 -- Assumes nothing.
 use mathlib.Core.Path.{_≡_}
-use mathlib.Core.Bool.{Bool, true, false, _&&_}
+use mathlib.Core.Bool.{Bool, true, false, not, _&&_}
 use mathlib.Core.List.{List, [], _∷_}
 use Prim.Native.Nat.{ℕ, _+_, _*_, _-_, _^_, _<_}
 use native.Mathlib.Omega.{arith}
@@ -56,11 +56,12 @@ pub p-trials : T
     ∷ gives (ofLifetime 65534 0) 0 65534
     ∷ gives (ofLifetime 65534 1) 6 0
     ∷ gives (ofLifetime 0 0) 0 0
+    ∷ not (livesAt 0 0)
     ∷ []))
-unfolding uleb128 ulebIn sameBytes firstBucket zeroMarks zeroBytes marks bytesOf encodedExpiry deadlineAt filterWord filterMask bitPast mixedHash rotated
+unfolding uleb128 ulebIn sameBytes firstBucket zeroMarks zeroBytes marks bytesOf encodedExpiry deadlineAt livesAt filterWord filterMask bitPast mixedHash rotated
 p-trials = tt
 
--- "lapsed from tick 0": a record with deadline 0 lives at no tick
+-- "lapsed from tick 0": a record with deadline 0 lives at no tick whatever
 pub lapsed-from-start : (tick : ℕ) → livesAt 0 tick ≡ false
 unfolding livesAt
 lapsed-from-start tick = le-ltb tick 0 (omega arith)

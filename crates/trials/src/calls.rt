@@ -7,7 +7,7 @@ use sets::cache::FrozenSegmentCache;
 use sets::cache::GetAnswer;
 
 // Pushes a record into a set without a filter; the state after it.
-pub fn push(
+pub(crate) fn push(
     builder: SegmentCacheBuilder,
     hash: u64,
     key: &[u8],
@@ -30,7 +30,7 @@ pub fn push(
 }
 
 // Shows the value of a key in a set without a filter.
-pub fn get(
+pub(crate) fn get(
     set: FrozenSegmentCache,
     hash: u64,
     key: &[u8],

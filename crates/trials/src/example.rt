@@ -30,7 +30,7 @@ fn ask(set: FrozenSegmentCache, index: &mut [u64], starts: &[u64], lengths: &[u6
     get(set, 2, b"b", 70_000, index, starts, lengths, arena);
 }
 
-pub fn run() {
+pub(crate) fn run() {
     let mut index = [0u64; 8];
     let mut arena = [0u8; 16];
     let mut starts = [0u64; 256];

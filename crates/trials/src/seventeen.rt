@@ -55,7 +55,7 @@ fn push_all(builder: SegmentCacheBuilder, index: &mut [u64], filter: &mut [u64],
     }
 }
 
-pub fn run() {
+pub(crate) fn run() {
     let mut index = [0u64; 24];
     let mut filter = [0u64; 3];
     let mut arena = [0u8; 64];

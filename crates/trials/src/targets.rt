@@ -56,7 +56,7 @@ fn segments_of(value: &[u8], key: &[u8]) {
     finish(two, &mut index, &mut starts, &mut lengths, &arena);
 }
 
-pub fn run() {
+pub(crate) fn run() {
     let value = [0u8; 4_092];
     show::text(b"target 4096, records of 4096 and 2 bytes\n");
     segments_of(&value, b"");
