@@ -31,7 +31,7 @@ pub struct Build<'a> {
     builder: Builder,
 }
 
-fn open_line(list: &mut List, setting: Setting, records: usize, answer: &str) {
+pub fn open_line(list: &mut List, setting: Setting, records: usize, answer: &str) {
     let Setting {
         tick,
         occupied,
@@ -41,13 +41,6 @@ fn open_line(list: &mut List, setting: Setting, records: usize, answer: &str) {
     let numbers = vec![records as u64, occupied.into(), packed.into(), bits.into()];
     let numbers = [numbers, text::optional(tick)].concat();
     list.call("open", &[], &[], &numbers, answer);
-}
-
-// An open that the Rust refuses.
-pub fn refused_open(list: &mut List, setting: Setting, records: usize) {
-    if let Err(refusal) = Builder::open(setting, records) {
-        open_line(list, setting, records, &text::refused(refusal));
-    }
 }
 
 impl<'a> Build<'a> {
@@ -174,7 +167,9 @@ impl Sets<'_> {
     pub fn walk(&mut self, set: usize, tick: u64) {
         let (number, rust) = (self.number(set), &self.sets[set]);
         let mut steps = Vec::new();
-        rust.visit(tick, |record| steps.push((record.slot, told(Some(&record)))));
+        rust.visit(tick, |record| {
+            steps.push((record.slot, told(Some(&record))))
+        });
         let mut from = 0;
         for (slot, answer) in steps {
             (self.list).call("walk", &[], &[], &[number, from, tick], &answer);

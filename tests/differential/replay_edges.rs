@@ -1,8 +1,10 @@
 // What the replay list asks at the boundaries: refusals, long records and the most segments.
-use super::oracle::access_index::Setting;
-use super::replay_calls::{Build, Lookup, Record, Sets, refused_open};
-use crate::replay_text::List;
+use super::oracle::access_index::{Builder, Setting};
+use super::replay_calls::{Build, Lookup, Record, Sets, open_line};
+use crate::replay_text::{self as text, List};
 use std::time::Duration;
+
+const TICK: Option<Duration> = Some(Duration::from_secs(1));
 
 fn setting(packed: bool, tick: Option<Duration>) -> Setting {
     Setting {
@@ -20,6 +22,13 @@ fn record(number: u64, bytes: u64) -> Record {
         part: vec![number as u8],
         times: bytes,
         lifetime: None,
+    }
+}
+
+// An open that the Rust refuses.
+fn refused_open(list: &mut List, setting: Setting, records: usize) {
+    if let Err(refusal) = Builder::open(setting, records) {
+        open_line(list, setting, records, &text::refused(refusal));
     }
 }
 
@@ -60,7 +69,9 @@ pub fn prefixes(list: &mut List, packed: bool) {
         ..record(number, 3)
     };
     let values = (0_u64..).zip(lengths).map(|(i, bytes)| record(i, bytes));
-    let keys = (100_u64..).zip(lengths).map(|(i, bytes)| long_key(i, bytes));
+    let keys = (100_u64..)
+        .zip(lengths)
+        .map(|(i, bytes)| long_key(i, bytes));
     let records: Vec<Record> = values.chain(keys).collect();
     for record in &records {
         build.push(record);
@@ -75,8 +86,6 @@ pub fn prefixes(list: &mut List, packed: bool) {
     }
     sets.checksum(0);
 }
-
-const TICK: Option<Duration> = Some(Duration::from_secs(1));
 
 // Each rebuild keeps all segments and adds one of a single record, up to the most; with one more the
 // Rust refuses the open, or the copied push.

@@ -51,13 +51,17 @@ impl Source {
             key,
             times: if repeated { 1 + rng.below(60) } else { 1 },
             part,
-            lifetime: self.tick.filter(|_| rng.one_in(2)).map(|tick| lifetime(rng, tick)),
+            lifetime: self
+                .tick
+                .filter(|_| rng.one_in(2))
+                .map(|tick| lifetime(rng, tick)),
         }
     }
 
     // A key that may stand in a set, or not.
     fn key(&self, rng: &mut Rng) -> Vec<u8> {
-        self.records.key_of(rng.index(self.keys + self.keys / 4 + 2) as u64)
+        self.records
+            .key_of(rng.index(self.keys + self.keys / 4 + 2) as u64)
     }
 
     // With a lifetime that is refused: expiry is off, or it is a nanosecond too long.

@@ -38,7 +38,10 @@ pub fn spaced(numbers: &[u64]) -> String {
 }
 
 pub fn refused(refusal: u64) -> String {
-    assert!((1..8).contains(&refusal), "the Rust has no refusal {refusal}");
+    assert!(
+        (1..8).contains(&refusal),
+        "the Rust has no refusal {refusal}"
+    );
     format!(" refused {refusal}")
 }
 
@@ -78,5 +81,7 @@ pub fn with_words(sum: u64, words: &[u64]) -> u64 {
 }
 
 pub fn with_bytes(sum: u64, bytes: &[u8]) -> u64 {
-    bytes.iter().fold(sum, |sum, &byte| joined(sum, byte.into()))
+    bytes
+        .iter()
+        .fold(sum, |sum, &byte| joined(sum, byte.into()))
 }

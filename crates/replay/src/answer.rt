@@ -17,15 +17,22 @@ const MAX_SHOWN_BYTES: usize = 32;
 // Writes an answer to the front of an area, and gives its length.
 pub(crate) fn put_answer(out: &mut [u8], answer: Answer, arena: &[u8]) -> usize {
     match answer {
-        Answer::OutOfTurn => put_text(out, 0, b" out of turn"),
-        Answer::Refused(refusal) => put_refusal(out, refusal.number()),
-        Answer::Nothing => put_text(out, 0, b" none"),
-        Answer::Number(number) => put_number(out, 0, number),
-        Answer::Pair(first, second) => put_pair(out, 0, first, second),
         Answer::Value(span) => put_bytes(out, 0, value_slice(arena, span)),
         Answer::Record(record) => put_record(out, record, arena),
+        _ => put_counts(out, answer),
+    }
+}
+
+// An answer without bytes.
+fn put_counts(out: &mut [u8], answer: Answer) -> usize {
+    match answer {
+        Answer::Refused(refusal) => put_refusal(out, refusal.number()),
+        Answer::Number(number) => put_number(out, 0, number),
+        Answer::Pair(first, second) => put_pair(out, 0, first, second),
         Answer::Stats(stats) => put_stats(out, stats),
         Answer::Rebuilt(build) => put_build(out, build),
+        Answer::Nothing => put_text(out, 0, b" none"),
+        _ => put_text(out, 0, b" out of turn"),
     }
 }
 

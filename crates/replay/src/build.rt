@@ -1,5 +1,4 @@
 // The calls of a build. Each answers out of turn where no builder is open.
-use crate::parts::between;
 use crate::parts::set_words;
 use crate::parts::shown_words;
 use crate::request::Request;
@@ -64,21 +63,26 @@ pub(crate) fn open(
     arena: &[u8],
 ) -> Step {
     let numbers = request.numbers;
-    match SegmentCacheBuilder::try_new(
-        setting(numbers),
-        numbers[0] as usize,
-        set_words(index, 0),
-        set_words(filter, 0),
-        shown_words(starts, 0),
-        shown_words(lengths, 0),
-        arena,
-    ) {
+    opened(
+        state,
+        SegmentCacheBuilder::try_new(
+            setting(numbers),
+            numbers[0] as usize,
+            set_words(index, 0),
+            set_words(filter, 0),
+            shown_words(starts, 0),
+            shown_words(lengths, 0),
+            arena,
+        ),
+    )
+}
+
+fn opened(state: State, answer: OpenAnswer) -> Step {
+    match answer {
         OpenAnswer::Refused(refusal) => state.answers(Answer::Refused(refusal)),
-        OpenAnswer::Opened(builder) => {
-            state
-                .making(0, Work::Build(builder))
-                .answers(Answer::Pair(builder.bucket_count, builder.filter_words))
-        }
+        OpenAnswer::Opened(builder) => state
+            .making(0, Work::Build(builder))
+            .answers(Answer::Pair(builder.bucket_count, builder.filter_words)),
     }
 }
 
@@ -94,8 +98,22 @@ pub(crate) fn push(
     let Work::Build(builder) = work else {
         return state.answers(Answer::OutOfTurn);
     };
+    pushed(
+        state,
+        push_record(builder, request, bytes, index, filter, arena),
+    )
+}
+
+fn push_record(
+    builder: SegmentCacheBuilder,
+    request: Request,
+    bytes: &[u8],
+    index: &mut [u64],
+    filter: &mut [u64],
+    arena: &mut [u8],
+) -> PushAnswer {
     let numbers = request.numbers;
-    match builder.push(
+    builder.push(
         numbers[0],
         request.key(bytes),
         request.value(bytes),
@@ -103,7 +121,11 @@ pub(crate) fn push(
         set_words(index, 0),
         set_words(filter, 0),
         arena,
-    ) {
+    )
+}
+
+fn pushed(state: State, answer: PushAnswer) -> Step {
+    match answer {
         PushAnswer::Refused {
             refusal,
             builder: kept,
@@ -133,14 +155,32 @@ pub(crate) fn finish(
         return state.answers(Answer::OutOfTurn);
     };
     let numbers = request.numbers;
-    match builder.finish(
-        numbers[0] as usize,
+    finished(
+        state,
+        finish_set(builder, numbers[0], index, starts, lengths, arena),
+    )
+}
+
+fn finish_set(
+    builder: SegmentCacheBuilder,
+    target: u64,
+    index: &mut [u64],
+    starts: &mut [u64],
+    lengths: &mut [u64],
+    arena: &[u8],
+) -> FinishAnswer {
+    builder.finish(
+        target as usize,
         set_words(index, 0),
         set_words(starts, 0),
         set_words(lengths, 0),
         &mut [0; SCRATCH_WORDS],
         arena,
-    ) {
+    )
+}
+
+fn finished(state: State, answer: FinishAnswer) -> Step {
+    match answer {
         FinishAnswer::Refused {
             refusal,
             builder: kept,

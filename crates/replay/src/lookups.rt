@@ -83,7 +83,7 @@ pub(crate) fn take(
     let numbers = request.numbers;
     let number = numbers[0] as usize;
     let set = state.set(number);
-    match set.take_accessed(
+    take_answer(set.take_accessed(
         numbers[1],
         request.key(bytes),
         set_words(index, number),
@@ -91,7 +91,11 @@ pub(crate) fn take(
         shown_words(starts, number),
         shown_words(lengths, number),
         arena,
-    ) {
+    ))
+}
+
+fn take_answer(answer: TakeAnswer) -> Answer {
+    match answer {
         TakeAnswer::Accessed(accessed) => flag(accessed),
         TakeAnswer::Refused(refusal) => Answer::Refused(refusal),
     }
@@ -117,7 +121,7 @@ pub(crate) fn probe(
     let numbers = request.numbers;
     let number = numbers[0] as usize;
     let set = state.set(number);
-    match set.probe_hashed_at_tick(
+    probe_answer(set.probe_hashed_at_tick(
         numbers[1],
         request.key(bytes),
         numbers[2],
@@ -126,7 +130,11 @@ pub(crate) fn probe(
         shown_words(starts, number),
         shown_words(lengths, number),
         arena,
-    ) {
+    ))
+}
+
+fn probe_answer(answer: ProbeAnswer) -> Answer {
+    match answer {
         ProbeAnswer::Found(record) => Answer::Record(record),
         ProbeAnswer::Nothing => Answer::Nothing,
         ProbeAnswer::Refused(refusal) => Answer::Refused(refusal),
@@ -144,14 +152,18 @@ pub(crate) fn walk(
     let numbers = request.numbers;
     let number = numbers[0] as usize;
     let set = state.set(number);
-    match set.next_physical_entry_at_tick(
+    walk_answer(set.next_physical_entry_at_tick(
         numbers[1] as usize,
         numbers[2],
         shown_words(index, number),
         shown_words(starts, number),
         shown_words(lengths, number),
         arena,
-    ) {
+    ))
+}
+
+fn walk_answer(answer: WalkAnswer) -> Answer {
+    match answer {
         WalkAnswer::Entry(record) => Answer::Record(record),
         WalkAnswer::End => Answer::Nothing,
         WalkAnswer::Refused(refusal) => Answer::Refused(refusal),

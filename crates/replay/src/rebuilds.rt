@@ -4,9 +4,11 @@ use crate::parts::set_words;
 use crate::parts::shown_words;
 use crate::request::Request;
 use crate::state::Answer;
+use crate::state::SETS;
 use crate::state::State;
 use crate::state::Step;
 use crate::state::Work;
+use sets::cache::FrozenSegmentCache;
 use sets::rebuild::RebuildFinishAnswer;
 use sets::rebuild::RebuildOpenAnswer;
 use sets::rebuild::RebuildPushAnswer;
@@ -28,6 +30,7 @@ fn copy_words(from: &[u64], to: &mut [u64]) {
     }
 }
 
+// The key field of the line holds the keep flags. The new set is the next after its source.
 pub(crate) fn rebuild_open(
     state: State,
     request: Request,
@@ -39,16 +42,43 @@ pub(crate) fn rebuild_open(
     arena: &[u8],
 ) -> Step {
     let numbers = request.numbers;
-    let source = (numbers[0] % 4) as usize;
-    // Copied, since they stand in the same areas as the new ones.
+    let source = numbers[0] as usize % SETS;
+    opened(
+        state,
+        source + 1,
+        open_from(
+            state.set(source),
+            numbers,
+            request.key(bytes),
+            index,
+            filter,
+            starts,
+            lengths,
+            arena,
+        ),
+    )
+}
+
+// The source's segment words are copied, since they stand in the same areas as the new ones.
+fn open_from(
+    source: FrozenSegmentCache,
+    numbers: [u64; 7],
+    flags: &[u8],
+    index: &mut [u64],
+    filter: &mut [u64],
+    starts: &mut [u64],
+    lengths: &mut [u64],
+    arena: &[u8],
+) -> RebuildOpenAnswer {
+    let number = numbers[0] as usize % SETS;
     let mut source_starts = [0u64; MAX_SEGMENTS];
     let mut source_lengths = [0u64; MAX_SEGMENTS];
-    copy_words(shown_words(&starts[..], source), &mut source_starts);
-    copy_words(shown_words(&lengths[..], source), &mut source_lengths);
+    copy_words(shown_words(&starts[..], number), &mut source_starts);
+    copy_words(shown_words(&lengths[..], number), &mut source_lengths);
     rebuild_set(
-        state,
-        request,
-        request.key(bytes),
+        source,
+        numbers,
+        flags,
         &source_starts,
         &source_lengths,
         index,
@@ -59,10 +89,9 @@ pub(crate) fn rebuild_open(
     )
 }
 
-// The new set is the next after its source. The key field of the line holds the keep flags.
 fn rebuild_set(
-    state: State,
-    request: Request,
+    source: FrozenSegmentCache,
+    numbers: [u64; 7],
     flags: &[u8],
     source_starts: &[u64],
     source_lengths: &[u64],
@@ -71,11 +100,10 @@ fn rebuild_set(
     starts: &mut [u64],
     lengths: &mut [u64],
     arena: &[u8],
-) -> Step {
-    let numbers = request.numbers;
-    let source = (numbers[0] % 4) as usize;
-    match SharedSegmentCacheBuilder::try_new(
-        state.set(source),
+) -> RebuildOpenAnswer {
+    let number = numbers[0] as usize % SETS + 1;
+    SharedSegmentCacheBuilder::try_new(
+        source,
         source_starts,
         source_lengths,
         arena,
@@ -83,22 +111,22 @@ fn rebuild_set(
         numbers[2] as usize,
         flags,
         numbers[3],
-        set_words(index, source + 1),
-        set_words(filter, source + 1),
-        set_words(starts, source + 1),
-        set_words(lengths, source + 1),
-    ) {
+        set_words(index, number),
+        set_words(filter, number),
+        set_words(starts, number),
+        set_words(lengths, number),
+    )
+}
+
+fn opened(state: State, number: usize, answer: RebuildOpenAnswer) -> Step {
+    match answer {
         RebuildOpenAnswer::Refused { refusal, source: _ } => {
             state.answers(Answer::Refused(refusal))
         }
-        RebuildOpenAnswer::Opened(builder) => opened(state, source + 1, builder),
+        RebuildOpenAnswer::Opened(builder) => state
+            .making(number, Work::Rebuild(builder))
+            .answers(Answer::Pair(builder.bucket_count, builder.filter_words)),
     }
-}
-
-fn opened(state: State, number: usize, builder: SharedSegmentCacheBuilder) -> Step {
-    state
-        .making(number, Work::Rebuild(builder))
-        .answers(Answer::Pair(builder.bucket_count, builder.filter_words))
 }
 
 pub(crate) fn push_reused(
@@ -115,24 +143,46 @@ pub(crate) fn push_reused(
     let Work::Rebuild(builder) = work else {
         return state.answers(Answer::OutOfTurn);
     };
-    let numbers = request.numbers;
     let set = state.making;
     pushed(
         state,
-        builder.push_reused(
-            numbers[0],
-            request.key(bytes),
-            request.value(bytes),
-            SegmentRecordLocation {
-                location: numbers[2] as usize,
-                header_bytes: numbers[3] as usize,
-            },
+        reuse_record(
+            builder,
+            request,
+            bytes,
             set_words(index, set),
             set_words(filter, set),
             shown_words(starts, set),
             shown_words(lengths, set),
             arena,
         ),
+    )
+}
+
+fn reuse_record(
+    builder: SharedSegmentCacheBuilder,
+    request: Request,
+    bytes: &[u8],
+    index: &mut [u64],
+    filter: &mut [u64],
+    starts: &[u64],
+    lengths: &[u64],
+    arena: &[u8],
+) -> RebuildPushAnswer {
+    let numbers = request.numbers;
+    builder.push_reused(
+        numbers[0],
+        request.key(bytes),
+        request.value(bytes),
+        SegmentRecordLocation {
+            location: numbers[2] as usize,
+            header_bytes: numbers[3] as usize,
+        },
+        index,
+        filter,
+        starts,
+        lengths,
+        arena,
     )
 }
 
@@ -150,21 +200,43 @@ pub(crate) fn push_copied(
     let Work::Rebuild(builder) = work else {
         return state.answers(Answer::OutOfTurn);
     };
-    let numbers = request.numbers;
     let set = state.making;
     pushed(
         state,
-        builder.push_copied(
-            numbers[0],
-            request.key(bytes),
-            request.value(bytes),
-            lifetime(numbers[2], numbers[3], numbers[4]),
+        copy_record(
+            builder,
+            request,
+            bytes,
             set_words(index, set),
             set_words(filter, set),
             shown_words(starts, set),
             shown_words(lengths, set),
             arena,
         ),
+    )
+}
+
+fn copy_record(
+    builder: SharedSegmentCacheBuilder,
+    request: Request,
+    bytes: &[u8],
+    index: &mut [u64],
+    filter: &mut [u64],
+    starts: &[u64],
+    lengths: &[u64],
+    arena: &mut [u8],
+) -> RebuildPushAnswer {
+    let numbers = request.numbers;
+    builder.push_copied(
+        numbers[0],
+        request.key(bytes),
+        request.value(bytes),
+        lifetime(numbers[2], numbers[3], numbers[4]),
+        index,
+        filter,
+        starts,
+        lengths,
+        arena,
     )
 }
 
@@ -197,14 +269,31 @@ pub(crate) fn rebuild_finish(
     let Work::Rebuild(builder) = work else {
         return state.answers(Answer::OutOfTurn);
     };
-    let set = state.making;
-    match builder.finish(
+    finished(
+        state,
+        finish_set(builder, state.making, index, starts, lengths, arena),
+    )
+}
+
+fn finish_set(
+    builder: SharedSegmentCacheBuilder,
+    set: usize,
+    index: &mut [u64],
+    starts: &mut [u64],
+    lengths: &mut [u64],
+    arena: &[u8],
+) -> RebuildFinishAnswer {
+    builder.finish(
         set_words(index, set),
         set_words(starts, set),
         set_words(lengths, set),
         &mut [0; SCRATCH_WORDS],
         arena,
-    ) {
+    )
+}
+
+fn finished(state: State, answer: RebuildFinishAnswer) -> Step {
+    match answer {
         RebuildFinishAnswer::Refused {
             refusal,
             builder: kept,

@@ -1,13 +1,9 @@
-use mathlib.Core.Path.{_≡_}
+-- `with_bytes` ends and stays inside its slice. Assumes nothing.
 use Prim.Native.Nat.{_-_, _≤_}
-use native.Mathlib.Omega.{arith}
 use lib.ListN.{length}
 use borrow.Author.Needs.{needs}
 use Rattle.replay.proofs.checksum.with_bytes.Statement.{statement}
 use Rattle.replay.proofs.checksum.with_bytes.Tie as tie
-use Rattle.replay.proofs.checksum.with_bytes.Reads as reads
-use Rattle.replay.proofs.checksum.with_bytes.Lts as lts
-use Rattle.replay.proofs.checksum.with_byte.Reads as with-byte-reads
 
 abbrev Inv-loop : tie.InvT-loop
 Inv-loop sum bytes total₀ i₀ total i = 0 ≤ i
@@ -15,31 +11,24 @@ Inv-loop sum bytes total₀ i₀ total i = 0 ≤ i
 abbrev μ-loop : tie.MeasureT-loop
 μ-loop sum bytes total₀ i₀ total i = length bytes - i
 
--- src/checksum.rt:32:5
 loop-holds : tie.Need-loop-holds Inv-loop μ-loop
 loop-holds c = search needs
 
--- src/checksum.rt:33:34
 shared-slice-read-with-byte : tie.Need-shared-slice-read-with-byte Inv-loop μ-loop
 shared-slice-read-with-byte c = search needs
 
--- src/checksum.rt:33:9
 with-byte-requires : tie.Need-with-byte-requires Inv-loop μ-loop
 with-byte-requires c κs = search needs
 
--- src/checksum.rt:34:9
 add-i : tie.Need-add-i Inv-loop μ-loop
 add-i c = search needs
 
--- src/checksum.rt:32:5
 loop-less : tie.Need-loop-less Inv-loop μ-loop
 loop-less c = search needs
 
--- src/checksum.rt:32:5
 loop-again : tie.Need-loop-again Inv-loop μ-loop
 loop-again c = search needs
 
--- src/checksum.rt:29:1
 returns : tie.Need-returns Inv-loop μ-loop
 returns c = search needs
 

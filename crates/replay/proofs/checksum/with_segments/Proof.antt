@@ -1,13 +1,9 @@
-use mathlib.Core.Path.{_≡_}
+-- `with_segments` ends. Assumes nothing.
 use Prim.Native.Nat.{_-_, _≤_}
-use native.Mathlib.Omega.{arith}
 use lib.ListN.{length}
 use borrow.Author.Needs.{needs}
 use Rattle.replay.proofs.checksum.with_segments.Statement.{statement}
 use Rattle.replay.proofs.checksum.with_segments.Tie as tie
-use Rattle.replay.proofs.checksum.with_segments.Reads as reads
-use Rattle.replay.proofs.checksum.with_segments.Lts as lts
-use Rattle.replay.proofs.checksum.with_segment.Reads as with-segment-reads
 
 abbrev Inv-loop : tie.InvT-loop
 Inv-loop sum count starts lengths arena total₀ i₀ total i = 0 ≤ i
@@ -15,27 +11,21 @@ Inv-loop sum count starts lengths arena total₀ i₀ total i = 0 ≤ i
 abbrev μ-loop : tie.MeasureT-loop
 μ-loop sum count starts lengths arena total₀ i₀ total i = count - i
 
--- src/checksum.rt:47:5
 loop-holds : tie.Need-loop-holds Inv-loop μ-loop
 loop-holds c = search needs
 
--- src/checksum.rt:48:9
 with-segment-requires : tie.Need-with-segment-requires Inv-loop μ-loop
 with-segment-requires c κs = search needs
 
--- src/checksum.rt:49:9
 add-i : tie.Need-add-i Inv-loop μ-loop
 add-i c = search needs
 
--- src/checksum.rt:47:5
 loop-less : tie.Need-loop-less Inv-loop μ-loop
 loop-less c = search needs
 
--- src/checksum.rt:47:5
 loop-again : tie.Need-loop-again Inv-loop μ-loop
 loop-again c = search needs
 
--- src/checksum.rt:44:1
 returns : tie.Need-returns Inv-loop μ-loop
 returns c = search needs
 

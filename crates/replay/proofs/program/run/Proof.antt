@@ -1,16 +1,9 @@
+-- `run` ends: each turn leaves fewer, and the areas keep their lengths. Assumes nothing.
 use mathlib.Core.Path.{_≡_, _∙_}
-use Prim.Native.Nat.{_-_, _≤_}
-use native.Mathlib.Omega.{arith}
 use lib.ListN.{length}
 use borrow.Author.Needs.{needs}
 use Rattle.replay.proofs.program.run.Statement.{statement}
 use Rattle.replay.proofs.program.run.Tie as tie
-use Rattle.replay.proofs.program.run.Reads as reads
-use Rattle.replay.proofs.program.run.Lts as lts
-use Rattle.replay.proofs.program.Progress.new.Reads as new-reads
-use Rattle.replay.proofs.program.take_turn.Reads as take-turn-reads
-use Rattle.replay.proofs.program.turns_left.Reads as turns-left-reads
-use Rattle.replay.proofs.tally.Tally.show.Reads as show-reads
 
 abbrev Inv-loop : tie.InvT-loop
 Inv-loop block₀ bytes₀ out₀ index₀ filter₀ starts₀ lengths₀ arena₀ progress₀ left₀ block bytes out index filter starts lengths arena progress left =
@@ -20,27 +13,21 @@ abbrev μ-loop : tie.MeasureT-loop
 μ-loop block₀ bytes₀ out₀ index₀ filter₀ starts₀ lengths₀ arena₀ progress₀ left₀ block bytes out index filter starts lengths arena progress left =
     left
 
--- src/program.rt:70:9
 new-requires : tie.Need-new-requires Inv-loop μ-loop
 new-requires c κs = search needs
 
--- src/program.rt:72:5
 loop-holds : tie.Need-loop-holds Inv-loop μ-loop
 loop-holds c = search needs
 
--- src/program.rt:73:9
 take-turn-requires : tie.Need-take-turn-requires Inv-loop μ-loop
 take-turn-requires c κs = search needs
 
--- src/program.rt:84:9
 turns-left-requires : tie.Need-turns-left-requires Inv-loop μ-loop
 turns-left-requires c κs = search needs
 
--- src/program.rt:72:5
 loop-less : tie.Need-loop-less Inv-loop μ-loop
 loop-less c = c .turns-left .ensures
 
--- src/program.rt:72:5
 loop-again : tie.Need-loop-again Inv-loop μ-loop
 loop-again c =
     let l = c .before .before .before .before .before .before .before .before .before .before .before .before .before .before .before .before .before .before .before .before .before .before .before .before .before .before .before .loop in (
@@ -54,43 +41,33 @@ loop-again c =
       c .before .before .arena .given ∙ l .inv .7,
     )
 
--- src/program.rt:87:5
 show-requires : tie.Need-show-requires Inv-loop μ-loop
 show-requires c κs = search needs
 
--- src/program.rt:60:1
 same-length : tie.Need-same-length Inv-loop μ-loop
 same-length c = search needs
 
--- src/program.rt:60:1
 same-length-2 : tie.Need-same-length-2 Inv-loop μ-loop
 same-length-2 c = search needs
 
--- src/program.rt:60:1
 same-length-3 : tie.Need-same-length-3 Inv-loop μ-loop
 same-length-3 c = search needs
 
--- src/program.rt:60:1
 same-length-4 : tie.Need-same-length-4 Inv-loop μ-loop
 same-length-4 c = search needs
 
--- src/program.rt:60:1
 same-length-5 : tie.Need-same-length-5 Inv-loop μ-loop
 same-length-5 c = search needs
 
--- src/program.rt:60:1
 same-length-6 : tie.Need-same-length-6 Inv-loop μ-loop
 same-length-6 c = search needs
 
--- src/program.rt:60:1
 same-length-7 : tie.Need-same-length-7 Inv-loop μ-loop
 same-length-7 c = search needs
 
--- src/program.rt:60:1
 same-length-8 : tie.Need-same-length-8 Inv-loop μ-loop
 same-length-8 c = search needs
 
--- src/program.rt:60:1
 returns : tie.Need-returns Inv-loop μ-loop
 returns c = search needs
 
