@@ -80,17 +80,8 @@ fn make_rebuild_call(
             lengths,
             &arena[..],
         ),
-        Call::PushReused => push_reused(
-            state,
-            request,
-            bytes,
-            index,
-            filter,
-            &starts[..],
-            &lengths[..],
-            &arena[..],
-        ),
-        Call::PushCopied => push_copied(
+        Call::RebuildFinish => rebuild_finish(state, index, starts, lengths, &arena[..]),
+        _ => make_rebuild_push(
             state,
             request,
             bytes,
@@ -100,7 +91,32 @@ fn make_rebuild_call(
             &lengths[..],
             arena,
         ),
-        _ => rebuild_finish(state, index, starts, lengths, &arena[..]),
+    }
+}
+
+fn make_rebuild_push(
+    state: State,
+    request: Request,
+    bytes: &[u8],
+    index: &mut [u64],
+    filter: &mut [u64],
+    starts: &[u64],
+    lengths: &[u64],
+    arena: &mut [u8],
+) -> Step {
+    let call = request.call;
+    match call {
+        Call::PushReused => push_reused(
+            state,
+            request,
+            bytes,
+            index,
+            filter,
+            starts,
+            lengths,
+            &arena[..],
+        ),
+        _ => push_copied(state, request, bytes, index, filter, starts, lengths, arena),
     }
 }
 
