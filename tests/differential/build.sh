@@ -1,5 +1,6 @@
 # Builds the oracle twice and the port's libraries; sourced at the top of the repository by a script
-# that has set `build`, the folder for all that is built. Sets `linked`, rustc's arguments for both.
+# that has set `build`, the folder for all that is built. Sets `oracles` and `linked`, rustc's
+# arguments for the first and for both. Where `oracle_alone` is set, the libraries are left out.
 here=tests/differential
 oracle=${ORACLE_SRC:-../shared/docs/src}/src/segment_cache.rs
 
@@ -36,13 +37,16 @@ release=(--crate-type rlib -C overflow-checks=off -C debug-assertions=off -A war
 compile oracle_large "${release[@]}" "$build/oracle/oracle.rs"
 compile oracle_small "${release[@]}" -A explicit_builtin_cfgs_in_flags --cfg test "$build/oracle/oracle.rs"
 
-if [ -z "${PORT_LIB:-}" ]; then
+if [ -z "${PORT_LIB:-}${oracle_alone:-}" ]; then
     step staticlib rt staticlib test_exports
     step staticlib_capi rt staticlib capi
 fi
 
-linked=(
+oracles=(
     --extern "oracle_large=$build/liboracle_large.rlib"
     --extern "oracle_small=$build/liboracle_small.rlib"
+)
+linked=(
+    "${oracles[@]}"
     -L "native=${PORT_LIB:-target/staticlib}" -l static=test_exports -l static=capi
 )
