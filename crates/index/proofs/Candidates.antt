@@ -23,7 +23,7 @@ use Rattle.index.specs.Packed.{packedSlot, packedSlotsOf, numberOf}
 use Rattle.index.specs.Slot.{wordSlot}
 use Rattle.index.specs.Word.{wordTag}
 use Rattle.index.specs.declared.find.FindStep.{FindStep}
-use Rattle.index.specs.declared.find.FindStep.the-variants.{Hit, Stop, Next}
+use Rattle.index.specs.declared.find.FindStep.the-variants.{Next}
 use Rattle.index.specs.declared.slot.IndexSlot.{IndexSlot}
 use Rattle.index.specs.declared.slot.IndexSlot.the-variants.{Empty, Used}
 use Rattle.index.proofs.Bytes.{below-eight}

@@ -1,12 +1,12 @@
 -- Laws of finding: one slot, the buckets of a walk. Assumes nothing.
-use mathlib.Core.Path.{_≡_, refl, sym, ap, ap₂, _∙_}
+use mathlib.Core.Path.{_≡_, refl, sym, ap, _∙_}
 use mathlib.Core.Bool.{Bool, true, false}
-use mathlib.Core.List.{List, [], _∷_, map}
+use mathlib.Core.List.{List, _∷_}
 use Prim.Native.Nat.{ℕ, zero, suc, _+_, _-_, _*_, _/_, _≤_, _<_}
 use native.Mathlib.Numerals.{add-one}
 use native.Mathlib.Omega.{arith}
 use lib.Dec.{eqb, leb}
-use lib.ListN.{length, take, drop, getD}
+use lib.ListN.{length}
 use borrow.Author.Tests.{eq-eqb, ne-eqb, le-leb, lt-leb}
 use Rattle.hash_parts.specs.Choice.{pick}
 use Rattle.hash_parts.specs.Hash.{tagOf, firstBucket}
@@ -17,7 +17,7 @@ use Rattle.records.specs.declared.record.RecordRef.{RecordRef}
 use Rattle.index.specs.Build.{nextBucket}
 use Rattle.index.specs.Find.{Look, empty, other, broken, match, look, looksFrom, stepOf, scan, inBucket, followed, endsAt, found, findIn, slotsOf}
 use Rattle.index.specs.Filter.{filterHas}
-use Rattle.index.specs.Slot.{wordSlot, keptTag}
+use Rattle.index.specs.Slot.{keptTag}
 use Rattle.index.specs.View.{recordIn}
 use Rattle.index.specs.Walk.{bucketWalk}
 use Rattle.index.specs.declared.find.FindAnswer.{FindAnswer}

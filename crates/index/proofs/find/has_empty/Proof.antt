@@ -1,5 +1,4 @@
 -- `has_empty` meets its contract. Assumes nothing.
-use mathlib.Core.Path.{_≡_, refl, sym, ap, ap₂, _∙_}
 use borrow.Author.Needs.{needs}
 use Rattle.index.proofs.find.has_empty.Statement.{statement}
 use Rattle.index.proofs.find.has_empty.Tie as tie

@@ -1,5 +1,5 @@
 -- `kept_tag` meets its contract: the packed layout keeps a tag in two parts. Assumes nothing.
-use mathlib.Core.Path.{_≡_, refl, sym, ap, ap₂, _∙_}
+use mathlib.Core.Path.{ap₂}
 use Prim.Native.Nat.{ℕ, _+_, _*_}
 use borrow.Author.Needs.{needs}
 use Rattle.index.proofs.find.kept_tag.Statement.{statement}

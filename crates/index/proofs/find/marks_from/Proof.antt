@@ -1,5 +1,4 @@
 -- `marks_from` meets its contract: all marks, moved up by as many bytes. Assumes nothing.
-use mathlib.Core.Path.{_≡_, refl, sym, ap, ap₂, _∙_}
 use native.Mathlib.Omega.{arith}
 use borrow.Author.Needs.{needs}
 use Rattle.index.proofs.Candidates.{from-marks, no-marks}

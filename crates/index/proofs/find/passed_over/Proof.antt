@@ -1,9 +1,8 @@
 -- `passed_over` meets its contract: the slots before an offset and those passed over from it on are what was asked. Assumes nothing.
-use mathlib.Core.Path.{_≡_, refl, sym, ap, ap₂, _∙_}
+use mathlib.Core.Path.{_≡_, sym, ap, _∙_}
 use mathlib.Core.List.{map}
-use Prim.Native.Nat.{ℕ, _+_, _*_, _-_, _≤_, _<_}
+use Prim.Native.Nat.{ℕ, _+_, _*_, _-_, _≤_}
 use native.Mathlib.Omega.{arith}
-use borrow.Author.Needs.{needs}
 use lib.ListN.{take, drop}
 use Rattle.index.specs.Find.{passedOver}
 use Rattle.index.specs.Slot.{wordSlot}

@@ -1,5 +1,5 @@
 -- `slot_at` meets its contract. Assumes nothing.
-use mathlib.Core.Path.{_≡_, sym, _∙_}
+use mathlib.Core.Path.{sym, _∙_}
 use native.Mathlib.Omega.{arith}
 use borrow.Author.Needs.{needs}
 use Rattle.index.proofs.SlotReads.{slot-short, slot-past, slot-in}

@@ -1,5 +1,5 @@
 -- `tagged_bytes` meets its contract: a byte of the tag is zero after the exclusive or. Assumes nothing.
-use mathlib.Core.Path.{_≡_, refl, sym, ap, ap₂, _∙_}
+use mathlib.Core.Path.{_∙_}
 use borrow.Author.Needs.{needs}
 use Rattle.index.proofs.Candidates.{tagged-are}
 use Rattle.index.proofs.find.tagged_bytes.Statement.{statement}

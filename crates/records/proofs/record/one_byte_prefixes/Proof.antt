@@ -1,11 +1,10 @@
 -- `one_byte_prefixes` meets its contract: it says yes only after all its tests. Assumes nothing.
-use mathlib.Core.Path.{_≡_, sym, ap, _∙_}
+use mathlib.Core.Path.{_≡_, ap}
 use mathlib.Core.Bool.{Bool, true, false}
-use Prim.Native.Nat.{ℕ, _+_, _<_, _≤_}
+use Prim.Native.Nat.{ℕ, _<_}
 use native.Mathlib.Omega.{arith}
 use borrow.Author.Needs.{needs}
 use borrow.Author.Tests.{ltb-true}
-use lib.ListN.{getD}
 use Rattle.hash_parts.specs.Choice.{pick}
 use Rattle.records.proofs.record.one_byte_prefixes.Statement.{statement}
 use Rattle.records.proofs.record.one_byte_prefixes.Tie as tie
