@@ -1,40 +1,41 @@
--- The candidates of a packed bucket: the slots whose control byte has the tag, visited from the lowest mark up. Assumes nothing.
+-- The candidates of a bucket, visited from the lowest mark up: packed, the slots whose control byte has the tag; words, those from the first that
+-- is empty or has the tag on. Assumes nothing.
 use mathlib.Core.Path.{_≡_, refl, sym, ap, ap₂, _∙_, subst}
 use mathlib.Core.Bool.{Bool, true, false}
 use mathlib.Core.List.{List, [], _∷_, map}
 use Prim.Native.Nat.{ℕ, zero, suc, _+_, _*_, _-_, _/_, _%_, _^_, _≤_, _<_}
-use native.Mathlib.Nat.{mul-suc, div-add-mod', add-zero}
+use native.Mathlib.Nat.{mul-suc, div-add-mod', add-zero, zero-add}
 use native.Mathlib.Omega.{arith}
 use lib.Dec.{eqb, ltb, lit<}
 use lib.ListN.{length, take, drop, getD}
 use lib.Pow.{shr-lt}
-use lib.Bits.{bitAnd, bitXor, and-comm, and-block, and-mask, and-le-r, xor-block, xor-lt, xor-add-and, xor-self, xor-zero-r}
+use lib.Bits.{bitAnd, bitXor, and-comm, and-block, and-mask, and-le-r, xor-block, xor-lt, xor-add-and, xor-self}
 use borrow.Author.Tests.{eqb-true, eqb-false, eq-eqb, ne-eqb, lt-ltb, le-ltb}
 use native.Mathlib.Decide.{ℕ-discrete, decLt}
 use Rattle.hash_parts.specs.Choice.{pick}
-use Rattle.hash_parts.specs.ZeroBytes.{bytesOf, isZero, marks, zeroBytes, visited}
+use Rattle.hash_parts.specs.ZeroBytes.{bytesOf, isZero, marks, zeroBytes, zeroMarks, visited}
 use Rattle.hash_parts.proofs.ZeroBytes.{lo}
 use Rattle.records.specs.Area.{sameBytes, spanned}
 use Rattle.records.specs.declared.record.RecordAnswer.{RecordAnswer}
 use Rattle.records.specs.declared.record.RecordAnswer.the-variants.{Read, Unreadable}
-use Rattle.index.specs.Find.{Look, empty, other, broken, match, seen, look, looksFrom, stepOf, sweep, hasEmpty}
+use Rattle.index.specs.Find.{Look, empty, other, broken, match, seen, look, looksFrom, stepOf, scan, sweep, hasEmpty, hasTag, tagged, passedOver, fromOn}
 use Rattle.index.specs.Packed.{packedSlot, packedSlotsOf, numberOf}
+use Rattle.index.specs.Slot.{wordSlot}
+use Rattle.index.specs.Word.{wordTag}
 use Rattle.index.specs.declared.find.FindStep.{FindStep}
-use Rattle.index.specs.declared.find.FindStep.the-variants.{Hit, Stop, Next}
+use Rattle.index.specs.declared.find.FindStep.the-variants.{Next}
 use Rattle.index.specs.declared.slot.IndexSlot.{IndexSlot}
 use Rattle.index.specs.declared.slot.IndexSlot.the-variants.{Empty, Used}
-use Rattle.index.proofs.Finds.{andThen}
+use Rattle.index.proofs.Bytes.{below-eight}
+use Rattle.index.proofs.Finds.{andThen, scan-cons}
+use Rattle.index.proofs.Walks.{part-cons}
 
 -- ---- which control bytes have the tag
 
 -- a byte repeated k times
-abbrev pub repeated : ℕ → ℕ → ℕ
+abbrev repeated : ℕ → ℕ → ℕ
 repeated zero t = 0
 repeated (suc k) t = repeated k t * 256 + t
-
--- a control byte has the tag t
-abbrev pub hasTag : ℕ → ℕ → Bool
-hasTag t c = eqb (c % 128) t
 
 xor-zero : (a b : ℕ) → bitXor a b ≡ 0 → a ≡ b
 xor-zero a b e =
@@ -69,13 +70,11 @@ tag-bytes (suc k) c t h ht =
     rw (split, low, high) (ap₂ _∷_ (byte-zero r t) (tag-bytes k a t ha ht))
 
 -- the candidates by the word test
-pub candidates-are : (c t : ℕ) → c < 2 ^ 64 → t < 128 → zeroBytes (bitXor (bitAnd c (lo 8)) (repeated 8 t)) ≡ map (hasTag t) (bytesOf 8 c)
-unfolding zeroBytes
-candidates-are c t h ht = tag-bytes 8 c t h ht
-
--- the empty slots by the word test
-pub empties-are : (c : ℕ) → c < 2 ^ 64 → zeroBytes (bitAnd c (lo 8)) ≡ map (hasTag 0) (bytesOf 8 c)
-empties-are c h = ap zeroBytes (sym (xor-zero-r (bitAnd c (lo 8)))) ∙ candidates-are c 0 h (lit< tt)
+pub tagged-are : (c t : ℕ) → c < 2 ^ 64 → t < 128 → zeroMarks (bitXor (bitAnd c (lo 8)) (t * 0x0101010101010101)) ≡ marks (tagged t c)
+unfolding zeroMarks zeroBytes
+tagged-are c t h ht =
+    let e : t * 0x0101010101010101 ≡ repeated 8 t = omega arith in
+    ap (λ (x : ℕ). zeroMarks (bitXor (bitAnd c (lo 8)) x)) e ∙ ap marks (tag-bytes 8 c t h ht)
 
 -- ---- a used slot never says that it is empty
 
@@ -154,6 +153,97 @@ module _ (read : ℕ → RecordAnswer) (arena key : List ℕ) (tag rest : ℕ) (
           → sweep (at i (packedSlot c (take 7 bytes)) ∷ looksFrom read arena key kept (suc i) (packedSlotsOf cs (drop 7 bytes))) ≡ visited (λ j after. andThen (g j) after) (x ∷ map (hasTag tag) cs) p Next
       go true h tail = sweep-used (at i (packedSlot c (take 7 bytes))) (looksFrom read arena key kept (suc i) (packedSlotsOf cs (drop 7 bytes))) (used-slot i c (take 7 bytes) h) ∙ ap₂ andThen (sym first) tail
       go false h tail = passed-slot i c (take 7 bytes) (looksFrom read arena key kept (suc i) (packedSlotsOf cs (drop 7 bytes))) h ∙ tail
+
+-- ---- a scan visits the slots that it does not pass over
+
+module _ (read : ℕ → RecordAnswer) (arena key : List ℕ) (tag : ℕ) (g : ℕ → FindStep) where
+  -- g gives what slot j says, counted from p
+  abbrev pub Says : List IndexSlot → ℕ → ℕ → Type 0
+  Says l i p = (j : ℕ) → j < length l → g (p + j) ≡ stepOf (look read arena key tag (i + j) (getD l j Empty))
+
+  says-first : (s : IndexSlot) (l : List IndexSlot) (i p : ℕ) → Says (s ∷ l) i p → g p ≡ stepOf (look read arena key tag i s)
+  says-first s l i p says = rw (add-zero p, add-zero i) at (says 0 (omega arith))
+
+  says-rest : (s : IndexSlot) (l : List IndexSlot) (i p : ℕ) → Says (s ∷ l) i p → Says l (suc i) (suc p)
+  says-rest s l i p says j h =
+      let e : suc p + j ≡ p + suc j = omega arith in
+      let f : suc i + j ≡ i + suc j = omega arith in
+      rw (e, f) (says (suc j) (omega arith))
+
+  scan-all : (l : List IndexSlot) (i p : ℕ) → Says l i p → scan (looksFrom read arena key tag i l) ≡ visited (λ j after. andThen (g j) after) (fromOn 0 (length l)) p Next
+  unfolding looksFrom visited fromOn scan
+  scan-all [] i p says = refl
+  scan-all (s ∷ l) i p says =
+      scan-cons (look read arena key tag i s) (looksFrom read arena key tag (suc i) l)
+      ∙ ap₂ andThen (sym (says-first s l i p says)) (scan-all l (suc i) (suc p) (says-rest s l i p says))
+
+  pub scan-visits : (l : List IndexSlot) (i p : ℕ) → Says l i p
+      → scan (looksFrom read arena key tag i l) ≡ visited (λ j after. andThen (g j) after) (fromOn (passedOver tag l) (length l)) p Next
+  unfolding looksFrom visited fromOn passedOver scan
+  scan-visits [] i p says = refl
+  scan-visits (Empty ∷ l) i p says = scan-all (Empty ∷ l) i p says
+  scan-visits (Used t stored ∷ l) i p says = go (eqb t tag) refl (scan-visits l (suc i) (suc p) (says-rest (Used t stored) l i p says))
+    where
+      ls : List Look
+      ls = looksFrom read arena key tag (suc i) l
+
+      go : (x : Bool) → eqb t tag ≡ x → scan ls ≡ visited (λ j after. andThen (g j) after) (fromOn (passedOver tag l) (length l)) (suc p) Next
+          → scan (pick x (seen arena key i (read stored)) other ∷ ls)
+          ≡ visited (λ j after. andThen (g j) after) (fromOn (pick x 0 (suc (passedOver tag l))) (suc (length l))) p Next
+      go true e rest = rw e at (scan-all (Used t stored ∷ l) i p says)
+      go false e rest = rest
+
+-- ---- how many slots of a bucket of words are passed over, slot by slot
+
+-- of those from an offset on
+abbrev pub passedFrom : ℕ → List ℕ → ℕ → ℕ → ℕ
+passedFrom tag index at offset = passedOver tag (map wordSlot (take (8 - offset) (drop (at + offset) index)))
+
+pub passed-begins : (tag : ℕ) (index : List ℕ) (at : ℕ) → passedOver tag (map wordSlot (take 8 (drop at index))) ≡ 0 + passedFrom tag index at 0
+passed-begins tag index at = rw (zero-add (passedFrom tag index at 0), add-zero at)
+
+pub passed-ends : (tag : ℕ) (index : List ℕ) (at offset : ℕ) → 8 ≤ offset → passedFrom tag index at offset ≡ 0
+unfolding passedOver
+passed-ends tag index at offset h = let e : 8 - offset ≡ 0 = omega arith in rw e
+
+module _ (tag : ℕ) (index : List ℕ) (at offset : ℕ) (some-left : offset < 8) (inside : at + offset < length index) where
+  abbrev word : ℕ
+  word = getD index (at + offset) 0
+
+  passed-step : passedFrom tag index at offset ≡ passedOver tag (wordSlot word ∷ map wordSlot (take (8 - (offset + 1)) (drop (at + (offset + 1)) index)))
+  passed-step =
+      let left : 8 - offset - 1 ≡ 8 - (offset + 1) = omega arith in
+      let next : at + offset + 1 ≡ at + (offset + 1) = omega arith in
+      let some : 0 < 8 - offset = omega arith in
+      rw (part-cons index (8 - offset) (at + offset) 0 some inside, left, next)
+
+  pub passed-empty : word ≡ 0 → passedFrom tag index at offset ≡ 0
+  unfolding passedOver wordSlot
+  passed-empty e = passed-step ∙ rw (eq-eqb word 0 e)
+
+  module _ (used : word ≡ 0 → ⊥) where
+    pub passed-own : wordTag word ≡ tag → passedFrom tag index at offset ≡ 0
+    unfolding passedOver wordSlot
+    passed-own e = passed-step ∙ rw (ne-eqb word 0 used, eq-eqb (wordTag word) tag e)
+
+    pub passed-other : (wordTag word ≡ tag → ⊥) → passedFrom tag index at offset ≡ suc (passedFrom tag index at (offset + 1))
+    unfolding passedOver wordSlot
+    passed-other n = passed-step ∙ rw (ne-eqb word 0 used, ne-eqb (wordTag word) tag n)
+
+pub from-length : (s n : ℕ) → length (fromOn s n) ≡ n
+unfolding fromOn
+from-length s zero = refl
+from-length zero (suc n) = ap suc (from-length zero n)
+from-length (suc s) (suc n) = ap suc (from-length s n)
+
+-- the marks on the slots from one on
+pub from-marks : (s : ℕ) → s < 8 → 0x8080808080808080 * 2 ^ (s * 8) % 2 ^ 64 ≡ marks (fromOn s 8)
+unfolding marks fromOn
+from-marks = below-eight (λ s. 0x8080808080808080 * 2 ^ (s * 8) % 2 ^ 64 ≡ marks (fromOn s 8)) refl refl refl refl refl refl refl refl
+
+pub no-marks : 0 ≡ marks (fromOn 8 8)
+unfolding marks fromOn
+no-marks = refl
 
 -- ---- an empty slot
 

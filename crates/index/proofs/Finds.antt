@@ -1,12 +1,12 @@
--- Laws of finding: one slot, the slots of a bucket of words, the buckets of a walk. Assumes nothing.
-use mathlib.Core.Path.{_≡_, refl, sym, ap, ap₂, _∙_}
+-- Laws of finding: one slot, the buckets of a walk. Assumes nothing.
+use mathlib.Core.Path.{_≡_, refl, sym, ap, _∙_}
 use mathlib.Core.Bool.{Bool, true, false}
-use mathlib.Core.List.{List, [], _∷_, map}
+use mathlib.Core.List.{List, _∷_}
 use Prim.Native.Nat.{ℕ, zero, suc, _+_, _-_, _*_, _/_, _≤_, _<_}
 use native.Mathlib.Numerals.{add-one}
 use native.Mathlib.Omega.{arith}
 use lib.Dec.{eqb, leb}
-use lib.ListN.{length, take, drop, getD}
+use lib.ListN.{length}
 use borrow.Author.Tests.{eq-eqb, ne-eqb, le-leb, lt-leb}
 use Rattle.hash_parts.specs.Choice.{pick}
 use Rattle.hash_parts.specs.Hash.{tagOf, firstBucket}
@@ -17,7 +17,7 @@ use Rattle.records.specs.declared.record.RecordRef.{RecordRef}
 use Rattle.index.specs.Build.{nextBucket}
 use Rattle.index.specs.Find.{Look, empty, other, broken, match, look, looksFrom, stepOf, scan, inBucket, followed, endsAt, found, findIn, slotsOf}
 use Rattle.index.specs.Filter.{filterHas}
-use Rattle.index.specs.Slot.{wordSlot, keptTag}
+use Rattle.index.specs.Slot.{keptTag}
 use Rattle.index.specs.View.{recordIn}
 use Rattle.index.specs.Walk.{bucketWalk}
 use Rattle.index.specs.declared.find.FindAnswer.{FindAnswer}
@@ -29,7 +29,6 @@ use Rattle.index.specs.declared.slot.IndexSlot.{IndexSlot}
 use Rattle.index.specs.declared.slot.IndexSlot.the-variants.{Empty, Used}
 use Rattle.index.specs.declared.view.SegmentView.{SegmentView}
 use Rattle.index.proofs.Around.{around, around-step, around-end, walk-around}
-use Rattle.index.proofs.Walks.{part-cons}
 
 -- ---- one slot
 
@@ -68,29 +67,12 @@ then-ends (Hit r) after n = refl
 then-ends Stop after n = refl
 then-ends Next after n = absurd (n refl)
 
-scan-cons : (l : Look) (ls : List Look) → scan (l ∷ ls) ≡ andThen (stepOf l) (scan ls)
+pub scan-cons : (l : Look) (ls : List Look) → scan (l ∷ ls) ≡ andThen (stepOf l) (scan ls)
 unfolding scan
 scan-cons empty ls = refl
 scan-cons other ls = refl
 scan-cons broken ls = refl
 scan-cons (match r) ls = refl
-
--- ---- the loop over the slots of a bucket of words
-
-module _ (read : ℕ → RecordAnswer) (arena key : List ℕ) (tag : ℕ) (index : List ℕ) (left slot : ℕ) where
-  -- the answer of so many slots from one on
-  abbrev pub wordsAnswer : FindStep
-  wordsAnswer = scan (looksFrom read arena key tag slot (map wordSlot (take left (drop slot index))))
-
-  pub words-end : left ≤ 0 → wordsAnswer ≡ Next
-  unfolding looksFrom scan
-  words-end z = let e : left ≡ 0 = omega arith in rw e
-
-  module _ (some-left : 0 < left) (inside : slot < length index) where
-    pub words-step : wordsAnswer
-        ≡ andThen (stepOf (look read arena key tag slot (wordSlot (getD index slot 0)))) (scan (looksFrom read arena key tag (slot + 1) (map wordSlot (take (left - 1) (drop (slot + 1) index)))))
-    unfolding looksFrom
-    words-step = rw (part-cons index left slot 0 some-left inside, add-one slot) (scan-cons _ _)
 
 -- ---- the loop over the buckets
 
@@ -128,6 +110,11 @@ module _ (packed may : Bool) (looks : ℕ → List Look) (buckets : ℕ) where
 
       pub found-on : endsAt i may ≡ false → bucketsFound packed may looks buckets i left bucket ≡ rest
       found-on e = found-step ∙ rw (on, e)
+
+-- before the second bucket the filter's answer counts for nothing
+pub filter-late : (i : ℕ) (filter : List ℕ) (words asked h : ℕ) → (0 < i → asked ≡ h) → endsAt i (filterHas filter words asked) ≡ endsAt i (filterHas filter words h)
+filter-late zero filter words asked h e = refl
+filter-late (suc i) filter words asked h e = rw (e (omega arith))
 
 -- ---- the whole find
 

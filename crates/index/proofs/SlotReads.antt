@@ -35,10 +35,9 @@ module _ (packed : Bool) (buckets : ℕ) (index : List ℕ) (s : ℕ) where
         rw (le-leb _ _ enough, lt-ltb _ _ below)
 
 -- of the word layout, its word
-pub word-in : (buckets : ℕ) (index : List ℕ) (s : ℕ) → getD (slotsOf false buckets index (s / 8)) (s % 8) Empty ≡ wordSlot (getD index s 0)
+pub word-in : (buckets : ℕ) (index : List ℕ) (b j : ℕ) → j < 8 → getD (slotsOf false buckets index b) j Empty ≡ wordSlot (getD index (b * 8 + j) 0)
 unfolding wordSlot
-word-in buckets index s =
-    let small : s % 8 < 8 = omega arith in
-    let whole : 8 * (s / 8) + s % 8 ≡ s = omega arith in
-    List·getD-map wordSlot (take 8 (drop (8 * (s / 8)) index)) (s % 8) 0
-    ∙ ap wordSlot (getD-take 8 (drop (8 * (s / 8)) index) (s % 8) 0 small ∙ getD-drop (8 * (s / 8)) index (s % 8) 0 ∙ ap (λ (i : ℕ). getD index i 0) whole)
+word-in buckets index b j small =
+    let whole : 8 * b + j ≡ b * 8 + j = omega arith in
+    List·getD-map wordSlot (take 8 (drop (8 * b) index)) j 0
+    ∙ ap wordSlot (getD-take 8 (drop (8 * b) index) j 0 small ∙ getD-drop (8 * b) index j 0 ∙ ap (λ (i : ℕ). getD index i 0) whole)

@@ -1,40 +1,40 @@
--- The loop over the candidates of a packed bucket. Assumes nothing.
-use mathlib.Core.Path.{_≡_, refl, sym, ap, ap₂, _∙_}
+-- The loop over the candidates of a bucket. Assumes nothing.
+use mathlib.Core.Path.{_≡_, refl, sym, ap, _∙_}
 use mathlib.Core.Bool.{Bool, true, false}
-use mathlib.Core.List.{List, [], _∷_, map}
-use Prim.Native.Nat.{ℕ, zero, suc, _+_, _*_, _-_, _/_, _%_, _^_, _≤_, _<_}
+use mathlib.Core.List.{List}
+use Prim.Native.Nat.{ℕ, _+_, _*_, _-_, _/_, _≤_, _<_}
 use native.Mathlib.Nat.{zero-add}
 use native.Mathlib.Omega.{arith}
 use lib.Dec.{ltb}
-use lib.Bits.{bitAnd, bitXor}
+use lib.Bits.{bitAnd}
 use lib.Count.{trailingZeros}
-use lib.ListN.{length, take, drop, getD, length-map}
-use borrow.Author.Tests.{lt-ltb, le-ltb}
+use lib.ListN.{length, take, drop, getD, length-map, length-drop}
+use lib.Seq.{length-take-le}
 use Rattle.hash_parts.specs.Choice.{pick}
 use Rattle.hash_parts.specs.Hash.{controlTag, secondaryTag}
-use Rattle.hash_parts.specs.ZeroBytes.{bytesOf, firstMark, marks, restMarks, visited, zeroBytes, zeroMarks}
+use Rattle.hash_parts.specs.ZeroBytes.{bytesOf, firstMark, marks, restMarks, visited}
 use Rattle.hash_parts.proofs.Visit.{first-right, first-lt, rest-right, rest-length, visit-first, visit-none}
-use Rattle.hash_parts.proofs.ZeroBytes.{lo}
 use Rattle.records.specs.declared.record.RecordAnswer.{RecordAnswer}
-use Rattle.index.specs.Find.{Look, look, looksFrom, stepOf, sweep, hasEmpty, ended, sweptOut}
-use Rattle.index.specs.Packed.{packedBucket, packedSlotsOf, wordBytes}
-use Rattle.index.specs.Slot.{packedTag}
+use Rattle.index.specs.Find.{Look, look, looksFrom, stepOf, scan, sweep, hasEmpty, inBucket, slotsOf, hasTag, tagged, passedOver, fromOn, candidates}
+use Rattle.index.specs.Packed.{packedBucket, wordBytes}
+use Rattle.index.specs.Slot.{packedTag, keptTag, wordSlot}
 use Rattle.index.specs.declared.find.FindStep.{FindStep}
 use Rattle.index.specs.declared.find.FindStep.the-variants.{Hit, Stop, Next}
+use Rattle.index.specs.declared.slot.IndexSlot.{IndexSlot}
 use Rattle.index.specs.declared.slot.IndexSlot.the-variants.{Empty}
 use Rattle.index.proofs.Bytes.{length-bytes}
-use Rattle.index.proofs.Candidates.{candidates-are, empties-are, hasTag, repeated, sweep-visits, empty-marked}
+use Rattle.index.proofs.Candidates.{sweep-visits, scan-visits, empty-marked, from-length}
 use Rattle.index.proofs.Finds.{andThen, then-ends}
 
--- the places that m marks are visited, and what they say is what the slots say
-pub record Visiting (slots : List Look) (says : ℕ → FindStep) (m : ℕ) : Type 0 where
+-- the places that m marks are visited, and what they say is the answer
+pub record Visiting (answer : FindStep) (says : ℕ → FindStep) (m : ℕ) : Type 0 where
   pub places : List Bool
   pub marked : m ≡ marks places
   pub eight : length places ≡ 8
-  pub same : sweep slots ≡ visited (λ j after. andThen (says j) after) places 0 Next
+  pub same : answer ≡ visited (λ j after. andThen (says j) after) places 0 Next
 
-module _ {slots : List Look} {says : ℕ → FindStep} {m : ℕ} (v : Visiting slots says m) where
-  pub visiting-ends : m ≡ 0 → sweep slots ≡ Next
+module _ {answer : FindStep} {says : ℕ → FindStep} {m : ℕ} (v : Visiting answer says m) where
+  pub visiting-ends : m ≡ 0 → answer ≡ Next
   visiting-ends z = v .same ∙ visit-none (λ j after. andThen (says j) after) (v .places) 0 Next (sym (v .marked) ∙ z)
 
   module _ (some : 0 < m) where
@@ -50,16 +50,16 @@ module _ {slots : List Look} {says : ℕ → FindStep} {m : ℕ} (v : Visiting s
     pub visiting-below : trailingZeros 64 m / 8 < 8
     visiting-below = omega (arith, lowest-is, first-lt (v .places) positive, v .eight)
 
-    step : sweep slots ≡ andThen (says (trailingZeros 64 m / 8)) (visited (λ j after. andThen (says j) after) (restMarks (v .places)) 0 Next)
+    step : answer ≡ andThen (says (trailingZeros 64 m / 8)) (visited (λ j after. andThen (says j) after) (restMarks (v .places)) 0 Next)
     step =
         v .same
         ∙ visit-first (λ j after. andThen (says j) after) (v .places) 0 Next positive
         ∙ ap (λ (j : ℕ). andThen (says j) (visited (λ j after. andThen (says j) after) (restMarks (v .places)) 0 Next)) (zero-add (firstMark (v .places)) ∙ sym lowest-is)
 
-    pub visiting-hit : (says (trailingZeros 64 m / 8) ≡ Next → ⊥) → sweep slots ≡ says (trailingZeros 64 m / 8)
+    pub visiting-hit : (says (trailingZeros 64 m / 8) ≡ Next → ⊥) → answer ≡ says (trailingZeros 64 m / 8)
     visiting-hit n = step ∙ then-ends (says (trailingZeros 64 m / 8)) _ n
 
-    pub visiting-on : says (trailingZeros 64 m / 8) ≡ Next → Visiting slots says (bitAnd m (m - 1))
+    pub visiting-on : says (trailingZeros 64 m / 8) ≡ Next → Visiting answer says (bitAnd m (m - 1))
     visiting-on e =
         record {
           places = restMarks (v .places);
@@ -70,45 +70,57 @@ module _ {slots : List Look} {says : ℕ → FindStep} {m : ℕ} (v : Visiting s
 
 -- ---- a bucket
 
-module _ (read : ℕ → RecordAnswer) (arena key : List ℕ) (tag buckets : ℕ) (index : List ℕ) (bucket : ℕ) where
+module _ (read : ℕ → RecordAnswer) (arena key : List ℕ) (packed : Bool) (tag buckets : ℕ) (index : List ℕ) (bucket : ℕ) where
   abbrev pub slots : List Look
-  slots = looksFrom read arena key (packedTag tag) (8 * bucket) (packedBucket buckets index bucket)
+  slots = looksFrom read arena key (keptTag packed tag) (8 * bucket) (slotsOf packed buckets index bucket)
 
   abbrev pub says : ℕ → FindStep
-  says j = stepOf (look read arena key (packedTag tag) (8 * bucket + j) (getD (packedBucket buckets index bucket) j Empty))
+  says j = stepOf (look read arena key (keptTag packed tag) (8 * bucket + j) (getD (slotsOf packed buckets index bucket) j Empty))
 
-  abbrev control : ℕ
-  control = getD index bucket 0
+  -- what the slots of the tag say
+  abbrev pub searched : FindStep
+  searched = pick packed (sweep slots) (scan slots)
 
-  repeated-is : controlTag tag * 0x0101010101010101 ≡ repeated 8 (controlTag tag)
-  repeated-is = omega arith
-
-  pub visiting-begins : (c m : ℕ) → c ≡ control → c < 2 ^ 64 → m ≡ zeroMarks (bitXor (bitAnd c (lo 8)) (controlTag tag * 0x0101010101010101)) → Visiting slots says m
-  unfolding zeroMarks packedBucket
-  visiting-begins c m e small f =
-      let cs : List ℕ = bytesOf 8 control in
+module _ (read : ℕ → RecordAnswer) (arena key : List ℕ) where
+  pub visiting-begins : (packed : Bool) (tag buckets : ℕ) (index : List ℕ) (bucket m : ℕ) → 8 * bucket + 8 ≤ length index → m ≡ marks (candidates packed tag index bucket)
+      → Visiting (searched read arena key packed tag buckets index bucket) (says read arena key packed tag buckets index bucket) m
+  unfolding packedBucket
+  visiting-begins true tag buckets index bucket m room e =
+      let cs : List ℕ = bytesOf 8 (getD index bucket 0) in
+      let g : ℕ → FindStep = says read arena key true tag buckets index bucket in
       record {
-        places = map (hasTag (controlTag tag)) cs;
-        marked = f ∙ ap marks (ap (λ (x : ℕ). zeroBytes (bitXor (bitAnd c (lo 8)) x)) repeated-is ∙ candidates-are c (controlTag tag) small (omega arith) ∙ ap (λ (x : ℕ). map (hasTag (controlTag tag)) (bytesOf 8 x)) e);
-        eight = length-map cs (hasTag (controlTag tag)) ∙ length-bytes 8 control;
-        same = sweep-visits read arena key (controlTag tag) (secondaryTag tag) (omega arith) (omega arith) cs (wordBytes (take 7 (drop (buckets + 7 * bucket) index))) (8 * bucket) 0 says (λ j h. ap says (zero-add j));
+        places = tagged (controlTag tag) (getD index bucket 0);
+        marked = e;
+        eight = length-map cs (hasTag (controlTag tag)) ∙ length-bytes 8 (getD index bucket 0);
+        same = sweep-visits read arena key (controlTag tag) (secondaryTag tag) (omega arith) (omega arith) cs (wordBytes (take 7 (drop (buckets + 7 * bucket) index))) (8 * bucket) 0 g (λ j h. ap g (zero-add j));
+      }
+  visiting-begins false tag buckets index bucket m room e =
+      let l : List IndexSlot = slotsOf false buckets index bucket in
+      let g : ℕ → FindStep = says read arena key false tag buckets index bucket in
+      let n : length l ≡ 8 = length-map (take 8 (drop (8 * bucket) index)) wordSlot ∙ length-take-le 8 (drop (8 * bucket) index) (omega (arith, length-drop (8 * bucket) index)) in
+      record {
+        places = fromOn (passedOver tag l) 8;
+        marked = e;
+        eight = from-length (passedOver tag l) 8;
+        same =
+            scan-visits read arena key tag g l (8 * bucket) 0 (λ j h. ap g (zero-add j))
+            ∙ ap (λ (k : ℕ). visited (λ j after. andThen (g j) after) (fromOn (passedOver tag l) k) 0 Next) n;
       }
 
-  -- an empty slot ends the walk
-  empties : (c : ℕ) → c ≡ control → c < 2 ^ 64 → hasEmpty slots ≡ ltb 0 (zeroMarks (bitAnd c (lo 8)))
-  unfolding zeroMarks packedBucket
-  empties c e small =
-      empty-marked read arena key (packedTag tag) (bytesOf 8 control) (wordBytes (take 7 (drop (buckets + 7 * bucket) index))) (8 * bucket)
-      ∙ ap (λ (x : List Bool). ltb 0 (marks x)) (sym (empties-are c small ∙ ap (λ (x : ℕ). map (hasTag 0) (bytesOf 8 x)) e))
+  -- a step that does not go on
+  pub bucket-step : (packed : Bool) (tag buckets : ℕ) (index : List ℕ) (bucket : ℕ) (s : FindStep) → searched read arena key packed tag buckets index bucket ≡ s → (s ≡ Next → ⊥)
+      → s ≡ inBucket packed (slots read arena key packed tag buckets index bucket)
+  bucket-step false tag buckets index bucket s e n = sym e
+  bucket-step true tag buckets index bucket (Hit r) e n = rw e
+  bucket-step true tag buckets index bucket Stop e n = rw e
+  bucket-step true tag buckets index bucket Next e n = absurd (n refl)
 
-  pub swept-step : (s : FindStep) → sweep slots ≡ s → (s ≡ Next → ⊥) → s ≡ sweptOut slots
-  swept-step (Hit r) e n = rw e
-  swept-step Stop e n = rw e
-  swept-step Next e n = absurd (n refl)
-
-  module _ (c : ℕ) (e : c ≡ control) (small : c < 2 ^ 64) (on : sweep slots ≡ Next) where
-    pub swept-stop : 0 < zeroMarks (bitAnd c (lo 8)) → Stop ≡ sweptOut slots
-    swept-stop h = rw (on, empties c e small ∙ lt-ltb _ _ h)
-
-    pub swept-next : zeroMarks (bitAnd c (lo 8)) ≤ 0 → Next ≡ sweptOut slots
-    swept-next h = rw (on, empties c e small ∙ le-ltb _ _ h)
+  -- none is of the key: an empty slot ends the walk in the packed layout
+  pub bucket-ends : (packed : Bool) (tag buckets : ℕ) (index : List ℕ) (bucket : ℕ) (gap : Bool) → gap ≡ pick packed (ltb 0 (marks (tagged 0 (getD index bucket 0)))) false
+      → searched read arena key packed tag buckets index bucket ≡ Next → pick gap Stop Next ≡ inBucket packed (slots read arena key packed tag buckets index bucket)
+  unfolding packedBucket
+  bucket-ends false tag buckets index bucket gap g e = rw (g, e)
+  bucket-ends true tag buckets index bucket gap g e =
+      let has : hasEmpty (slots read arena key true tag buckets index bucket) ≡ gap
+      = empty-marked read arena key (packedTag tag) (bytesOf 8 (getD index bucket 0)) (wordBytes (take 7 (drop (buckets + 7 * bucket) index))) (8 * bucket) ∙ sym g in
+      rw (e, has)

@@ -7,6 +7,7 @@ use crate::slot::word_slot;
 use crate::view::SegmentView;
 use crate::view::record_at_location;
 use crate::word::BUCKET_SLOTS;
+use crate::word::index_tag;
 use hash_parts::hash::hash_tag;
 use hash_parts::hash::packed_control_tag;
 use hash_parts::hash::packed_secondary_tag;
@@ -19,13 +20,17 @@ use records::record::RecordRef;
 use records::record::same_bytes;
 use records::record::value_slice;
 ghost use mathlib.Core.Path.{_≡_};
+ghost use mathlib.Core.Bool.{false};
 ghost use mathlib.Core.List.{map};
 ghost use Prim.Native.Nat.{_+_, _*_, _<_, _≤_};
+ghost use lib.Dec.{ltb};
 ghost use lib.ListN.{drop, getD, length, take};
-ghost use Rattle.index.specs.Find.{endsAt, findIn, inBucket, look, looksFrom, scan, slotAt, slotsOf, stepOf, sweptOut};
+ghost use Rattle.hash_parts.specs.Choice.{pick};
+ghost use Rattle.hash_parts.specs.ZeroBytes.{marks};
+ghost use Rattle.index.specs.Find.{candidates, endsAt, findIn, fromOn, inBucket, look, looksFrom, passedOver, slotAt, slotsOf, stepOf, tagged};
 ghost use Rattle.index.specs.Filter.{filterHas};
 ghost use Rattle.index.specs.Packed.{packedBucket};
-ghost use Rattle.index.specs.Slot.{packedTag, keptTag, wordSlot};
+ghost use Rattle.index.specs.Slot.{keptTag, wordSlot};
 ghost use Rattle.index.specs.View.{recordIn};
 ghost use Rattle.hash_parts.specs.Hash.{tagOf};
 ghost use Rattle.index.specs.declared.slot.IndexSlot.the-variants as slot;
@@ -33,6 +38,8 @@ ghost use Rattle.index.specs.declared.slot.IndexSlot.the-variants as slo
 const PACKED_CONTROL_TAG_BITS: u64 = 0x7f7f_7f7f_7f7f_7f7f;
 
 const BYTE_LOW_BITS: u64 = 0x0101_0101_0101_0101;
+
+const BYTE_HIGH_BITS: u64 = 0x8080_8080_8080_8080;
 
 // A record that was found, and the slot that names it.
 pub struct FoundRecord {
@@ -53,7 +60,8 @@ pub enum FindStep {
 }
 
 // The first record of a key on the walk of its hash. The filter is asked once, after the second
-// bucket.
+// bucket. Its hash is handed on by the first: what the filter computes of it would else be computed
+// ahead of the walk, for every lookup.
 pub fn find_record(
     view: SegmentView,
     packed: bool,
@@ -76,6 +84,7 @@ pub fn find_record(
     let mut bucket = reduce_hash(hash, buckets);
     let mut left = buckets;
     let mut probe: usize = 0;
+    let mut filter_hash: u64 = 0;
     while left > 0 {
         let step = find_in_bucket(
             view,
@@ -95,9 +104,10 @@ pub fn find_record(
         let FindStep::Next = step else {
             return FindAnswer::Nothing;
         };
-        if ends_at_filter(probe, filter, filter_words, hash) {
+        if ends_at_filter(probe, filter, filter_words, filter_hash) {
             return FindAnswer::Nothing;
         }
+        filter_hash = hash;
         probe += 1;
         bucket = next_bucket(bucket, buckets);
         left -= 1;
@@ -115,7 +125,8 @@ fn ends_at_filter(probe: usize, filter: &[u64], filter_words: usize, hash: u64) 
     !negative_filter_may_contain(filter, filter_words, hash)
 }
 
-// The slots of a bucket, in either layout.
+// The candidates of a bucket, the lowest first; then an empty slot ends a walk of the packed layout.
+// Both layouts share the loop: so there is one place where a record is read, and it is inlined.
 fn find_in_bucket(
     view: SegmentView,
     packed: bool,
@@ -131,53 +142,27 @@ fn find_in_bucket(
     requires { ⌜ (bucket < buckets) × (8 * buckets ≤ length (now index)) ⌝ }
     ensures { λ r. ⌜ r ≡ inBucket packed (looksFrom (recordIn view (now (arena .entry)) (now (starts .entry)) (now (lengths .entry))) (now (arena .entry)) (now (key .entry)) (keptTag packed tag) (8 * bucket) (slotsOf packed buckets (now (index .entry)) bucket)) ⌝ }
 {
-    if packed {
-        return find_in_packed(
-            view,
-            index,
-            buckets,
-            bucket,
-            starts,
-            lengths,
-            arena,
-            key,
-            tag,
-        );
-    }
-    find_in_words(view, index, bucket, starts, lengths, arena, key, tag)
-}
-
-fn find_in_words(
-    view: SegmentView,
-    index: &[u64],
-    bucket: usize,
-    starts: &[u64],
-    lengths: &[u64],
-    arena: &[u8],
-    key: &[u8],
-    tag: u64,
-) -> FindStep
-    requires { ⌜ 8 * bucket + 8 ≤ length (now index) ⌝ }
-    ensures { λ r. ⌜ r ≡ scan (looksFrom (recordIn view (now (arena .entry)) (now (starts .entry)) (now (lengths .entry))) (now (arena .entry)) (now (key .entry)) tag (8 * bucket) (map wordSlot (take 8 (drop (8 * bucket) (now (index .entry)))))) ⌝ }
-{
-    let mut slot = bucket * BUCKET_SLOTS;
-    let mut left = BUCKET_SLOTS;
-    while left > 0 {
+    let kept = kept_tag(packed, tag);
+    let mut candidates = candidate_marks(index, packed, bucket, tag);
+    while candidates != 0 {
+        let offset = lowest_marked_byte(candidates);
         let step = find_in_slot(
             view,
             starts,
             lengths,
             arena,
             key,
-            tag,
-            slot,
-            word_slot(index[slot]),
+            kept,
+            bucket * BUCKET_SLOTS + offset,
+            bucket_slot(index, packed, buckets, bucket, offset),
         );
         let FindStep::Next = step else {
             return step;
         };
-        slot += 1;
-        left -= 1;
+        candidates = without_lowest_mark(candidates);
+    }
+    if has_empty(index, packed, bucket) {
+        return FindStep::Stop;
     }
     FindStep::Next
 }
@@ -211,76 +196,76 @@ fn find_in_slot(
     FindStep::Next
 }
 
-// All candidates of the bucket, the lowest first; then an empty slot ends the walk.
-fn find_in_packed(
-    view: SegmentView,
-    index: &[u64],
-    buckets: usize,
-    bucket: usize,
-    starts: &[u64],
-    lengths: &[u64],
-    arena: &[u8],
-    key: &[u8],
-    tag: u64,
-) -> FindStep
-    requires { ⌜ (bucket < buckets) × (8 * buckets ≤ length (now index)) ⌝ }
-    ensures { λ r. ⌜ r ≡ sweptOut (looksFrom (recordIn view (now (arena .entry)) (now (starts .entry)) (now (lengths .entry))) (now (arena .entry)) (now (key .entry)) (packedTag tag) (8 * bucket) (packedBucket buckets (now (index .entry)) bucket)) ⌝ }
+// What a layout keeps of a tag.
+fn kept_tag(packed: bool, tag: u64) -> u64
+    ensures { λ r. ⌜ r ≡ keptTag packed tag ⌝ }
 {
-    let tags = index[bucket] & PACKED_CONTROL_TAG_BITS;
-    let repeated_tag = (packed_control_tag(tag) as u64) * BYTE_LOW_BITS;
-    let mut candidates = zero_byte_high_bits(tags ^ repeated_tag);
-    while candidates != 0 {
-        let offset = lowest_marked_byte(candidates);
-        let step = find_in_packed_slot(
-            view,
-            index,
-            buckets,
-            bucket,
-            offset,
-            starts,
-            lengths,
-            arena,
-            key,
-            tag,
-        );
-        let FindStep::Next = step else {
-            return step;
-        };
-        candidates = without_lowest_mark(candidates);
+    if packed {
+        return (packed_control_tag(tag) as u64) + 128 * (packed_secondary_tag(tag) as u64);
     }
-    if zero_byte_high_bits(tags) != 0 {
-        return FindStep::Stop;
-    }
-    FindStep::Next
+    tag
 }
 
-fn find_in_packed_slot(
-    view: SegmentView,
-    index: &[u64],
-    buckets: usize,
-    bucket: usize,
-    offset: usize,
-    starts: &[u64],
-    lengths: &[u64],
-    arena: &[u8],
-    key: &[u8],
-    tag: u64,
-) -> FindStep
-    requires { ⌜ (bucket < buckets) × (8 * buckets ≤ length (now index)) × (offset < 8) ⌝ }
-    ensures { λ r. ⌜ r ≡ stepOf (look (recordIn view (now (arena .entry)) (now (starts .entry)) (now (lengths .entry))) (now (arena .entry)) (now (key .entry)) (packedTag tag) (8 * bucket + offset) (getD (packedBucket buckets (now (index .entry)) bucket) offset slot.Empty)) ⌝ }
+// The slots of a bucket that may hold the tag, as marks on the bytes of a word.
+fn candidate_marks(index: &[u64], packed: bool, bucket: usize, tag: u64) -> u64
+    requires { ⌜ 8 * bucket + 8 ≤ length (now index) ⌝ }
+    ensures { λ r. ⌜ r ≡ marks (candidates packed tag (now (index .entry)) bucket) ⌝ }
 {
-    let content = packed_slot_at(index, buckets, bucket, offset);
-    let kept = (packed_control_tag(tag) as u64) + 128 * (packed_secondary_tag(tag) as u64);
-    find_in_slot(
-        view,
-        starts,
-        lengths,
-        arena,
-        key,
-        kept,
-        bucket * BUCKET_SLOTS + offset,
-        content,
-    )
+    if packed {
+        return tagged_bytes(index[bucket], packed_control_tag(tag) as u64);
+    }
+    marks_from(passed_over(index, bucket, tag))
+}
+
+// The bytes of a control word that have a tag.
+fn tagged_bytes(control: u64, tag: u64) -> u64
+    requires { ⌜ tag < 128 ⌝ }
+    ensures { λ r. ⌜ r ≡ marks (tagged tag control) ⌝ }
+{
+    let tags = control & PACKED_CONTROL_TAG_BITS;
+    let repeated_tag = tag * BYTE_LOW_BITS;
+    zero_byte_high_bits(tags ^ repeated_tag)
+}
+
+// The slots of a bucket of words before the first that is empty or has the tag.
+fn passed_over(index: &[u64], bucket: usize, tag: u64) -> usize
+    requires { ⌜ 8 * bucket + 8 ≤ length (now index) ⌝ }
+    ensures { λ r. ⌜ (r ≡ passedOver tag (map wordSlot (take 8 (drop (8 * bucket) (now (index .entry)))))) × (r ≤ 8) ⌝ }
+{
+    let mut offset = 0;
+    while offset < BUCKET_SLOTS {
+        let word = index[bucket * BUCKET_SLOTS + offset];
+        if word == 0 {
+            return offset;
+        }
+        if index_tag(word) == tag {
+            return offset;
+        }
+        offset += 1;
+    }
+    offset
+}
+
+// Marks on all slots from one on.
+fn marks_from(slot: usize) -> u64
+    requires { ⌜ slot ≤ 8 ⌝ }
+    ensures { λ r. ⌜ r ≡ marks (fromOn slot 8) ⌝ }
+{
+    if slot == BUCKET_SLOTS {
+        return 0;
+    }
+    BYTE_HIGH_BITS << (slot * 8)
+}
+
+// Whether a bucket of the packed layout has an empty slot.
+fn has_empty(index: &[u64], packed: bool, bucket: usize) -> bool
+    requires { ⌜ bucket < length (now index) ⌝ }
+    ensures { λ r. ⌜ r ≡ pick packed (ltb 0 (marks (tagged 0 (getD (now (index .entry)) bucket 0)))) false ⌝ }
+{
+    if packed {
+        return tagged_bytes(index[bucket], 0) > 0;
+    }
+    false
 }
 
 // A slot of a finished index, in either layout; empty past its buckets, and where the area holds
@@ -294,10 +279,30 @@ pub fn slot_at(index: &[u64], packed: bool, buckets: usize, slot: usize) -> Inde
     if slot / BUCKET_SLOTS >= buckets {
         return IndexSlot::Empty;
     }
+    bucket_slot(
+        index,
+        packed,
+        buckets,
+        slot / BUCKET_SLOTS,
+        slot % BUCKET_SLOTS,
+    )
+}
+
+// A slot of a bucket, in either layout.
+fn bucket_slot(
+    index: &[u64],
+    packed: bool,
+    buckets: usize,
+    bucket: usize,
+    offset: usize,
+) -> IndexSlot
+    requires { ⌜ (bucket < buckets) × (8 * buckets ≤ length (now index)) × (offset < 8) ⌝ }
+    ensures { λ r. ⌜ r ≡ getD (slotsOf packed buckets (now (index .entry)) bucket) offset slot.Empty ⌝ }
+{
     if packed {
-        return packed_slot_at(index, buckets, slot / BUCKET_SLOTS, slot % BUCKET_SLOTS);
+        return packed_slot_at(index, buckets, bucket, offset);
     }
-    word_slot(index[slot])
+    word_slot(index[bucket * BUCKET_SLOTS + offset])
 }
 
 // A slot of the packed layout. The reference of slot 7 ends in the word that slot 6's begins.

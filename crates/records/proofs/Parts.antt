@@ -24,6 +24,7 @@ use Rattle.records.specs.Uleb128.{uleb128}
 use Rattle.records.specs.Varint.{readVarint}
 use Rattle.records.specs.declared.record.RecordAnswer.the-variants.{Read, Unreadable}
 use Rattle.records.specs.declared.varint.Varint.the-variants as varint
+use Rattle.records.proofs.Prefix.{read-one}
 
 -- ---- the deadline's bytes
 
@@ -108,3 +109,10 @@ module _ (e : SegmentExpiry) (s : List ℕ) (at : ℕ) where
     pub at-is : (value q : ℕ) → readVarint s p ≡ varint.Value value q → recordAt e s at ≡ recordOf e s at key value q
     unfolding recordAt
     at-is value q g = ap (afterKey e s at) f ∙ ap (afterValue e s at key) g
+
+  -- prefixes of one byte each
+  pub at-short : at + 2 ≤ length s → getD s at 0 < 128 → getD s (at + 1) 0 < 128 → recordAt e s at ≡ recordOf e s at (getD s at 0) (getD s (at + 1) 0) (at + 2)
+  at-short h k v =
+      let n : at + 1 + 1 ≡ at + 2 = omega arith in
+      at-is (getD s at 0) (at + 1) (read-one s at (omega arith) k) (getD s (at + 1) 0) (at + 1 + 1) (read-one s (at + 1) (omega arith) v)
+      ∙ ap (recordOf e s at (getD s at 0) (getD s (at + 1) 0)) n

@@ -152,3 +152,10 @@ part-small value scale left b h p e l =
     let g : b * scale ≤ 127 * scale = mul-le-mul-right scale (omega arith) in
     let k : scale * 128 * 1 ≤ scale * 128 * 128 ^ (left - 1) = mul-le-mul-left (scale * 128) (one-le-pow (left - 1) 128 (lit< tt)) in
     (g, omega arith, omega (arith, k, scale-next scale left p e))
+
+-- a prefix of one byte is that byte
+pub read-one : (s : List ℕ) (at : ℕ) → at < length s → getD s at 0 < 128 → readVarint s at ≡ Value (getD s at 0) (at + 1)
+read-one s at h l =
+    let b : ℕ = getD s at 0 in
+    let e : 0 + b * 1 ≡ b = omega arith in
+    answer-start s at ∙ ap (answer 0 1 at 9) (byte-last s at b refl h l) ∙ answer-last 0 1 at b 9 (omega arith) ∙ ap (λ (x : ℕ). Value x (at + 1)) e

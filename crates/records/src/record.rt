@@ -7,6 +7,7 @@ use crate::varint::varint_bytes;
 use hash_parts::error::SegmentCacheBuildError;
 use hash_parts::setting::SegmentExpiry;
 ghost use mathlib.Core.Path.{_≡_};
+ghost use mathlib.Core.Bool.{true};
 ghost use Prim.Native.Nat.{_+_, _<_, _≤_};
 ghost use lib.ListN.{drop, getD, length};
 ghost use Rattle.hash_parts.specs.Setting.{bytesPerRecord};
@@ -135,8 +136,41 @@ fn copy_over(out: &mut [u8], bytes: &[u8])
     }
 }
 
-// The record at a position.
+// The record at a position. Most prefixes take one byte: where both do they are read at once.
 pub fn record_at(records: &[u8], expiry: SegmentExpiry, location: usize) -> RecordAnswer
+    ensures { λ r. ⌜ r ≡ recordAt expiry (now (records .entry)) location ⌝ }
+{
+    if one_byte_prefixes(records, location) {
+        return record_at_lengths(
+            records,
+            expiry,
+            location,
+            location + 2,
+            byte_at(records, location) as usize,
+            byte_at(records, location + 1) as usize,
+        );
+    }
+    record_at_prefixes(records, expiry, location)
+}
+
+fn one_byte_prefixes(records: &[u8], location: usize) -> bool
+    ensures { λ r. ⌜ (r ≡ true → (location + 2 ≤ length (now (records .entry))) × (getD (now (records .entry)) location 0 < 128) × (getD (now (records .entry)) (location + 1) 0 < 128)) ⌝ }
+{
+    let len = records.len();
+    if len < 2 {
+        return false;
+    }
+    if len - 2 < location {
+        return false;
+    }
+    if byte_at(records, location) >= 128 {
+        return false;
+    }
+    byte_at(records, location + 1) < 128
+}
+
+// The same with prefixes of any length.
+fn record_at_prefixes(records: &[u8], expiry: SegmentExpiry, location: usize) -> RecordAnswer
     ensures { λ r. ⌜ r ≡ recordAt expiry (now (records .entry)) location ⌝ }
 {
     let Varint::Value(key_len, key_prefix) = read_varint(records, location) else {

@@ -9,7 +9,8 @@ use native.Mathlib.Omega.{arith}
 use borrow.Author.Tests.{eq-eqb, ne-eqb, eqb-true, eqb-false}
 use lib.Dec.{eqb}
 use lib.ListN.{length, getD, take, drop, length-append, length-take, drop-of-length-le, List·getD-append, List·getD-eq-default}
-use lib.Pow.{pow-pos}
+use lib.Count.{ones, onesIn, ones-step}
+use lib.Pow.{pow-pos, mod-pow-add}
 use lib.Seq.{drop-cons, take-append-le, take-append-add, getD-append-add}
 use Rattle.hash_parts.specs.Choice.{pick}
 use Rattle.records.specs.Area.{part}
@@ -61,12 +62,9 @@ chosen-end flags words i h = rw (drop-of-length-le flags h)
 
 -- ---- the set bits of a word
 
-pub bits-step : (n w : ℕ) → 0 < n → countTrue (bitsOf n w) ≡ w % 2 + countTrue (bitsOf (n - 1) (w / 2))
+bits-step : (n w : ℕ) → countTrue (bitsOf (suc n) w) ≡ w % 2 + countTrue (bitsOf n (w / 2))
 unfolding bitsOf
-bits-step zero w h = absurd (omega arith)
-bits-step (suc n) w h =
-    let e : suc n - 1 ≡ n = omega arith in
-    go (eqb (w % 2) 1) refl ∙ rw e
+bits-step n w = go (eqb (w % 2) 1) refl
   where
     go : (t : Bool) → eqb (w % 2) 1 ≡ t → pick t (suc (countTrue (bitsOf n (w / 2)))) (countTrue (bitsOf n (w / 2))) ≡ w % 2 + countTrue (bitsOf n (w / 2))
     go true e = omega (arith, eqb-true (w % 2) 1 e)
@@ -77,14 +75,16 @@ bits-step (suc n) w h =
         one-bit : (w % 2 ≡ 1 → ⊥) → w % 2 ≡ 0
         one-bit n = omega arith
 
-pub bits-zero : (w : ℕ) → countTrue (bitsOf 0 w) ≡ 0
-unfolding bitsOf
-bits-zero w = refl
-
-pub bits-none : (n : ℕ) → countTrue (bitsOf n 0) ≡ 0
-unfolding bitsOf
-bits-none zero = refl
-bits-none (suc n) = bits-none n
+pub bits-ones : (n w : ℕ) → ones (w % 2 ^ n) ≡ countTrue (bitsOf n w)
+unfolding bitsOf ones onesIn
+bits-ones zero w =
+    let e : w % 2 ^ 0 ≡ 0 = omega arith in
+    ap ones e
+bits-ones (suc n) w =
+    let e : w % 2 ^ suc n ≡ w / 2 % 2 ^ n * 2 + w % 2 = ap (λ (k : ℕ). w % 2 ^ k) (sym (add-one n)) ∙ mod-pow-add w n 1 in
+    let low : w % 2 ^ suc n % 2 ≡ w % 2 = omega arith in
+    let rest : w % 2 ^ suc n / 2 ≡ w / 2 % 2 ^ n = omega arith in
+    ones-step (w % 2 ^ suc n) ∙ ap₂ (λ (x y : ℕ). x + ones y) low rest ∙ ap (λ (x : ℕ). w % 2 + x) (bits-ones n (w / 2)) ∙ sym (bits-step n w)
 
 pub bits-length : (n w : ℕ) → length (bitsOf n w) ≡ n
 unfolding bitsOf

@@ -89,20 +89,13 @@ fn bit_set(word: u64, at: usize) -> bool
 
 // The set bits among the lowest bits of a word, so many.
 fn set_bits(word: u64, count: usize) -> usize
+    requires { ⌜ count ≤ 64 ⌝ }
     ensures { λ r. ⌜ (r ≡ countTrue (bitsOf count word)) × (r ≤ count) ⌝ }
 {
-    let mut rest = word;
-    let mut left = count;
-    let mut found = 0;
-    while left > 0 {
-        if rest == 0 {
-            return found;
-        }
-        found += (rest % 2) as usize;
-        rest /= 2;
-        left -= 1;
+    if count == WORD_BITS {
+        return u64::count_ones(word) as usize;
     }
-    found
+    u64::count_ones(word % (1u64 << count)) as usize
 }
 
 // The word of 64 flags from one on; those past the last count as 0.

@@ -19,18 +19,18 @@ use Rattle.index.specs.declared.find.FindStep.{FindStep}
 use Rattle.index.specs.declared.find.FindStep.the-variants.{Hit, Stop, Next}
 use Rattle.index.specs.declared.view.SegmentView.{SegmentView}
 use Rattle.index.proofs.Walks.{next-within}
-use Rattle.index.proofs.Finds.{bucketsFound, found-first, found-end, found-hit, found-stop, found-filtered, found-on, find-short, find-walks, Looks, stops}
+use Rattle.index.proofs.Finds.{bucketsFound, found-first, found-end, found-hit, found-stop, found-filtered, found-on, filter-late, find-short, find-walks, Looks, stops}
 use Rattle.index.proofs.find.find_record.Statement.{statement}
 use Rattle.index.proofs.find.find_record.Tie as tie
 
 abbrev Inv-loop : tie.InvT-loop
-Inv-loop view packed index buckets filter filter-words starts lengths arena key hash tag bucket₀ left₀ probe₀ bucket left probe =
+Inv-loop view packed index buckets filter filter-words starts lengths arena key hash tag bucket₀ left₀ probe₀ filter-hash₀ bucket left probe filter-hash =
     (bucket ≤ buckets - 1) × (left ≤ buckets)
     × (findIn view packed index buckets filter filter-words starts lengths arena key hash ≡ bucketsFound packed (filterHas filter filter-words hash) (Looks view packed index buckets starts lengths arena key hash) buckets probe left bucket)
-    × (probe + left ≡ buckets)
+    × (probe + left ≡ buckets) × (0 < probe → filter-hash ≡ hash)
 
 abbrev μ-loop : tie.MeasureT-loop
-μ-loop view packed index buckets filter filter-words starts lengths arena key hash tag bucket₀ left₀ probe₀ bucket left probe = left
+μ-loop view packed index buckets filter filter-words starts lengths arena key hash tag bucket₀ left₀ probe₀ filter-hash₀ bucket left probe filter-hash = left
 
 returns : tie.Need-returns Inv-loop μ-loop
 returns c =
@@ -51,7 +51,7 @@ loop-holds c =
     let may = filterHas (a .filter .now) (a .filter-words) (a .hash) in
     let looks = Looks (a .view) (a .packed) (a .index .now) (a .buckets) (a .starts .now) (a .lengths .now) (a .arena .now) (a .key .now) (a .hash) in
     let e = c .reduce-hash .ensures in
-    (e .1, omega arith, rw (e .0) (find-walks (a .view) (a .packed) (a .index .now) (a .buckets) (a .filter .now) (a .filter-words) (a .starts .now) (a .lengths .now) (a .arena .now) (a .key .now) (a .hash) (omega arith) (omega arith)), omega arith)
+    (e .1, omega arith, rw (e .0) (find-walks (a .view) (a .packed) (a .index .now) (a .buckets) (a .filter .now) (a .filter-words) (a .starts .now) (a .lengths .now) (a .arena .now) (a .key .now) (a .hash) (omega arith) (omega arith)), omega arith, λ (h : 0 < 0). absurd (omega arith))
 
 find-in-bucket-requires : tie.Need-find-in-bucket-requires Inv-loop μ-loop
 find-in-bucket-requires c κs = omega arith
@@ -92,7 +92,7 @@ returns-4 c =
     let looks = Looks (a .view) (a .packed) (a .index .now) (a .buckets) (a .starts .now) (a .lengths .now) (a .arena .now) (a .key .now) (a .hash) in
     let l = c .before .before .before .before .before .before .before in
     let s = sym (c .before .before .before .before .before .find-in-bucket .ensures ∙ (ap (λ (t : ℕ). inBucket (a .packed) (looksFrom (recordIn (a .view) (a .arena .now) (a .starts .now) (a .lengths .now)) (a .arena .now) (a .key .now) (keptTag (a .packed) t) (8 * l .loop .bucket) (slotsOf (a .packed) (a .buckets) (a .index .now) (l .loop .bucket)))) (c .before .before .before .before .before .before .before .before .before .hash-tag .ensures))) ∙ c .before .before .enum-told .given .1 in
-    sym (l .loop .inv .2 ∙ found-filtered (a .packed) may looks (a .buckets) (l .loop .probe) (l .loop .left) (l .loop .bucket) (c .before .before .before .before .before .before .loop-test .taken) s (sym (c .before .ends-at-filter .ensures) ∙ c .if2 .taken))
+    sym (l .loop .inv .2 ∙ found-filtered (a .packed) may looks (a .buckets) (l .loop .probe) (l .loop .left) (l .loop .bucket) (c .before .before .before .before .before .before .loop-test .taken) s (sym (filter-late (l .loop .probe) (a .filter .now) (a .filter-words) (l .loop .filter-hash) (a .hash) (l .loop .inv .4)) ∙ sym (c .before .ends-at-filter .ensures) ∙ c .if2 .taken))
 
 add-probe : tie.Need-add-probe Inv-loop μ-loop
 add-probe c = omega arith
@@ -114,7 +114,7 @@ loop-again c =
     let l = c .before .before .before .before .before .before .before .before in
     let s = sym (c .before .before .before .before .before .before .find-in-bucket .ensures ∙ (ap (λ (t : ℕ). inBucket (a .packed) (looksFrom (recordIn (a .view) (a .arena .now) (a .starts .now) (a .lengths .now)) (a .arena .now) (a .key .now) (keptTag (a .packed) t) (8 * l .loop .bucket) (slotsOf (a .packed) (a .buckets) (a .index .now) (l .loop .bucket)))) (c .before .before .before .before .before .before .before .before .before .before .hash-tag .ensures))) ∙ c .before .before .before .enum-told .given .1 in
     let e = c .next-bucket .ensures in
-    (omega (arith, e, next-within (l .loop .bucket) (a .buckets)), omega arith, l .loop .inv .2 ∙ rw e (found-on (a .packed) may looks (a .buckets) (l .loop .probe) (l .loop .left) (l .loop .bucket) (c .before .before .before .before .before .before .before .loop-test .taken) s (sym (c .before .before .ends-at-filter .ensures) ∙ c .before .if2 .left)), omega arith)
+    (omega (arith, e, next-within (l .loop .bucket) (a .buckets)), omega arith, l .loop .inv .2 ∙ rw e (found-on (a .packed) may looks (a .buckets) (l .loop .probe) (l .loop .left) (l .loop .bucket) (c .before .before .before .before .before .before .before .loop-test .taken) s (sym (filter-late (l .loop .probe) (a .filter .now) (a .filter-words) (l .loop .filter-hash) (a .hash) (l .loop .inv .4)) ∙ sym (c .before .before .ends-at-filter .ensures) ∙ c .before .if2 .left)), omega arith, λ (h : 0 < l .loop .probe + 1). refl)
 
 returns-5 : tie.Need-returns-5 Inv-loop μ-loop
 returns-5 c =

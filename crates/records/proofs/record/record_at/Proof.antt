@@ -1,89 +1,55 @@
--- `record_at` meets its contract: a prefix that is read lies inside, so the second ends inside and past the record's position.
--- Assumes nothing.
-use mathlib.Core.Path.{_≡_, sym, _∙_}
-use borrow.Author.Needs.{needs}
+-- `record_at` meets its contract: two prefixes of one byte are their bytes. Assumes nothing.
+use mathlib.Core.Path.{sym, ap₂, _∙_}
+use Prim.Native.Nat.{ℕ, _+_}
 use native.Mathlib.Omega.{arith}
-use Rattle.records.specs.Varint.{readVarint}
-use Rattle.records.specs.declared.varint.Varint.the-variants.{Value}
-use Rattle.records.proofs.Prefix.{read-inside}
-use Rattle.records.proofs.Parts.{no-key, no-value, at-is}
+use borrow.Author.Needs.{needs}
+use Rattle.records.specs.Record.{recordOf}
+use Rattle.records.proofs.Parts.{at-short}
 use Rattle.records.proofs.record.record_at.Statement.{statement}
 use Rattle.records.proofs.record.record_at.Tie as tie
 
--- what the prefixes read
-key-read : (c : tie.After-key-len)
-    → let a = c .before .before .before .before .args in readVarint (a .records .now) (a .location) ≡ Value (c .key-len .given .0 .0) (c .key-len .given .0 .1 .0)
-key-read c = sym (c .before .before .read-varint .ensures) ∙ c .key-len .given .1
+one-byte-prefixes-requires : tie.Need-one-byte-prefixes-requires
+one-byte-prefixes-requires c κs = search needs
 
-abbrev key-of : tie.After-value-len → tie.After-key-len
-key-of c = c .before .before .before .before
+add-record-at-lengths : tie.Need-add-record-at-lengths
+add-record-at-lengths c = omega (arith, c .before .one-byte-prefixes .ensures (c .if1 .taken))
 
-value-read : (c : tie.After-value-len)
-    → let a = key-of c .before .before .before .before .args in
-    readVarint (a .records .now) (key-of c .key-len .given .0 .1 .0) ≡ Value (c .value-len .given .0 .0) (c .value-len .given .0 .1 .0)
-value-read c = sym (c .before .before .read-varint2 .ensures) ∙ c .value-len .given .1
+byte-at-requires : tie.Need-byte-at-requires
+byte-at-requires c κs = omega (arith, c .before .one-byte-prefixes .ensures (c .if1 .taken) .0)
 
-read-varint-requires : tie.Need-read-varint-requires
-read-varint-requires c κs = search needs
+add-byte-at : tie.Need-add-byte-at
+add-byte-at c = omega (arith, c .before .before .one-byte-prefixes .ensures (c .before .if1 .taken) .0)
 
-enum-known-key-len : tie.Need-enum-known-key-len
-enum-known-key-len c = search needs
+byte-at-requires-2 : tie.Need-byte-at-requires-2
+byte-at-requires-2 c κs = omega (arith, c .before .before .one-byte-prefixes .ensures (c .before .if1 .taken) .0)
 
-enum-told : tie.Need-enum-told
-enum-told c = search needs
+record-at-lengths-requires : tie.Need-record-at-lengths-requires
+record-at-lengths-requires c κs = (omega arith, c .before .before .before .one-byte-prefixes .ensures (c .before .before .if1 .taken) .0)
 
 returns : tie.Need-returns
 returns c =
-    let a = c .before .before .before .before .args in
-    sym (no-key (a .expiry) (a .records .now) (a .location) (sym (c .before .before .read-varint .ensures) ∙ c .enum-told .given .1))
+    let a = c .before .before .before .before .before .before .args in
+    let p = c .before .before .before .before .one-byte-prefixes .ensures (c .before .before .before .if1 .taken) in
+    c .record-at-lengths .ensures
+    ∙ ap₂ (λ (k v : ℕ). recordOf (a .expiry) (a .records .now) (a .location) k v (a .location + 2)) (c .before .before .byte-at .ensures .0) (c .before .byte-at2 .ensures .0)
+    ∙ sym (at-short (a .expiry) (a .records .now) (a .location) (p .0) (p .1) (p .2))
 
-read-varint-requires-2 : tie.Need-read-varint-requires-2
-read-varint-requires-2 c κs = search needs
-
-enum-known-value-len : tie.Need-enum-known-value-len
-enum-known-value-len c = search needs
-
-enum-told-2 : tie.Need-enum-told-2
-enum-told-2 c = search needs
+record-at-prefixes-requires : tie.Need-record-at-prefixes-requires
+record-at-prefixes-requires c κs = search needs
 
 returns-2 : tie.Need-returns-2
-returns-2 c =
-    let k = c .before .before .before .before in
-    let a = k .before .before .before .before .args in
-    sym
-    (no-value (a .expiry) (a .records .now) (a .location) (k .key-len .given .0 .0) (k .key-len .given .0 .1 .0) (key-read k)
-    (sym (c .before .before .read-varint2 .ensures) ∙ c .enum-told2 .given .1))
-
-record-at-lengths-requires : tie.Need-record-at-lengths-requires
-record-at-lengths-requires c κs =
-    let v = c .before in
-    let k = key-of v in
-    let a = k .before .before .before .before .args in
-    let p = read-inside (a .records .now) (a .location) (k .key-len .given .0 .0) (k .key-len .given .0 .1 .0) (key-read k) in
-    let q = read-inside (a .records .now) (k .key-len .given .0 .1 .0) (v .value-len .given .0 .0) (v .value-len .given .0 .1 .0) (value-read v) in
-    (omega arith, q .1)
-
-returns-3 : tie.Need-returns-3
-returns-3 c =
-    let v = c .before .before in
-    let k = key-of v in
-    let a = k .before .before .before .before .args in
-    rw
-    (at-is (a .expiry) (a .records .now) (a .location) (k .key-len .given .0 .0) (k .key-len .given .0 .1 .0) (key-read k) (v .value-len .given .0 .0)
-    (v .value-len .given .0 .1 .0) (value-read v))
-    (c .record-at-lengths .ensures)
+returns-2 c = search needs
 
 pub record-at-spec : {M : Type 1} → statement M
 record-at-spec =
     tie.close
     (tie.spec
-    read-varint-requires
-    enum-known-key-len
-    enum-told
-    returns
-    read-varint-requires-2
-    enum-known-value-len
-    enum-told-2
-    returns-2
+    one-byte-prefixes-requires
+    add-record-at-lengths
+    byte-at-requires
+    add-byte-at
+    byte-at-requires-2
     record-at-lengths-requires
-    returns-3)
+    returns
+    record-at-prefixes-requires
+    returns-2)

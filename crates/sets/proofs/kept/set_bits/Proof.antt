@@ -1,49 +1,52 @@
--- `set_bits` meets its contract: the bits found and those of the rest are those of the word. Assumes nothing.
-use mathlib.Core.Path.{_≡_, ap, _∙_}
-use Prim.Native.Nat.{ℕ, _+_, _≤_}
+-- `set_bits` meets its contract: the ones of the lowest bits are their count of set bits. Assumes nothing.
+use mathlib.Core.Path.{_≡_, sym, ap, _∙_}
+use Prim.Native.Nat.{ℕ, _*_, _%_, _^_, _≤_}
+use native.Mathlib.Nat.{mod-eq-of-lt, mod-lt}
 use native.Mathlib.Omega.{arith}
+use lib.Count.{ones, ones-le}
+use lib.Pow.{pow-pos}
+use borrow.Author.Needs.{needs}
+use Rattle.index.proofs.Filters.{one-shl}
 use Rattle.sets.specs.Kept.{bitsOf, countTrue}
-use Rattle.sets.proofs.KeptWords.{bits-none, bits-step, bits-zero}
+use Rattle.sets.proofs.KeptWords.{bits-ones}
 use Rattle.sets.proofs.kept.set_bits.Statement.{statement}
 use Rattle.sets.proofs.kept.set_bits.Tie as tie
 
-abbrev Inv-loop : tie.InvT-loop
-Inv-loop word count rest₀ left₀ found₀ rest left found = (found + countTrue (bitsOf left rest) ≡ countTrue (bitsOf count word)) × (found + left ≤ count)
+-- the lowest bits of a word, so many, as the code takes them
+some-bits : (n w : ℕ) → n ≤ 64 → (n ≡ 64 → ⊥) → w % (1 * 2 ^ n % 2 ^ 64) ≡ w % 2 ^ n
+some-bits n w h k = ap (λ (x : ℕ). w % x) (one-shl n (omega arith))
 
-abbrev μ-loop : tie.MeasureT-loop
-μ-loop word count rest₀ left₀ found₀ rest left found = left
+some-le : (n w : ℕ) → ones (w % 2 ^ n) ≤ n
+some-le n w = ones-le n (w % 2 ^ n) (mod-lt w (pow-pos n))
 
-loop-holds : tie.Need-loop-holds Inv-loop μ-loop
-loop-holds c = (omega arith, omega arith)
+cast-result : tie.Need-cast-result
+cast-result c = omega (arith, ones-le 64 (c .before .args .word) (c .before .fits .word .fits))
 
-returns : tie.Need-returns Inv-loop μ-loop
+returns : tie.Need-returns
 returns c =
-    let l = c .before .before .loop in
-    let z : countTrue (bitsOf (l .left) (l .rest)) ≡ 0 = ap (λ (r : ℕ). countTrue (bitsOf (l .left) r)) (c .if1 .taken) ∙ bits-none (l .left) in
-    (omega arith, omega arith)
+    let a = c .before .args in
+    let all : a .word % 2 ^ 64 ≡ a .word = mod-eq-of-lt (c .before .fits .word .fits) in
+    let e : ones (a .word) ≡ countTrue (bitsOf 64 (a .word)) = ap ones (sym all) ∙ bits-ones 64 (a .word) in
+    rw (c .if1 .taken) (e, ones-le 64 (a .word) (c .before .fits .word .fits))
 
-add-found : tie.Need-add-found Inv-loop μ-loop
-add-found c = omega (arith, c .before .before .before .fits .count .fits)
+shl-result : tie.Need-shl-result
+shl-result c = search needs
 
-sub-left : tie.Need-sub-left Inv-loop μ-loop
-sub-left c = omega arith
+rem-result : tie.Need-rem-result
+rem-result c =
+    let n : ℕ = c .before .args .count in
+    omega (arith, one-shl n (omega arith), pow-pos n)
 
-loop-less : tie.Need-loop-less Inv-loop μ-loop
-loop-less c = omega arith
+cast-result-2 : tie.Need-cast-result-2
+cast-result-2 c =
+    let a = c .before .args in
+    rw (some-bits (a .count) (a .word) (c .before .pre) (c .if1 .left)) (omega (arith, some-le (a .count) (a .word)))
 
-loop-again : tie.Need-loop-again Inv-loop μ-loop
-loop-again c =
-    let l = c .before .before .loop in
-    (omega (arith, bits-step (l .left) (l .rest) (c .before .loop-test .taken)), omega arith)
-
-returns-2 : tie.Need-returns-2 Inv-loop μ-loop
+returns-2 : tie.Need-returns-2
 returns-2 c =
-    let l = c .before .loop in
-    let e : l .left ≡ 0 = omega arith in
-    let z : countTrue (bitsOf (l .left) (l .rest)) ≡ 0 = ap (λ (n : ℕ). countTrue (bitsOf n (l .rest))) e ∙ bits-zero (l .rest) in
-    (omega arith, omega arith)
+    let a = c .before .args in
+    rw (some-bits (a .count) (a .word) (c .before .pre) (c .if1 .left)) (bits-ones (a .count) (a .word), some-le (a .count) (a .word))
 
 pub set-bits-spec : {M : Type 1} → statement M
 set-bits-spec =
-    tie.close
-    (tie.spec Inv-loop μ-loop loop-holds returns add-found sub-left loop-less loop-again returns-2)
+    tie.close (tie.spec cast-result returns shl-result rem-result cast-result-2 returns-2)
