@@ -84,10 +84,10 @@ fn asked(
     set.stats(group);
     let part = if whole { 0 } else { 512 };
     if whole {
-        set.lookups(group, rng, list);
+        set.lookups(group, rng, list, 1);
     } else {
-        set.lookups(group, rng, &list[..part]);
-        set.lookups(group, rng, &list[list.len() - part..]);
+        set.lookups(group, rng, &list[..part], 1);
+        set.lookups(group, rng, &list[list.len() - part..], 1);
     }
     for entry in list {
         let tick = rng.below(65_540);
