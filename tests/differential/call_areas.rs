@@ -6,6 +6,7 @@ use super::call_build::{Build, setting_words};
 use super::oracle::access::negative_filter_location;
 use crate::report::Group;
 use crate::rng::{has_pattern, has_pattern_in, has_pattern_near};
+use crate::set_world::World;
 use std::ops::Range;
 
 // The places that a push may write, and the Rust's words there before it.
@@ -14,42 +15,59 @@ pub struct Places {
     index: u64,
     word: usize,
     filter: Option<u64>,
+    // Of the arena; nothing where the push adds no record.
     pub record: Range<usize>,
 }
 
-impl Build {
-    // Those of a push of a hash that has this slot, as long as nothing is pushed.
-    pub(super) fn places(&self, slot: usize, hash: u64) -> Places {
-        let filter = self.builder.filter().unwrap_or(&[]);
+impl Places {
+    // Of a push of a hash that has this slot, with the Rust's areas and the end of the records.
+    pub fn new(index: &[u64], filter: &[u64], slot: usize, hash: u64, filled: usize) -> Places {
         let (word, _) = negative_filter_location(filter.len().max(1), hash);
-        let filled = self.builder.records().len();
         Places {
             slot,
-            index: self.builder.index()[slot],
+            index: index[slot],
             word,
             filter: filter.get(word).copied(),
             record: filled..filled,
         }
     }
 
-    // Before the port's push: nothing was written in its places by a call before.
-    pub(super) fn untouched(
+    // Before the port's push: no call before has written there.
+    pub fn untouched(&self, group: &mut Group, world: &World, about: impl Fn() -> String + Copy) {
+        let about = || format!("before the push, {}", about());
+        group.rust("slot", world.index[self.slot], self.index, about);
+        if let Some(word) = self.filter {
+            group.rust("filter word", world.filter[self.word], word, about);
+        }
+        let rest = has_pattern_in(&world.arena, self.record.clone());
+        group.rule("arena of the record", rest, true, about);
+    }
+
+    // After it, with the Rust's areas and record; nothing is written behind the record.
+    pub fn written(
         &self,
         group: &mut Group,
-        places: &Places,
-        input: impl Fn() -> String + Copy,
+        world: &World,
+        (index, filter, record): (&[u64], &[u64], &[u8]),
+        about: impl Fn() -> String + Copy,
     ) {
-        let world = &self.world;
-        if world.interval() == 1 {
-            return;
+        let (slot, word) = (self.slot, self.word);
+        group.rust("slot", world.index[slot], index[slot], about);
+        if let Some(&filter) = filter.get(word) {
+            group.rust("filter word", world.filter[word], filter, about);
         }
-        let about = || format!("before push, {}, {}", self.about, input());
-        group.rust("slot", world.index[places.slot], places.index, about);
-        if let Some(word) = places.filter {
-            group.rust("filter word", world.filter[places.word], word, about);
-        }
-        let rest = has_pattern_in(&world.arena, places.record.clone());
-        group.rule("arena before the record", rest, true, about);
+        group.area("record", &world.arena[self.record.clone()], record, about);
+        let near = has_pattern_near(&world.arena, self.record.end);
+        group.rule("arena behind the record", near, true, about);
+    }
+}
+
+impl Build {
+    // As long as nothing is pushed.
+    pub(super) fn places(&self, slot: usize, hash: u64) -> Places {
+        let (index, filter) = (self.builder.index(), self.builder.filter());
+        let filled = self.builder.records().len();
+        Places::new(index, filter.unwrap_or(&[]), slot, hash, filled)
     }
 
     // Builder, index, filter and arena as the Rust has them, and all else as it was.
@@ -69,16 +87,9 @@ impl Build {
             self.areas(group, about);
             return;
         }
-        let (slot, word) = (places.slot, places.word);
-        group.rust("slot", world.index[slot], builder.index()[slot], about);
-        if let Some(filter) = builder.filter() {
-            group.rust("filter word", world.filter[word], filter[word], about);
-        }
-        let record = places.record.clone();
-        let written = &builder.records()[record.clone()];
-        group.area("record", &world.arena[record], written, about);
-        let near = has_pattern_near(&world.arena, places.record.end);
-        group.rule("arena behind the record", near, true, about);
+        let filter = builder.filter().unwrap_or(&[]);
+        let record = &builder.records()[places.record.clone()];
+        places.written(group, world, (builder.index(), filter, record), about);
     }
 
     pub(super) fn areas(&self, group: &mut Group, about: impl Fn() -> String + Copy) {

@@ -165,7 +165,11 @@ impl Build {
         };
         let input = || format!("{key:x?}, {hash:#x}, lifetime {lifetime:?}");
         places.record.end = self.builder.records().len();
-        self.untouched(group, &places, input);
+        if self.world.interval() > 1 {
+            places.untouched(group, &self.world, || {
+                format!("{}, {}", self.about, input())
+            });
+        }
         let refusal = (self.by)(&mut self.world, &Ask::Push(record), 2);
         group.rust("push", refusal, wanted, input);
         group.area("slot and location", &self.world.out[..2], &place, input);

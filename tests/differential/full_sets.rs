@@ -111,6 +111,7 @@ pub fn most_records(group: &mut Group, _: u64) {
     for &i in settings {
         one(group, &mut rng, MOST[i], RECORDS, &short);
     }
+    one(group, &mut rng, MOST[2], RECORDS - 1, &short);
 }
 
 // An arena of 2^30 bytes: with the large target records of about 1,000 bytes in 11 segments, with
