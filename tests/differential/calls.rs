@@ -91,8 +91,12 @@ fn large_sets(group: &mut Group, rng: &mut Rng, settings: &[Setting], long: bool
         }
     }
     if long {
+        let many: Vec<&Spread> = SPREADS
+            .iter()
+            .filter(|spread| !spread.crowded_by_many())
+            .collect();
         for (i, &setting) in settings.iter().step_by(3).enumerate() {
-            let spread = plain[i % plain.len()];
+            let spread = many[i / 3 % many.len()];
             one(group, rng, port, spread, 65_535 + i % 3, setting);
         }
         for setting in [settings[7], settings[279]] {

@@ -163,9 +163,8 @@ pub fn spreads(group: &mut Group, _: u64) {
     let mut rng = Rng::new(64 + SEGMENT_TARGET as u64);
     let first = if SEGMENT_TARGET > 4_096 { 0 } else { 1 };
     for (i, spread) in SPREADS.iter().enumerate() {
-        // Sequential tags are crowded where their records are many.
-        let many = !spread.crowded && spread.name != "sequential tags";
-        let count = if many { 16 * CROWDED } else { CROWDED };
+        let crowded = spread.crowded_by_many();
+        let count = if crowded { CROWDED } else { 16 * CROWDED };
         let (setting, _) = MOST[(first + i) % MOST.len()];
         one(group, &mut rng, (setting, i), count, &short);
     }
