@@ -89,6 +89,9 @@ fn large_sets(group: &mut Group, rng: &mut Rng, settings: &[Setting], long: bool
             let spread = spreads[(i + i / 20 + turn) % spreads.len()];
             one(group, rng, port, spread, count, setting);
         }
+        if long {
+            group.done(&format!("every setting, {count} records"));
+        }
     }
     if long {
         let many: Vec<&Spread> = SPREADS
@@ -99,6 +102,7 @@ fn large_sets(group: &mut Group, rng: &mut Rng, settings: &[Setting], long: bool
             let spread = many[i / 3 % many.len()];
             one(group, rng, port, spread, 65_535 + i % 3, setting);
         }
+        group.done("a third of the settings, 65,535 to 65,537 records");
         for setting in [settings[7], settings[279]] {
             one(group, rng, port, &SPREADS[0], 1_048_576, setting);
         }
