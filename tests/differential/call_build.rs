@@ -1,5 +1,5 @@
-// One set from open to finish by the public calls, beside the Rust's own builder; after each call
-// all areas are compared whole. This file is a module twice, once for each build of the Rust.
+// One set from open to finish by the public calls, beside the Rust's own builder. This file is a
+// module twice, once for each build of the Rust.
 use super::call_lookups::Finished;
 use super::lines::forged;
 use super::oracle;
@@ -7,27 +7,26 @@ use super::oracle::access::SEGMENT_TARGET;
 use super::oracle::access_index::{self as access, Builder, Set, Setting};
 use crate::call_lists::{Entry, duration, too_long, total};
 use crate::report::Group;
-use crate::rng::{Rng, has_pattern, has_pattern_near};
+use crate::rng::Rng;
 use crate::set_rules;
 use crate::set_world::{Ask, By, Pushed, Sizes, UNSET, World, model};
 
 pub const LARGEST_TARGET: u64 = 100_663_296;
 
+// A set in a larger arena goes on after refusal 7.
+const GOES_ON: usize = 2_000_000;
+
 pub struct Build {
     by: By,
-    about: String,
-    setting: Setting,
-    builder: Builder,
+    pub(super) about: String,
+    pub(super) setting: Setting,
+    pub(super) builder: Builder,
     pub world: World,
     // The areas before open: what is never written has this content.
-    plain: World,
+    pub(super) plain: World,
     // So many comparisons were asked for.
-    asked: usize,
+    pub(super) asked: usize,
 }
-
-// Arenas of fewer bytes are compared whole after every call; longer ones at times, since what was
-// written stays there.
-const SMALL: usize = 2_000_000;
 
 pub fn setting_words(setting: Setting) -> [u64; 6] {
     let tick = setting.tick.unwrap_or_default();
@@ -132,7 +131,7 @@ impl Build {
         let refusal = by(&mut world, &Ask::Open { records }, 0);
         let wanted = rust.as_ref().map_or_else(|&refusal| refusal, |_| 0);
         group.rust("open", refusal, wanted, || about.to_string());
-        let mut build = Build {
+        let build = Build {
             by,
             about: about.to_string(),
             setting,
@@ -141,51 +140,8 @@ impl Build {
             plain,
             asked: 0,
         };
-        build.compare(group, "open", || about.to_string());
+        build.areas(group, || about.to_string());
         (refusal == 0).then_some(build)
-    }
-
-    // Builder, index, filter and arena as the Rust has them, and all else as it was.
-    fn compare(&mut self, group: &mut Group, call: &str, input: impl Fn() -> String) {
-        self.asked += 1;
-        let (world, builder) = (&self.world, &self.builder);
-        let about = || format!("{call}, {}, {}", self.about, input());
-        let state = [&setting_words(self.setting)[..], &builder.counts()].concat();
-        group.area("builder", &world.builder, &state, about);
-        let (records, filled) = (builder.records(), builder.records().len());
-        if world.arena.len() > SMALL && self.asked % (world.arena.len() / 16_384) > 0 {
-            let last = filled.saturating_sub(600);
-            group.area("arena", &world.arena[last..filled], &records[last..], about);
-            let near = has_pattern_near(&world.arena, filled);
-            group.rule("arena behind the record", near, true, about);
-            return;
-        }
-        self.areas(group, about);
-    }
-
-    fn areas(&self, group: &mut Group, about: impl Fn() -> String + Copy) {
-        let (world, plain, builder) = (&self.world, &self.plain, &self.builder);
-        let (records, filled) = (builder.records(), builder.records().len());
-        let slots = builder.index().len();
-        group.area("index", &world.index[..slots], builder.index(), about);
-        group.area("index", &world.index[slots..], &plain.index[slots..], about);
-        let filter = builder.filter().unwrap_or(&[]);
-        let words = filter.len();
-        group.area("filter", &world.filter[..words], filter, about);
-        let rest = (&world.filter[words..], &plain.filter[words..]);
-        group.area("filter", rest.0, rest.1, about);
-        group.area("arena", &world.arena[..filled], records, about);
-        if plain.arena.is_empty() {
-            let rest = has_pattern(&world.arena, filled);
-            group.rule("arena past the records", rest, true, about);
-        } else {
-            let rest = (&world.arena[filled..], &plain.arena[filled..]);
-            group.area("arena", rest.0, rest.1, about);
-        }
-        group.area("starts", &world.starts, &plain.starts, about);
-        group.area("lengths", &world.lengths, &plain.lengths, about);
-        group.area("scratch", &world.scratch, &plain.scratch, about);
-        group.area("set", &world.set, &plain.set, about);
     }
 
     // One push on both sides, accepted or not.
@@ -198,28 +154,37 @@ impl Build {
         } = record;
         let (index, records) = (self.builder.index(), self.builder.records());
         let slot = access::find_build_slot(index, records, self.setting.tick, key, hash);
-        let place = [slot.unwrap_or(0) as u64, records.len() as u64];
+        let slot = slot.unwrap_or(0);
+        let place = [slot as u64, records.len() as u64];
+        let mut places = self.places(slot, hash);
         oracle::set_hash(hash);
         let rust = self.builder.push(key, value, duration(lifetime));
         let (wanted, place) = match rust {
             Ok(()) => (0, place),
             Err(refusal) => (refusal, [UNSET; 2]),
         };
-        let refusal = (self.by)(&mut self.world, &Ask::Push(record), 2);
         let input = || format!("{key:x?}, {hash:#x}, lifetime {lifetime:?}");
+        places.record.end = self.builder.records().len();
+        if self.world.interval() > 1 {
+            places.untouched(group, &self.world, || {
+                format!("{}, {}", self.about, input())
+            });
+        }
+        let refusal = (self.by)(&mut self.world, &Ask::Push(record), 2);
         group.rust("push", refusal, wanted, input);
         group.area("slot and location", &self.world.out[..2], &place, input);
         group.area("answer", &self.world.out[2..], &[UNSET; 12], input);
-        self.compare(group, "push", input);
+        self.compare(group, "push", &places, input);
     }
 
     // A push that the Rust would take, or can't be asked: the rules refuse it.
     fn refused_push(&mut self, group: &mut Group, record: Pushed, number: u64) {
+        let places = self.places(0, record.hash);
         let refusal = (self.by)(&mut self.world, &Ask::Push(record), 2);
         let input = || format!("{record:?}");
         group.rule("push", refusal, number, input);
         group.area("answer", &self.world.out, &[UNSET; 14], input);
-        self.compare(group, "refused push", input);
+        self.compare(group, "refused push", &places, input);
     }
 
     // Now and then, before a record: one that stands there, one whose lifetime is not taken, one
@@ -282,7 +247,9 @@ impl Build {
         let refusal = (self.by)(&mut self.world, &Ask::Finish { target }, 0);
         let input = || format!("{}, target {target}", self.about);
         group.rule("finish", refusal, number, input);
-        self.compare(group, "refused finish", || format!("target {target}"));
+        let places = self.places(0, 0);
+        let input = || format!("target {target}");
+        self.compare(group, "refused finish", &places, input);
     }
 
     fn finish(mut self, group: &mut Group) -> Option<Finished> {
@@ -293,7 +260,7 @@ impl Build {
         } else {
             self.world.lent.scratch = 0;
         }
-        if self.world.arena.len() > SMALL {
+        if self.world.interval() > 1 {
             self.areas(group, || format!("before the finish, {}", self.about));
         }
         let before = self.world.kept();
@@ -305,7 +272,7 @@ impl Build {
         group.rust("finish", refusal, wanted, || self.about.clone());
         let Ok(set) = rust else {
             refused_segments(group, &self.about, &mut self.world, before, &index);
-            let large = self.world.arena.len() > SMALL;
+            let large = self.world.arena.len() > GOES_ON;
             return large.then(|| goes_on(group, self.by, self.about, self.setting, self.world));
         };
         let wanted = finished(before, &set, self.setting.packed);

@@ -25,11 +25,8 @@ pub struct Finished {
     asked: usize,
 }
 
-// Areas that a call can't write are compared after each call in small sets, else at times: what
-// was written there stays. So is an index of many words.
-const SMALL: usize = 70_000;
-
-const FEW_WORDS: usize = 50_000;
+// Ticks at which an answer may change whatever the deadline is.
+const TICKS: [u64; 5] = [0, 65_534, 65_535, 65_536, u64::MAX];
 
 impl Finished {
     pub fn new(by: By, about: String, mut world: World, set: Set) -> Finished {
@@ -58,8 +55,9 @@ impl Finished {
         self.filled = later.filled;
     }
 
-    // One call and all areas after it: the index is the Rust's, marks included.
-    fn call(&mut self, group: &mut Group, name: &str, ask: Ask, wanted: &[u64]) {
+    // One call and all areas after it: the index is the Rust's, marks included. In large sets the
+    // word that the call may write, and all else at times: what was written there stays.
+    fn call(&mut self, group: &mut Group, name: &str, ask: Ask, word: usize, wanted: &[u64]) {
         let refusal = (self.by)(&mut self.world, &ask, ask.answer());
         self.asked += 1;
         let (world, plain, asked) = (&self.world, &self.plain, ask.answer());
@@ -67,18 +65,35 @@ impl Finished {
         group.rust(name, refusal, 0, input);
         group.area(name, &world.out[..asked], wanted, input);
         let words = self.set.shown();
-        if words.len() < FEW_WORDS || self.asked % (words.len() / 256) == 0 {
-            group.area("index", &world.index[..words.len()], words, input);
-        }
         let same = world.out[asked..].iter().all(|&word| word == UNSET)
             && world.index[words.len()..] == plain.index[words.len()..]
             && world.set == plain.set
             && world.builder == plain.builder;
         group.rust("words past the answer and the index", same, true, input);
-        let bytes = world.arena.len();
-        if bytes < SMALL || self.asked % (bytes / 1_024) == 0 {
-            self.rest(group, name);
+        if self.asked % world.interval() > 0 {
+            group.rust("index word", world.index[word], words[word], input);
+            return;
         }
+        group.area("index", &world.index[..words.len()], words, input);
+        self.rest(group, name);
+    }
+
+    // The word of the index that a lookup of a key may write, before it is asked: nothing was
+    // written there by a call before.
+    fn word(&self, group: &mut Group, key: &[u8], hash: u64) -> usize {
+        let world = &self.world;
+        if world.interval() == 1 {
+            return 0;
+        }
+        let slot = self
+            .set
+            .find(key, hash)
+            .map_or(0, |found| found[0] as usize);
+        let packed = world.set[4] != 0;
+        let word = if packed { slot / 8 } else { slot };
+        let (port, rust) = (world.index[word], self.set.shown()[word]);
+        group.rust("index word before", port, rust, || self.about.clone());
+        word
     }
 
     fn rest(&self, group: &mut Group, name: &str) {
@@ -109,25 +124,33 @@ impl Finished {
     }
 
     pub fn get(&mut self, group: &mut Group, key: &[u8], hash: u64, tick: u64) {
+        let word = self.word(group, key, hash);
         let rust = self.set.get(key, hash, tick, true);
         let wanted = rust.map_or([0; 3], |[at, len]| [1, at, len]);
-        self.call(group, "get", Ask::Get { hash, key, tick }, &wanted);
+        self.call(group, "get", Ask::Get { hash, key, tick }, word, &wanted);
     }
 
     fn peek(&mut self, group: &mut Group, key: &[u8], hash: u64, tick: u64) {
         let rust = self.set.get(key, hash, tick, false);
         let wanted = rust.map_or([0; 3], |[at, len]| [1, at, len]);
-        self.call(group, "peek", Ask::Peek { hash, key, tick }, &wanted);
+        self.call(group, "peek", Ask::Peek { hash, key, tick }, 0, &wanted);
     }
 
     fn take(&mut self, group: &mut Group, key: &[u8], hash: u64) {
+        let word = self.word(group, key, hash);
         let wanted = [self.set.take_accessed(key, hash).into()];
-        self.call(group, "take_accessed", Ask::Take { hash, key }, &wanted);
+        self.call(
+            group,
+            "take_accessed",
+            Ask::Take { hash, key },
+            word,
+            &wanted,
+        );
     }
 
     fn probe(&mut self, group: &mut Group, key: &[u8], hash: u64, tick: u64) {
         let wanted = flagged(self.set.probe(key, hash, tick));
-        self.call(group, "probe", Ask::Probe { hash, key, tick }, &wanted);
+        self.call(group, "probe", Ask::Probe { hash, key, tick }, 0, &wanted);
     }
 
     // Every kind of lookup of one key at one tick, marks set and cleared between them.
@@ -138,10 +161,15 @@ impl Finished {
         self.take(group, key, hash);
     }
 
-    // Every stored key at the ticks where its answer may change, and keys that are not stored.
-    pub fn lookups(&mut self, group: &mut Group, rng: &mut Rng, list: &[Entry]) {
-        for entry in list {
-            self.stored(group, rng, entry, list.len());
+    // Every stored key at the ticks where its answer may change, and keys that are not stored. One
+    // stored key in so many is asked in every way, the others in one.
+    pub fn lookups(&mut self, group: &mut Group, rng: &mut Rng, list: &[Entry], one_in: usize) {
+        for (i, entry) in list.iter().enumerate() {
+            if i % one_in == 0 {
+                self.stored(group, rng, entry, list.len());
+            } else {
+                self.one_way(group, rng, entry);
+            }
         }
         // A miss in a crowded set sees all records.
         let step = if list.len() > 100 { 16 } else { 1 };
@@ -161,24 +189,40 @@ impl Finished {
         }
     }
 
+    // One tick before its deadline, at it and one after it.
+    fn around(&self, entry: &Entry) -> [u64; 3] {
+        let found = self.set.find(&entry.key, entry.hash);
+        let deadline = found.map_or(0, |found| found[7]);
+        [deadline.saturating_sub(1), deadline, deadline + 1]
+    }
+
+    fn one_way(&mut self, group: &mut Group, rng: &mut Rng, entry: &Entry) {
+        let (key, hash) = (&entry.key[..], entry.hash);
+        let tick = match rng.one_in(4) {
+            true => rng.pick(&TICKS),
+            false => rng.pick(&self.around(entry)),
+        };
+        match rng.below(4) {
+            0 => self.peek(group, key, hash, tick),
+            1 => self.probe(group, key, hash, tick),
+            2 => self.get(group, key, hash, tick),
+            _ => self.take(group, key, hash),
+        }
+    }
+
     fn stored(&mut self, group: &mut Group, rng: &mut Rng, entry: &Entry, count: usize) {
         let (key, hash) = (&entry.key[..], entry.hash);
-        let deadline = self.set.find(key, hash).map_or(0, |found| found[7]);
-        let around = [deadline.saturating_sub(1), deadline, deadline + 1];
+        let around = self.around(entry);
         if count > 20 {
-            let ticks = [0, 65_534, 65_535, 65_536, u64::MAX];
             self.all_ways(group, key, hash, rng.pick(&around));
-            self.get(group, key, hash, rng.pick(&ticks));
+            self.get(group, key, hash, rng.pick(&TICKS));
             return;
         }
-        for tick in around
-            .into_iter()
-            .chain([0, 65_534, 65_535, 65_536, u64::MAX])
-        {
+        for tick in around.into_iter().chain(TICKS) {
             self.all_ways(group, key, hash, tick);
         }
         self.get(group, key, hash, 0);
-        self.get(group, key, hash, deadline);
+        self.get(group, key, hash, around[1]);
     }
 
     // Step by step from the first slot to the end, and from slots that are past it.
@@ -187,14 +231,14 @@ impl Finished {
         let mut from = 0;
         for record in &rust {
             let wanted = flagged(Some(*record));
-            self.call(group, "walk step", Ask::Walk { from, tick }, &wanted);
+            self.call(group, "walk step", Ask::Walk { from, tick }, 0, &wanted);
             from = record[0] + 1;
         }
         let slots = self.set.shown().len() as u64;
         for from in [from, slots - 1, slots, slots + 1, 1 << 63, u64::MAX] {
             let next = rust.iter().find(|record| record[0] >= from);
             let wanted = flagged(next.copied());
-            self.call(group, "walk step", Ask::Walk { from, tick }, &wanted);
+            self.call(group, "walk step", Ask::Walk { from, tick }, 0, &wanted);
         }
     }
 
@@ -203,7 +247,7 @@ impl Finished {
             return;
         }
         let stats = self.set.stats();
-        self.call(group, "stats", Ask::Stats, &stats);
+        self.call(group, "stats", Ask::Stats, 0, &stats);
         methods(group, &stats);
     }
 

@@ -10,20 +10,12 @@ use crate::set_world::{By, model, port};
 use crate::spreads::{SPREADS, Spread};
 use std::time::Duration;
 
-// With these, every setting.
+// With each of these and of the next, every setting.
 const FEW: [usize; 24] = [
     0, 1, 2, 6, 7, 8, 9, 13, 14, 15, 16, 17, 48, 49, 50, 55, 56, 57, 63, 64, 65, 255, 256, 257,
 ];
 
-// With these, some of the settings, among them every value of each part of one.
-const MANY: [(usize, usize); 6] = [
-    (895, 23),
-    (896, 23),
-    (897, 23),
-    (4_095, 67),
-    (4_096, 67),
-    (4_097, 19),
-];
+const MANY: [usize; 6] = [895, 896, 897, 4_095, 4_096, 4_097];
 
 const BITS: [u8; 4] = [0, 1, 8, 255];
 
@@ -86,26 +78,31 @@ pub fn calls(group: &mut Group, random: u64) {
 }
 
 fn large_sets(group: &mut Group, rng: &mut Rng, settings: &[Setting], long: bool) {
-    let mut spreads = SPREADS.iter().cycle();
-    // A step that has no factor with the parts of a setting reaches all their values.
-    for (count, step) in MANY {
-        let step = if long { 3 } else { step };
-        for &setting in settings.iter().step_by(step) {
-            let spread = spreads.find(|spread| !spread.crowded || long && count < 1_000);
-            one(
-                group,
-                rng,
-                port,
-                spread.unwrap_or(&SPREADS[0]),
-                count,
-                setting,
-            );
+    let plain: Vec<&Spread> = SPREADS.iter().filter(|spread| !spread.crowded).collect();
+    let all: Vec<&Spread> = SPREADS.iter().collect();
+    for (turn, count) in MANY.into_iter().enumerate() {
+        for (i, &setting) in settings.iter().enumerate() {
+            // Crowded sets take long: fewer of them, and none with more records.
+            let crowded = count < 1_000 && (long || i % 14 == turn);
+            let spreads = if crowded { &all } else { &plain };
+            // The settings have a factor in common with the spreads: each meets another at each turn.
+            let spread = spreads[(i + i / 20 + turn) % spreads.len()];
+            one(group, rng, port, spread, count, setting);
+        }
+        if long {
+            group.done(&format!("every setting, {count} records"));
         }
     }
     if long {
-        for (i, &setting) in settings.iter().step_by(23).enumerate() {
-            one(group, rng, port, &SPREADS[0], 65_535 + i % 3, setting);
+        let many: Vec<&Spread> = SPREADS
+            .iter()
+            .filter(|spread| !spread.crowded_by_many())
+            .collect();
+        for (i, &setting) in settings.iter().step_by(3).enumerate() {
+            let spread = many[i / 3 % many.len()];
+            one(group, rng, port, spread, 65_535 + i % 3, setting);
         }
+        group.done("a third of the settings, 65,535 to 65,537 records");
         for setting in [settings[7], settings[279]] {
             one(group, rng, port, &SPREADS[0], 1_048_576, setting);
         }
@@ -153,7 +150,9 @@ fn asked(group: &mut Group, rng: &mut Rng, by: By, about: &str, setting: Setting
         return;
     };
     set.stats(group);
-    set.lookups(group, rng, list);
+    // Of many records a part is asked in every way.
+    let one_in = if list.len() > 1_000 { 8 } else { 1 };
+    set.lookups(group, rng, list, one_in);
     let tick = rng.pick(&[0, 1, 65_533, 65_534, 65_535, u64::MAX]);
     set.walk(group, tick);
     if list.len() < 20 {

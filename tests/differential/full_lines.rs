@@ -148,7 +148,7 @@ fn ask_all(group: &mut Group, rng: &mut Rng, sets: &mut [(Finished, Vec<Entry>)]
         return;
     };
     newest.stats(group);
-    newest.lookups(group, rng, list);
+    newest.lookups(group, rng, list, 1);
     newest.walk(group, 3);
     newest.end(group);
     for (set, list) in older {

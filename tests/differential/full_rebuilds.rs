@@ -1,5 +1,6 @@
 // One rebuild of a large set beside the Rust's, with the one arena of its line. This file is a module
 // twice, once for each build of the Rust.
+use super::call_areas::Places;
 use super::call_build::setting_words;
 use super::call_lookups::Finished;
 use super::lines::{front, same_segments};
@@ -8,7 +9,7 @@ use super::oracle::access_index::{self as access, Set, Setting};
 use super::oracle::access_rebuilds::{Opening, Rebuild};
 use crate::call_lists::{Entry, duration};
 use crate::report::Group;
-use crate::rng::{has_pattern, has_pattern_near};
+use crate::rng::has_pattern;
 use crate::set_world::{Ask, Opened, Pushed, Reused, Sizes, UNSET, World, port};
 use std::mem::take;
 
@@ -103,6 +104,32 @@ impl Making {
         }
     }
 
+    // The call, and the Rust's answer to it.
+    fn rust_push<'a>(
+        &mut self,
+        from: Option<(u64, u64)>,
+        entry: &'a Entry,
+        lifetime: &'a [u64],
+    ) -> (Ask<'a>, Result<(), u64>) {
+        let (hash, key, value) = (entry.hash, &entry.key[..], &entry.value[..]);
+        oracle::set_hash(hash);
+        let Some((location, header)) = from else {
+            let rust = self.rust.push_copied(key, value, duration(lifetime));
+            let pushed = entry.pushed();
+            return (Ask::Copied(Pushed { lifetime, ..pushed }), rust);
+        };
+        let reused = Reused {
+            hash,
+            key,
+            value,
+            location,
+            header,
+        };
+        let (location, header) = (location as usize, header as usize);
+        let rust = self.rust.push_reused(key, value, location, header);
+        (Ask::Reused(reused), rust)
+    }
+
     // Whether it was refused.
     fn push_once(
         &mut self,
@@ -111,48 +138,44 @@ impl Making {
         entry: &Entry,
         lifetime: &[u64],
     ) -> bool {
-        let (hash, key, value) = (entry.hash, &entry.key[..], &entry.value[..]);
-        let slot = access::find_empty_build_slot(self.rust.index(), hash).unwrap_or(0);
-        oracle::set_hash(hash);
-        let (ask, rust) = match from {
-            Some((location, header)) => {
-                let reused = Reused {
-                    hash,
-                    key,
-                    value,
-                    location,
-                    header,
-                };
-                let (location, header) = (location as usize, header as usize);
-                let rust = self.rust.push_reused(key, value, location, header);
-                (Ask::Reused(reused), rust)
-            }
-            None => {
-                let rust = self.rust.push_copied(key, value, duration(lifetime));
-                let pushed = entry.pushed();
-                (Ask::Copied(Pushed { lifetime, ..pushed }), rust)
-            }
-        };
+        let slot = access::find_empty_build_slot(self.rust.index(), entry.hash).unwrap_or(0);
+        let mut places = self.places(slot, entry.hash);
+        let (ask, rust) = self.rust_push(from, entry, lifetime);
         let location = access::index_location(self.rust.index()[slot]) as u64;
         let (wanted, place) = match rust {
             Ok(()) => (0, [slot as u64, location]),
             Err(refusal) => (refusal, [UNSET; 2]),
         };
+        let about = || format!("{}, {:x?}", self.about, entry.key);
+        let copied = places.record.start - self.filled()..self.rust.copied().len();
+        places.record.end += copied.len();
+        places.untouched(group, &self.world, about);
         let refusal = port(&mut self.world, &ask, 2);
-        let about = || format!("{}, {key:x?}", self.about);
         group.rust("rebuild push", refusal, wanted, about);
         group.area("slot and location", &self.world.out[..2], &place, about);
+        group.area("answer", &self.world.out[2..], &[UNSET; 12], about);
+        let (index, filter) = (self.rust.index(), self.rust.filter());
+        let record = &self.rust.copied()[copied];
+        places.written(group, &self.world, (index, filter, record), about);
         self.state(group);
         wanted != 0
+    }
+
+    // Bytes of the arena that were filled before the rebuild.
+    fn filled(&self) -> usize {
+        self.rust.numbers()[8] as usize
+    }
+
+    fn places(&self, slot: usize, hash: u64) -> Places {
+        let (index, filter) = (self.rust.index(), self.rust.filter());
+        let end = self.filled() + self.rust.copied().len();
+        Places::new(index, filter, slot, hash, end)
     }
 
     fn state(&self, group: &mut Group) {
         let state = [&setting_words(self.setting)[..], &self.rust.numbers()].concat();
         let about = || self.about.clone();
         group.area("rebuild", &self.world.rebuild, &state, about);
-        let end = (state[14] + state[15]) as usize;
-        let near = has_pattern_near(&self.world.arena, end);
-        group.rule("arena behind the record", near, true, about);
     }
 
     fn areas(&self, group: &mut Group) {
@@ -169,7 +192,7 @@ impl Making {
             &plain.filter[words..],
             about,
         );
-        let filled = rust.numbers()[8] as usize;
+        let filled = self.filled();
         front(
             group,
             "copied",
@@ -180,17 +203,27 @@ impl Making {
         let rest = has_pattern(&world.arena, filled + rust.copied().len());
         group.rule("arena past the records", rest, true, about);
         same_segments(group, about, world, &world.arena, rust.kept());
-        let same = world.scratch == plain.scratch
-            && world.set == plain.set
+        let same = world.scratch == plain.scratch && world.set == plain.set;
+        group.rule("words that no push writes", same, true, about);
+        self.never_written(group);
+    }
+
+    // What no call of a rebuild writes.
+    fn never_written(&self, group: &mut Group) {
+        let (world, plain) = (&self.world, &self.plain);
+        let same = world.setting == plain.setting
+            && world.builder == plain.builder
+            && world.source == plain.source
             && world.starts[256..] == plain.starts[256..]
             && world.lengths[256..] == plain.lengths[256..];
-        group.rule("words that no push writes", same, true, about);
+        group.rule("words never written", same, true, || self.about.clone());
     }
 
     fn finish(mut self, group: &mut Group) -> Option<Finished> {
         let filled = self.rust.numbers()[8] + self.rust.numbers()[9];
-        let filter = self.world.filter.clone();
+        let (filter, rebuild) = (self.world.filter.clone(), self.world.rebuild.clone());
         let refusal = port(&mut self.world, &Ask::RebuildFinish, 4);
+        self.never_written(group);
         let rust = self.rust.finish();
         let wanted = rust.as_ref().map_or_else(|&refusal| refusal, |_| 0);
         let about = || format!("rebuild finish, {}", self.about);
@@ -198,6 +231,8 @@ impl Making {
         let (set, totals) = rust.ok()?;
         let world = &self.world;
         group.area("totals", &world.out[..4], &totals, about);
+        group.area("answer", &world.out[4..], &[UNSET; 10], about);
+        group.area("rebuild", &world.rebuild, &rebuild, about);
         group.area("set", &world.set[6..], &numbers(&set, filled), about);
         group.area(
             "setting",

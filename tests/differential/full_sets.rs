@@ -84,10 +84,10 @@ fn asked(
     set.stats(group);
     let part = if whole { 0 } else { 512 };
     if whole {
-        set.lookups(group, rng, list);
+        set.lookups(group, rng, list, 1);
     } else {
-        set.lookups(group, rng, &list[..part]);
-        set.lookups(group, rng, &list[list.len() - part..]);
+        set.lookups(group, rng, &list[..part], 1);
+        set.lookups(group, rng, &list[list.len() - part..], 1);
     }
     for entry in list {
         let tick = rng.below(65_540);
@@ -111,6 +111,7 @@ pub fn most_records(group: &mut Group, _: u64) {
     for &i in settings {
         one(group, &mut rng, MOST[i], RECORDS, &short);
     }
+    one(group, &mut rng, MOST[2], RECORDS - 1, &short);
 }
 
 // An arena of 2^30 bytes: with the large target records of about 1,000 bytes in 11 segments, with
@@ -162,9 +163,8 @@ pub fn spreads(group: &mut Group, _: u64) {
     let mut rng = Rng::new(64 + SEGMENT_TARGET as u64);
     let first = if SEGMENT_TARGET > 4_096 { 0 } else { 1 };
     for (i, spread) in SPREADS.iter().enumerate() {
-        // Sequential tags are crowded where their records are many.
-        let many = !spread.crowded && spread.name != "sequential tags";
-        let count = if many { 16 * CROWDED } else { CROWDED };
+        let crowded = spread.crowded_by_many();
+        let count = if crowded { CROWDED } else { 16 * CROWDED };
         let (setting, _) = MOST[(first + i) % MOST.len()];
         one(group, &mut rng, (setting, i), count, &short);
     }

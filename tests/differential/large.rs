@@ -1,6 +1,8 @@
 // The groups that split arenas, with the Rust as it is.
 use oracle_large as oracle;
 
+#[path = "call_areas.rs"]
+mod call_areas;
 #[path = "call_build.rs"]
 mod call_build;
 #[path = "call_lookups.rs"]

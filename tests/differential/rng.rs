@@ -1,4 +1,6 @@
 // Random numbers from a fixed seed (splitmix64), and the numbers at which something may change.
+use std::ops::Range;
+
 pub struct Rng(u64);
 
 impl Rng {
@@ -69,19 +71,31 @@ pub fn pattern(len: usize) -> Vec<u8> {
     (0..len).map(pattern_byte).collect()
 }
 
-fn pattern_byte(at: usize) -> u8 {
+const fn pattern_byte(at: usize) -> u8 {
     (at as u8).wrapping_mul(37).wrapping_add(0x5b)
 }
 
-// Whether an area has the pattern from a place on.
-pub fn has_pattern(area: &[u8], from: usize) -> bool {
-    // The pattern repeats after 256 bytes.
-    const PART: usize = 1 << 16;
-    let part = pattern(PART + 256);
-    let mut from = from;
-    while let Some(rest) = area.get(from..).filter(|rest| !rest.is_empty()) {
-        let bytes = &rest[..rest.len().min(PART)];
-        if bytes != &part[from % 256..][..bytes.len()] {
+// The pattern repeats after so many bytes.
+const PERIOD: usize = 256;
+
+// Twice, so that a whole period of it begins at any place.
+static TWICE: [u8; 2 * PERIOD] = {
+    let mut twice = [0; 2 * PERIOD];
+    let mut at = 0;
+    while at < twice.len() {
+        twice[at] = pattern_byte(at);
+        at += 1;
+    }
+    twice
+};
+
+// Whether an area has the pattern in a part, as far as the area reaches.
+pub fn has_pattern_in(area: &[u8], part: Range<usize>) -> bool {
+    let end = part.end.min(area.len());
+    let mut from = part.start;
+    while from < end {
+        let bytes = &area[from..end.min(from + PERIOD)];
+        if bytes != &TWICE[from % PERIOD..][..bytes.len()] {
             return false;
         }
         from += bytes.len();
@@ -89,10 +103,14 @@ pub fn has_pattern(area: &[u8], from: usize) -> bool {
     true
 }
 
-// The same of the next bytes only: what is written there by one call is written over by later ones.
+// From a place on.
+pub fn has_pattern(area: &[u8], from: usize) -> bool {
+    has_pattern_in(area, from..area.len())
+}
+
+// The next bytes only: what is written there by one call is written over by later ones.
 pub fn has_pattern_near(area: &[u8], from: usize) -> bool {
-    let mut near = area.iter().enumerate().skip(from).take(256);
-    near.all(|(at, &byte)| byte == pattern_byte(at))
+    has_pattern_in(area, from..from + PERIOD)
 }
 
 // The same in words.

@@ -62,6 +62,11 @@ const OUT: usize = 14;
 // Arenas of so many bytes are held once.
 const LARGE: usize = 1 << 28;
 
+// Areas of fewer bytes are small; of larger ones about so many bytes to a call are compared.
+const SMALL: usize = 1 << 16;
+
+const PART: usize = 1 << 12;
+
 // What stands in the answer's words before a call.
 pub const UNSET: u64 = 0xa5c3_9d71_e6b4_2f8d;
 
@@ -106,6 +111,12 @@ impl World {
         let copy = self.clone();
         self.arena = arena;
         copy
+    }
+
+    // After so many calls all areas are compared whole: small ones after each.
+    pub fn interval(&self) -> usize {
+        let bytes = 8 * (self.index.len() + self.filter.len()) + self.arena.len();
+        if bytes < SMALL { 1 } else { bytes / PART }
     }
 
     // Whether all is as in such a copy.

@@ -1,6 +1,8 @@
 // The groups that split arenas, with the Rust as it is in its own tests.
 use oracle_small as oracle;
 
+#[path = "call_areas.rs"]
+mod call_areas;
 #[path = "call_build.rs"]
 mod call_build;
 #[path = "call_lookups.rs"]

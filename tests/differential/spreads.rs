@@ -17,6 +17,13 @@ pub struct Spread {
     pub hashes: fn(&mut Rng, usize, usize) -> Vec<u64>,
 }
 
+impl Spread {
+    // With tens of thousands of records: sequential tags then stand behind one another, too.
+    pub fn crowded_by_many(&self) -> bool {
+        self.crowded || self.name == "sequential tags"
+    }
+}
+
 const fn spread(
     name: &'static str,
     crowded: bool,
