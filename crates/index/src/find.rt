@@ -305,7 +305,7 @@ fn bucket_slot(
     word_slot(index[bucket * BUCKET_SLOTS + offset])
 }
 
-// A slot of the packed layout. The reference of slot 7 ends in the word that slot 6's begins.
+// A slot of the packed layout. The reference of slot 7 lies in the last word, whose front is slot 6's end.
 fn packed_slot_at(index: &[u64], buckets: usize, bucket: usize, offset: usize) -> IndexSlot
     requires { ⌜ (bucket < buckets) × (8 * buckets ≤ length (now index)) × (offset < 8) ⌝ }
     ensures { λ r. ⌜ r ≡ getD (packedBucket buckets (now (index .entry)) bucket) offset slot.Empty ⌝ }
