@@ -2,6 +2,7 @@
 # that has set `build`, the folder for all that is built. Sets `oracles` and `linked`, rustc's
 # arguments for the first and for both. Where `oracle_alone` is set, the libraries are left out.
 here=tests/differential
+source tests/library.sh
 oracle=${ORACLE_SRC:-../shared/docs/src}/src/segment_cache.rs
 
 if [ ! -f "$oracle" ]; then
@@ -38,8 +39,8 @@ compile oracle_large "${release[@]}" "$build/oracle/oracle.rs"
 compile oracle_small "${release[@]}" -A explicit_builtin_cfgs_in_flags --cfg test "$build/oracle/oracle.rs"
 
 if [ -z "${PORT_LIB:-}${oracle_alone:-}" ]; then
-    step staticlib rt staticlib test_exports
-    step staticlib_capi rt staticlib capi
+    step staticlib make_library test_exports
+    step staticlib_capi make_library capi
 fi
 
 oracles=(

@@ -1,0 +1,9 @@
+# For scripts at the top of the repository to source: the port as a static library.
+
+# Makes target/staticlib/libNAME.a where there is none, or one that is older than a source.
+make_library() { # NAME
+    local library=target/staticlib/lib$1.a
+    if [ ! -f "$library" ] || [ -n "$(find crates -name '*.rt' -newer "$library" -print -quit)" ]; then
+        rt staticlib "$1"
+    fi
+}
