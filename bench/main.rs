@@ -45,14 +45,10 @@ const SHAPES: [Shape; 8] = {
     ]
 };
 
-// Those measured with the most records: both layouts, with and without filter and expiry.
-const LARGE: [Shape; 2] = [SHAPES[3], SHAPES[4]];
-
 fn calls(rng: &mut Rng, sizes: &[usize]) {
     for size in sizes {
-        let shapes = if *size > 1 << 16 { &LARGE[..] } else { &SHAPES };
-        for shape in shapes {
-            calls::calls(rng, *shape, *size);
+        for shape in SHAPES {
+            calls::calls(rng, shape, *size);
         }
     }
 }
