@@ -17,7 +17,7 @@ use Rattle.records.specs.declared.record.Span.{Span}
 use Rattle.sets.specs.Answers.{Reply, accept, refuse, Placed}
 use Rattle.sets.specs.Areas.{areaWordsFor}
 use Rattle.sets.specs.Build.{Opened, Pushed, Finished, afterOpen, afterPush, afterFinish}
-use Rattle.sets.specs.Lookup.{afterGet, afterTake, peekAnswer, probeAnswer, statsAnswer, walkAnswer}
+use Rattle.sets.specs.Lookup.{afterGet, afterPeek, afterTake, probeAnswer, statsAnswer, walkAnswer}
 use Rattle.sets.specs.Questions.{all}
 use Rattle.sets.specs.Stats.{loadOf}
 use Rattle.sets.specs.declared.areas.AreaWords.{AreaWords}
@@ -212,7 +212,7 @@ exportedGet w h key tick index filter starts lengths arena old =
 
 unfoldable pub exportedPeek : List ℕ → ℕ → List ℕ → ℕ → List ℕ → List ℕ → List ℕ → List ℕ → List ℕ → List ℕ → Told
 exportedPeek w h key tick index filter starts lengths arena old =
-    pick (eqb (length old) 3) (onSet (setIn w) (λ s. spanTold (peekAnswer s h key tick index filter starts lengths arena) old) (told 11 old)) (told 11 old)
+    pick (eqb (length old) 3) (onSet (setIn w) (λ s. spanTold (afterPeek s h key tick index filter starts lengths arena .answer) old) (told 11 old)) (told 11 old)
 
 -- ---- mark clearing: 1 where the mark was set, else 0
 

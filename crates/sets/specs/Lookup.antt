@@ -125,13 +125,9 @@ afterGet s h key tick index filter starts lengths arena =
 
 -- ---- peek: the same answer, and no mark
 
-abbrev pub peeked : ℕ → Lookup → Reply (Option Span) (Unit {0})
-peeked tick (Found y) = liveValue tick y
-peeked tick Nothing = accept none
-peeked tick (Refused e) = refuse (errorNumber e) tt
-
-unfoldable pub peekAnswer : FrozenSegmentCache → ℕ → List ℕ → ℕ → List ℕ → List ℕ → List ℕ → List ℕ → List ℕ → Reply (Option Span) (Unit {0})
-peekAnswer s h key tick index filter starts lengths arena = peeked tick (lookupIn s h key index filter starts lengths arena)
+unfoldable pub afterPeek : FrozenSegmentCache → ℕ → List ℕ → ℕ → List ℕ → List ℕ → List ℕ → List ℕ → List ℕ → Got
+afterPeek s h key tick index filter starts lengths arena =
+    record { answer = afterGet s h key tick index filter starts lengths arena .answer; index = index }
 
 -- ---- mark clearing: "mark clearing also finds lapsed records"
 

@@ -21,8 +21,8 @@ use index::view::SegmentView;
 use index::word::BUCKET_SLOTS;
 use records::record::Span;
 ghost use mathlib.Core.Path.{_≡_};
-ghost use Rattle.sets.specs.Answers.{getReply, probeReply, statsReply, walkReply};
-ghost use Rattle.sets.specs.Lookup.{areasHoldLookup, areasHoldSet, afterGet, findOf, getResult, peekAnswer, probeAnswer, setFits, statsAnswer, afterTake, takeResult, viewOf, walkAnswer};
+ghost use Rattle.sets.specs.Answers.{probeReply, statsReply, walkReply};
+ghost use Rattle.sets.specs.Lookup.{areasHoldLookup, areasHoldSet, afterGet, afterPeek, findOf, getResult, probeAnswer, setFits, statsAnswer, afterTake, takeResult, viewOf, walkAnswer};
 
 pub struct FrozenSegmentCache {
     pub config: SegmentCacheConfig,
@@ -123,7 +123,7 @@ impl FrozenSegmentCache {
         lengths: &[u64],
         arena: &[u8],
     ) -> GetAnswer
-        ensures { λ r. ⌜ getReply r ≡ peekAnswer self hash (now (key .entry)) «now_tick» (now (index .entry)) (now (filter .entry)) (now (starts .entry)) (now (lengths .entry)) (now (arena .entry)) ⌝ }
+        ensures { λ r. ⌜ getResult r (now (index .exit)) ≡ afterPeek self hash (now (key .entry)) «now_tick» (now (index .entry)) (now (filter .entry)) (now (starts .entry)) (now (lengths .entry)) (now (arena .entry)) ⌝ }
     {
         if !self.lookup_areas_hold(
             index.len(),

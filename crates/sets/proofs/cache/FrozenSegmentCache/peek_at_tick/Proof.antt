@@ -1,7 +1,8 @@
 -- `peek_at_tick` meets its contract. Assumes nothing.
 use mathlib.Core.Path.{_≡_, refl, sym, ap, _∙_}
 use borrow.Author.Tests.{lt-ltb, le-ltb, le-leb, lt-leb, eq-eqb, ne-eqb, not-true, not-false}
-use Rattle.sets.specs.Lookup.{lookupIn, peekAnswer}
+use Rattle.sets.specs.Lookup.{afterGet, afterPeek, lookupIn}
+use Rattle.sets.proofs.Finding.{got}
 use borrow.Author.Needs.{needs}
 use Rattle.sets.proofs.cache.FrozenSegmentCache.peek_at_tick.Statement.{statement}
 use Rattle.sets.proofs.cache.FrozenSegmentCache.peek_at_tick.Tie as tie
@@ -17,7 +18,7 @@ lookup-areas-hold-requires c κs = search needs
 
 -- src/cache.rt:135:13
 returns : tie.Need-returns
-unfolding peekAnswer lookupIn
+unfolding afterPeek afterGet lookupIn
 returns c = rw (sym (c .before .lookup-areas-hold .ensures) ∙ not-true (c .before .lookup-areas-hold .result) (c .if1 .taken))
 
 -- src/cache.rt:137:13
@@ -34,7 +35,7 @@ enum-told c = search needs
 
 -- src/cache.rt:139:13
 returns-2 : tie.Need-returns-2
-unfolding peekAnswer lookupIn
+unfolding afterPeek afterGet lookupIn
 returns-2 c = rw (sym (c .before .before .before .before .lookup-areas-hold .ensures) ∙ not-false (c .before .before .before .before .lookup-areas-hold .result) (c .before .before .before .if1 .left), sym (c .before .before .find .ensures) ∙ c .enum-told .given .1)
 
 -- src/cache.rt:141:9
@@ -43,8 +44,8 @@ live-value-requires c κs = search needs
 
 -- src/cache.rt:115:5
 returns-3 : tie.Need-returns-3
-unfolding peekAnswer lookupIn
-returns-3 c = rw (sym (c .before .before .before .before .before .before .lookup-areas-hold .ensures) ∙ not-false (c .before .before .before .before .before .before .lookup-areas-hold .result) (c .before .before .before .before .before .if1 .left), sym (c .before .before .before .before .find .ensures) ∙ c .before .before .answer .given .1) (c .live-value .ensures)
+unfolding afterPeek afterGet lookupIn
+returns-3 c = rw (sym (c .before .before .before .before .before .before .lookup-areas-hold .ensures) ∙ not-false (c .before .before .before .before .before .before .lookup-areas-hold .result) (c .before .before .before .before .before .if1 .left), sym (c .before .before .before .before .find .ensures) ∙ c .before .before .answer .given .1) (got (c .live-value .ensures) refl)
 
 pub peek-at-tick-spec : {M : Type 1} → statement M
 peek-at-tick-spec =
