@@ -1,8 +1,8 @@
 -- Laws of durations, deadlines and the time that is left. Assumes nothing.
-use mathlib.Core.Path.{_≡_, refl, sym, ap, _∙_}
-use mathlib.Core.Bool.{Bool, true, false}
-use Prim.Native.Nat.{ℕ, zero, suc, _+_, _*_, _-_, _/_, _%_, _^_, _≤_, _<_, min}
-use native.Mathlib.Nat.{mul-assoc, mul-comm, add-mul, suc-mul, mul-le-mul-right, mul-le-mul, div-add-mod', div-eq-of-lt-le, div-eq-of-lt, mul-add-div-right, mul-add-mod-self-right, le-div-iff-mul-le, div-lt-iff-lt-mul, mul-add, mul-one, one-mul}
+use mathlib.Core.Path.{_≡_, sym, ap, _∙_}
+use mathlib.Core.Bool.{false}
+use Prim.Native.Nat.{ℕ, _+_, _*_, _-_, _/_, _%_, _^_, _≤_, _<_, min}
+use native.Mathlib.Nat.{mul-assoc, mul-comm, add-mul, suc-mul, mul-le-mul, div-add-mod', div-eq-of-lt-le, div-eq-of-lt, mul-add-div-right, mul-add-mod-self-right, le-div-iff-mul-le, div-lt-iff-lt-mul, mul-add, mul-one, one-mul}
 use native.Mathlib.Decide.{decLe, decLt}
 use native.Mathlib.Omega.{arith}
 use lib.Dec.{eqb, leb, ltb, lit<}
@@ -10,7 +10,7 @@ use borrow.Author.Tests.{le-leb, lt-leb, lt-ltb, le-ltb, ne-eqb}
 use Rattle.hash_parts.specs.declared.duration.Duration.{Duration}
 use Rattle.hash_parts.specs.declared.duration.SegmentRemainingTtl.the-variants.{Finite, Nothing}
 use Rattle.hash_parts.specs.declared.error.SegmentCacheBuildError.the-variants.{ExpiryOutOfRange}
-use Rattle.hash_parts.specs.Outcome.{Outcome, accepted, refused}
+use Rattle.hash_parts.specs.Outcome.{accepted, refused}
 use Rattle.hash_parts.specs.Duration.{nanosOf, ceilDiv, deadlineAt, product}
 
 -- two tests that say the same

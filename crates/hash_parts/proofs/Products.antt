@@ -1,7 +1,7 @@
 -- Products of 64-bit numbers from their 32-bit halves. Assumes nothing.
 use mathlib.Core.Path.{_≡_, refl, sym, ap, ap₂, _∙_}
-use Prim.Native.Nat.{ℕ, zero, _+_, _*_, _-_, _/_, _%_, _^_, _≤_, _<_}
-use native.Mathlib.Nat.{add-assoc, add-comm, add-left-comm, mul-assoc, mul-comm, mul-left-comm, mul-add, add-mul, div-add-mod', mul-le-mul, div-lt-iff-lt-mul, mul-lt-mul-of-pos-right, zero-div, mul-zero}
+use Prim.Native.Nat.{ℕ, _+_, _*_, _-_, _/_, _%_, _^_, _≤_, _<_}
+use native.Mathlib.Nat.{add-assoc, add-comm, add-left-comm, mul-assoc, mul-comm, mul-left-comm, mul-add, add-mul, div-add-mod', mul-le-mul, div-lt-iff-lt-mul, mul-lt-mul-of-pos-right, mul-zero}
 use native.Mathlib.Decide.{decLt}
 use native.Mathlib.Omega.{arith}
 use lib.Pow.{pow-pos}

@@ -1,9 +1,9 @@
 -- The lowest mark of a word of marks: its slot by the trailing zeros, and the word without it. Assumes nothing.
-use mathlib.Core.Path.{_≡_, refl, sym, ap, ap₂, _∙_, subst}
+use mathlib.Core.Path.{_≡_, refl, ap, ap₂, _∙_}
 use mathlib.Core.Bool.{Bool, true, false}
-use mathlib.Core.List.{List, [], _∷_, map}
-use Prim.Native.Nat.{ℕ, zero, suc, _+_, _*_, _-_, _/_, _%_, _^_, _≤_, _<_}
-use native.Mathlib.Nat.{mul-suc, mul-mod-left, mul-div-cancel, zero-lt-suc, add-zero, add-suc, suc-add, zero-add}
+use mathlib.Core.List.{List, [], _∷_}
+use Prim.Native.Nat.{ℕ, zero, suc, _+_, _*_, _-_, _/_, _%_, _<_}
+use native.Mathlib.Nat.{mul-suc, mul-mod-left, mul-div-cancel, zero-lt-suc, add-zero}
 use native.Mathlib.Numerals.{add-eight}
 use native.Mathlib.Omega.{arith}
 use lib.Dec.{lit<}

@@ -1,16 +1,15 @@
 -- The zero-byte test, byte by byte. Assumes nothing.
-use mathlib.Core.Path.{_≡_, refl, sym, ap, _∙_, subst}
-use mathlib.Core.Bool.{Bool, true, false}
-use mathlib.Core.List.{List, [], _∷_, map}
+use mathlib.Core.Path.{_≡_, sym, ap, _∙_, subst}
+use mathlib.Core.List.{map}
 use Prim.Native.Nat.{ℕ, zero, suc, _+_, _*_, _-_, _/_, _%_, _^_, _≤_, _<_}
 use native.Mathlib.Nat.{mul-suc, div-add-mod'}
 use native.Mathlib.Omega.{arith}
-use lib.Dec.{T, eqb, eqb→eq, lit<}
+use lib.Dec.{eqb, eqb→eq, lit<}
 use lib.Pow.{pow-add, shr-lt}
 use lib.Bits.{bitAnd, bitOr, and-block, or-block, or-lt, and-le-r, and-zero-r}
-use Rattle.hash_parts.specs.ZeroBytes.{bytesOf, isZero, marks, zeroMarks}
+use Rattle.hash_parts.specs.ZeroBytes.{bytesOf, isZero, marks}
 use Rattle.hash_parts.specs.Choice.{pick}
-use Rattle.hash_parts.proofs.Table.{all, at}
+use Rattle.hash_parts.proofs.Table.{at}
 
 -- k bytes of 0x7f, and of 0x80
 abbrev pub lo : ℕ → ℕ

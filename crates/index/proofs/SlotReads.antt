@@ -1,7 +1,7 @@
 -- A slot of a finished index by its number. Assumes nothing.
-use mathlib.Core.Path.{_≡_, refl, sym, ap, _∙_}
-use mathlib.Core.Bool.{Bool, true, false}
-use mathlib.Core.List.{List, map}
+use mathlib.Core.Path.{_≡_, ap, _∙_}
+use mathlib.Core.Bool.{Bool, false}
+use mathlib.Core.List.{List}
 use Prim.Native.Nat.{ℕ, _+_, _*_, _/_, _%_, _≤_, _<_}
 use native.Mathlib.Omega.{arith}
 use lib.ListN.{length, getD, take, drop, List·getD-map}
@@ -9,7 +9,6 @@ use lib.Seq.{getD-drop, getD-take}
 use borrow.Author.Tests.{le-leb, lt-leb, lt-ltb, le-ltb}
 use Rattle.index.specs.Find.{slotAt, slotsOf}
 use Rattle.index.specs.Slot.{wordSlot}
-use Rattle.index.specs.declared.slot.IndexSlot.{IndexSlot}
 use Rattle.index.specs.declared.slot.IndexSlot.the-variants.{Empty}
 
 module _ (packed : Bool) (buckets : ℕ) (index : List ℕ) (s : ℕ) where

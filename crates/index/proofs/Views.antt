@@ -1,23 +1,18 @@
 -- Laws of reading under a stored location. Assumes nothing.
-use mathlib.Core.Path.{_≡_, refl, sym, ap, ap₂, _∙_}
-use mathlib.Core.Bool.{Bool, true, false}
-use mathlib.Core.List.{List, [], _∷_}
-use mathlib.Core.Option.{Option, none, some}
-use Prim.Native.Nat.{ℕ, zero, suc, _+_, _-_, _/_, _%_, _^_, _≤_, _<_, min}
+use mathlib.Core.Path.{_≡_, sym, ap, _∙_}
+use mathlib.Core.Bool.{true, false}
+use mathlib.Core.List.{List}
+use Prim.Native.Nat.{ℕ, zero, suc, _+_, _-_, _/_, _%_, _^_, _≤_, _<_}
 use native.Mathlib.Omega.{arith}
-use lib.Dec.{leb, ltb}
-use lib.ListN.{length, take, drop, getD, length-take, length-drop}
+use lib.ListN.{length, take, drop, getD}
 use lib.Seq.{take-take, drop-drop}
-use borrow.Author.Tests.{le-leb, lt-leb, lt-ltb, le-ltb, leb-true}
-use Rattle.hash_parts.specs.Choice.{pick}
+use borrow.Author.Tests.{le-leb, lt-leb}
 use Rattle.hash_parts.specs.declared.setting.SegmentExpiry.{SegmentExpiry}
 use Rattle.records.specs.Area.{part}
-use Rattle.records.specs.Record.{Stored, recordAt, storedAt, contents}
+use Rattle.records.specs.Record.{recordAt}
 use Rattle.records.specs.declared.record.RecordAnswer.{RecordAnswer}
-use Rattle.records.specs.declared.record.RecordAnswer.the-variants.{Read, Unreadable}
-use Rattle.records.specs.declared.record.RecordRef.{RecordRef}
-use Rattle.records.proofs.Stored.{record-inside}
-use Rattle.index.specs.View.{refMoved, answerMoved, inSegment, isSegment, recordIn, storedIn}
+use Rattle.records.specs.declared.record.RecordAnswer.the-variants.{Unreadable}
+use Rattle.index.specs.View.{answerMoved, inSegment, isSegment, recordIn}
 use Rattle.index.specs.declared.view.SegmentView.{SegmentView}
 use Rattle.index.proofs.Walks.{drop-take}
 

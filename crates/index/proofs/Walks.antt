@@ -7,7 +7,7 @@ use native.Mathlib.Decide.{decLe}
 use native.Mathlib.Numerals.{add-one}
 use native.Mathlib.Omega.{arith}
 use lib.ListN.{length, take, drop, getD, length-drop, drop-of-length-le}
-use lib.Seq.{drop-at, drop-cons, drop-drop, take-add, take-all, take-at, take-nil, take-take}
+use lib.Seq.{drop-at, drop-cons, drop-drop, take-add, take-all, take-at, take-nil}
 use borrow.Author.Tests.{le-leb, lt-leb}
 use Rattle.index.specs.Build.{nextBucket}
 use Rattle.index.specs.Walk.{bucketsOf, rot}

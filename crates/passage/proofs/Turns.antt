@@ -1,12 +1,12 @@
 -- Laws of the commands: out of turn, and how many slots an open gives. Assumes nothing.
-use mathlib.Core.Path.{_≡_, refl, sym, ap, _∙_}
+use mathlib.Core.Path.{_≡_, refl, ap}
 use mathlib.Core.List.{List}
 use Prim.Native.Nat.{ℕ, _*_, _≤_}
 use native.Mathlib.Omega.{arith}
 use lib.ListN.{length}
 use Rattle.hash_parts.specs.declared.duration.Lifetime.{Lifetime}
 use Rattle.hash_parts.specs.declared.setting.SegmentCacheConfig.{SegmentCacheConfig}
-use Rattle.sets.specs.Answers.{Reply, accept, refuse}
+use Rattle.sets.specs.Answers.{accept}
 use Rattle.sets.specs.Build.{Opened, builderOpened, afterOpen}
 use Rattle.sets.proofs.Accepted.{OpenCase, open-made, open-refused, open-case}
 use Rattle.sets.specs.declared.builder.SegmentCacheBuilder.{SegmentCacheBuilder}

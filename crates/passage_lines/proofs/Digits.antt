@@ -15,7 +15,7 @@ use Rattle.hash_parts.specs.Choice.{pick}
 use Rattle.records.specs.Area.{over}
 use Rattle.passage_lines.specs.Text.{digitOf}
 use Rattle.passage_lines.specs.declared.hex.DecodeAnswer.the-variants.{Bytes, Refused}
-use Rattle.passage_lines.specs.Hex.{inFront, bytesOfHex, spells, isHex, bytesIn, hexBytes, Decoded, decodeResult, decodedTo, decoded}
+use Rattle.passage_lines.specs.Hex.{inFront, bytesOfHex, spells, isHex, bytesIn, hexBytes, decodeResult, decodedTo, decoded}
 
 -- the text at a position where there are two characters more
 two-more : (text : List ℕ) (i : ℕ) → i + 2 ≤ length text → drop i text ≡ getD text i 0 ∷ getD text (i + 1) 0 ∷ drop (i + 2) text

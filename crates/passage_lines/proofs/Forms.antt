@@ -1,5 +1,5 @@
 -- Laws of the forms of a line: a field at a position, and what the form says of the fields after it. Assumes nothing.
-use mathlib.Core.Path.{_≡_, refl, sym, ap, ap₂, _∙_}
+use mathlib.Core.Path.{_≡_, refl, sym, ap₂, _∙_}
 use mathlib.Core.List.{List, [], _∷_}
 use mathlib.Core.Option.{Option, none, some}
 use Prim.Native.Nat.{ℕ, _+_, _-_, _≤_, _<_}
@@ -9,7 +9,7 @@ use borrow.Author.Tests.{le-ltb}
 use lib.ListN.{length, take, drop, length-drop}
 use lib.Seq.{length-take-le}
 use Rattle.passage_lines.specs.Bytes.{firstFrom}
-use Rattle.passage_lines.specs.Command.{given, next, done, wordForm, commandIn, commandOf}
+use Rattle.passage_lines.specs.Command.{given, next, done, wordForm, commandOf}
 use Rattle.passage_lines.specs.Fields.{Field, field, number, fieldsAt, Got, got, nothing, gotBefore, first, fieldAt}
 use Rattle.passage_lines.specs.Text.{numberIn}
 use Rattle.passage_lines.specs.declared.command.Command.{Command}

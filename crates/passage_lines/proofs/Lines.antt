@@ -2,7 +2,7 @@
 use mathlib.Core.Path.{_≡_, refl, sym, ap, subst, _∙_}
 use mathlib.Core.Bool.{Bool, true, false}
 use mathlib.Core.List.{List, [], _∷_, _++_, map, append-assoc, append-nil}
-use mathlib.Core.Option.{Option, none, some}
+use mathlib.Core.Option.{none, some}
 use Prim.Native.Nat.{ℕ, suc, _+_, _-_, _≤_, _<_}
 use native.Mathlib.Decide.{decLt}
 use native.Mathlib.Numerals.{add-one}
@@ -13,12 +13,12 @@ use lib.ListN.{length, getD, take, drop, length-append, length-drop, drop-of-len
 use lib.Seq.{drop-at, drop-cons, drop-drop, getD-append-add, getD-drop, getD-take, length-take-le, take-add, take-at, take-take}
 use Rattle.hash_parts.specs.Choice.{pick}
 use Rattle.records.specs.Area.{over, part}
-use Rattle.records.proofs.Area.{Writing, room, next-byte}
+use Rattle.records.proofs.Area.{Writing}
 use Rattle.passage_lines.specs.Bytes.{before, firstFrom}
 use Rattle.passage_lines.specs.Input.{linesFrom, limited, linesOf, input, unread, nextBefore, nextLine, keptUnread, afterFeed, linesLeft, linesBy, lastLine}
 use Rattle.passage_lines.specs.declared.input.Input.{Input}
 use Rattle.passage_lines.specs.declared.input.NextLine.the-variants.{Line, TooLong, Skipped, More}
-use Rattle.passage_lines.proofs.Search.{before-front, before-within}
+use Rattle.passage_lines.proofs.Search.{before-front}
 
 -- ---- moving a part of an area to its front, a byte at a time
 

@@ -1,6 +1,5 @@
 -- Laws of the lines of the output: how long they are, and writing them piece by piece. Assumes nothing.
 use mathlib.Core.Path.{_≡_, refl, sym, ap, _∙_}
-use mathlib.Core.Bool.{Bool, true, false}
 use mathlib.Core.List.{List, [], _∷_, _++_, append-assoc}
 use Prim.Native.Nat.{ℕ, _+_, _*_, _-_, _^_, _≤_, _<_, max}
 use native.Mathlib.Nat.{add-assoc}
@@ -10,7 +9,7 @@ use lib.ListN.{length, take, drop, length-append, length-take, length-drop}
 use lib.Seq.{length-take-le, take-at, drop-at, drop-drop}
 use Rattle.records.specs.Area.{over, pasted}
 use Rattle.records.proofs.Area.{Writing, fits, next}
-use Rattle.passage_lines.specs.Output.{decimalText, hexText, bytesText, Output, output, appended}
+use Rattle.passage_lines.specs.Output.{bytesText, Output, output, appended}
 use Rattle.passage_lines.specs.Reply.{wordText, lineFeed, refusedText, acceptedText, valueText}
 use Rattle.passage_lines.specs.declared.reply.Word.{Word}
 use Rattle.passage_lines.specs.declared.reply.Word.the-variants.{Open, Put, Close, Get}

@@ -13,7 +13,7 @@ use lib.Seq.{drop-cons, drop-at, set-split, length-take-le}
 use Rattle.hash_parts.specs.Choice.{pick}
 use Rattle.records.specs.Area.{pasted}
 use Rattle.passage_lines.specs.Ascii.{ascii}
-use Rattle.passage_lines.specs.Output.{digitsIn, decimalText, hexDigit, hexText, bytesText, Output, output, appended}
+use Rattle.passage_lines.specs.Output.{digitsIn, decimalText, hexDigit, hexText, bytesText, output, appended}
 
 -- ---- decimal numbers
 

@@ -9,7 +9,6 @@ use borrow.Author.Tests.{le-leb, lt-leb, lt-ltb, le-ltb, ltb-false}
 use lib.Dec.{ltb}
 use lib.ListN.{length, getD, set, length-append}
 use Rattle.hash_parts.specs.Choice.{pick}
-use Rattle.hash_parts.specs.Error.{errorNumber}
 use Rattle.hash_parts.specs.Outcome.{Outcome, accepted, refused}
 use Rattle.hash_parts.specs.Setting.{bytesPerRecord}
 use Rattle.hash_parts.specs.declared.duration.Duration.{Duration}

@@ -1,5 +1,5 @@
 -- A push into a slot: the record where it fits the arena's rest, or nothing. Assumes nothing.
-use mathlib.Core.Path.{_≡_, refl, sym, ap, ap₂, _∙_}
+use mathlib.Core.Path.{_≡_, refl, ap, ap₂, _∙_}
 use mathlib.Core.Bool.{Bool, true, false}
 use mathlib.Core.List.{List, _++_, append-nil}
 use Prim.Native.Nat.{ℕ, _+_, _-_, _≤_, _<_}
@@ -25,7 +25,7 @@ use Rattle.records.proofs.Parts.{size-is}
 use Rattle.index.specs.Filter.{displacedMarked}
 use Rattle.index.specs.Word.{wordOf}
 use Rattle.sets.specs.Answers.{accept}
-use Rattle.sets.specs.Build.{Pushed, builderGrown, pushAt, pushMade, pushRefused}
+use Rattle.sets.specs.Build.{Pushed, builderGrown, pushAt, pushRefused}
 use Rattle.sets.specs.declared.builder.SegmentCacheBuilder.{SegmentCacheBuilder}
 
 -- ---- what the record's writer says

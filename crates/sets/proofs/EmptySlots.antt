@@ -1,5 +1,5 @@
 -- An empty slot that a search finds is a slot of the index. Assumes nothing.
-use mathlib.Core.Path.{_≡_, refl, sym, ap, _∙_}
+use mathlib.Core.Path.{_≡_}
 use mathlib.Core.Bool.{Bool, true, false}
 use mathlib.Core.List.{List, [], _∷_}
 use Prim.Native.Nat.{ℕ, suc, _+_, _-_, _*_, _^_, _≤_, _<_}
@@ -9,7 +9,7 @@ use lib.ListN.{length, take, drop, length-take}
 use Rattle.hash_parts.specs.Choice.{pick}
 use Rattle.hash_parts.specs.Hash.{firstBucket}
 use Rattle.hash_parts.proofs.Products.{first-bucket-below}
-use Rattle.index.specs.Build.{Look, vacant, same, passed, look, looks, searched, searchedAll, slotFor}
+use Rattle.index.specs.Build.{vacant, same, passed, looks, searched, searchedAll, slotFor}
 use Rattle.index.specs.Walk.{bucketWalk}
 use Rattle.index.specs.declared.build.BuildSlot.{BuildSlot}
 use Rattle.index.specs.declared.build.BuildSlot.the-variants.{Empty, Full}

@@ -13,6 +13,7 @@ pub mod RebuildAccepted
 pub mod RebuildAsked
 pub mod RebuildClosure
 pub mod RebuildSteps
+pub mod Said
 pub mod SourceClosure
 pub mod Splitting
 pub mod WalkSteps

@@ -1,8 +1,7 @@
 -- `deadline_at` meets its contract: past the limit every number of ticks is refused. Assumes nothing.
-use mathlib.Core.Path.{sym, _∙_}
-use Prim.Native.Nat.{ℕ, _+_, _*_, _-_, _/_, _%_, _^_, _≤_, _<_}
+use Prim.Native.Nat.{_-_}
 use native.Mathlib.Omega.{arith}
-use Rattle.hash_parts.specs.Duration.{nanosOf, ceilDiv}
+use Rattle.hash_parts.specs.Duration.{nanosOf}
 use Rattle.hash_parts.proofs.Deadlines.{deadline-in, deadline-out}
 use borrow.Author.Needs.{needs}
 use Rattle.hash_parts.proofs.duration.deadline_at.Statement.{statement}

@@ -1,9 +1,8 @@
 -- `encode_expiry_at_tick` meets its contract, case by case. Assumes nothing.
 use mathlib.Core.Path.{sym, _∙_, _≡_}
 use native.Mathlib.Omega.{arith}
-use borrow.Author.Tests.{eqb-true, eqb-false}
+use borrow.Author.Tests.{eqb-false}
 use Rattle.hash_parts.specs.Duration.{encodedExpiry, nanosOf}
-use Prim.Native.Nat.{ℕ}
 use borrow.Author.Needs.{needs}
 use Rattle.hash_parts.proofs.duration.encode_expiry_at_tick.Statement.{statement}
 use Rattle.hash_parts.proofs.duration.encode_expiry_at_tick.Tie as tie

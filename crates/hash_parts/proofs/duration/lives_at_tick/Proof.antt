@@ -1,5 +1,4 @@
 -- `lives_at_tick` meets its contract by its two tests. Assumes nothing.
-use native.Mathlib.Omega.{arith}
 use borrow.Author.Tests.{eq-eqb, ne-eqb}
 use Rattle.hash_parts.specs.Duration.{livesAt}
 use Rattle.hash_parts.proofs.duration.lives_at_tick.Statement.{statement}

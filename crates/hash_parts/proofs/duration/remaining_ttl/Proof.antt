@@ -1,6 +1,4 @@
 -- `remaining_ttl` meets its contract, case by case. Assumes nothing.
-use mathlib.Core.Path.{sym, _∙_}
-use native.Mathlib.Omega.{arith}
 use borrow.Author.Tests.{eq-eqb, ne-eqb, le-leb, lt-leb}
 use Rattle.hash_parts.specs.Duration.{remaining}
 use borrow.Author.Needs.{needs}

@@ -1,6 +1,6 @@
 -- `search_ticks` meets its contract: short ticks are too few, and enough ticks cover the lifetime or are past the limit. Assumes nothing.
 use mathlib.Core.Path.{_≡_, sym, _∙_}
-use Prim.Native.Nat.{ℕ, _+_, _*_, _-_, _/_, _%_, _^_, _≤_, _<_}
+use Prim.Native.Nat.{_+_, _*_, _-_, _≤_, _<_}
 use native.Mathlib.Omega.{arith}
 use native.Mathlib.Nat.{mul-zero}
 use borrow.Author.Tests.{leb-true, leb-false, eqb-true, eqb-false}

@@ -1,5 +1,4 @@
 -- `reduce_hash` meets its contract: a hash is below 2^64, so its part of the buckets is below their number. Assumes nothing.
-use mathlib.Core.Path.{_∙_}
 use native.Mathlib.Omega.{arith}
 use Rattle.hash_parts.proofs.Products.{first-bucket-below}
 use borrow.Author.Needs.{needs}

@@ -1,6 +1,6 @@
 -- `zero_byte_high_bits` meets its contract: no byte's sum carries, so the test is right byte by byte. Assumes nothing.
 use mathlib.Core.Path.{ap, _∙_}
-use Prim.Native.Nat.{ℕ, _+_, _*_, _-_, _/_, _%_, _^_, _≤_, _<_}
+use Prim.Native.Nat.{ℕ, _-_, _^_}
 use lib.Bits.{bitAnd, bitOr}
 use Rattle.hash_parts.specs.ZeroBytes.{zeroMarks, zeroBytes}
 use Rattle.hash_parts.proofs.ZeroBytes.{lo, hi, test-right, no-wrap}

@@ -1,6 +1,4 @@
 -- `ends_at_filter` meets its contract by its one test. Assumes nothing.
-use mathlib.Core.Path.{_≡_, refl, sym, ap, _∙_}
-use mathlib.Core.Bool.{not}
 use borrow.Author.Tests.{eq-eqb, ne-eqb}
 use borrow.Author.Needs.{needs}
 use Rattle.index.proofs.find.ends_at_filter.Statement.{statement}

@@ -1,8 +1,7 @@
 -- `find_in_slot` meets its contract, case by case. Assumes nothing.
-use mathlib.Core.Path.{_≡_, sym, ap, _∙_}
+use mathlib.Core.Path.{sym, ap, _∙_}
 use mathlib.Core.List.{List}
-use Prim.Native.Nat.{ℕ, _+_, _*_, _-_, _/_, _≤_, _<_}
-use native.Mathlib.Omega.{arith}
+use Prim.Native.Nat.{ℕ, _-_}
 use Rattle.records.specs.Area.{sameBytes}
 use Rattle.index.specs.View.{recordIn}
 use Rattle.index.proofs.Finds.{slot-empty, slot-other, slot-broken, slot-match, slot-differs}

@@ -1,25 +1,17 @@
 -- `find_record` meets its contract: the buckets left answer as the whole walk does. Assumes nothing.
 use Rattle.index.specs.declared.find.FoundRecord.{FoundRecord}
 use mathlib.Core.Path.{_≡_, refl, sym, ap, _∙_}
-use mathlib.Core.Bool.{Bool, true, false}
 use mathlib.Core.Logic.{⊎-elim}
-use mathlib.Core.List.{List}
-use Prim.Native.Nat.{ℕ, _+_, _*_, _-_, _/_, _%_, _≤_, _<_}
+use Prim.Native.Nat.{ℕ, _+_, _*_, _-_, _≤_, _<_}
 use native.Mathlib.Omega.{arith}
-use lib.ListN.{length}
 use borrow.Author.Needs.{needs}
-use borrow.Author.Tests.{le-leb, lt-leb}
-use Rattle.hash_parts.specs.Hash.{tagOf, firstBucket}
 use Rattle.index.specs.Filter.{filterHas}
-use Rattle.index.specs.Find.{Look, endsAt, findIn, found, inBucket, looksFrom, slotsOf}
+use Rattle.index.specs.Find.{findIn, inBucket, looksFrom, slotsOf}
 use Rattle.index.specs.Slot.{keptTag}
 use Rattle.index.specs.View.{recordIn}
-use Rattle.index.specs.declared.find.FindAnswer.the-variants.{Found, Nothing}
-use Rattle.index.specs.declared.find.FindStep.{FindStep}
-use Rattle.index.specs.declared.find.FindStep.the-variants.{Hit, Stop, Next}
-use Rattle.index.specs.declared.view.SegmentView.{SegmentView}
+use Rattle.index.specs.declared.find.FindStep.the-variants.{Hit, Next}
 use Rattle.index.proofs.Walks.{next-within}
-use Rattle.index.proofs.Finds.{bucketsFound, found-first, found-end, found-hit, found-stop, found-filtered, found-on, filter-late, find-short, find-walks, Looks, stops}
+use Rattle.index.proofs.Finds.{bucketsFound, found-end, found-hit, found-stop, found-filtered, found-on, filter-late, find-short, find-walks, Looks, stops}
 use Rattle.index.proofs.find.find_record.Statement.{statement}
 use Rattle.index.proofs.find.find_record.Tie as tie
 

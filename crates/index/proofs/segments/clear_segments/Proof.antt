@@ -1,6 +1,5 @@
 -- `clear_segments` meets its contract: 256 words of 0 are no starts, padded. Assumes nothing.
-use mathlib.Core.Path.{_≡_, refl, ap, _∙_}
-use native.Mathlib.Omega.{arith}
+use mathlib.Core.Path.{refl, _∙_}
 use borrow.Author.Tests.{le-leb}
 use Rattle.index.specs.Build.{cleared}
 use Rattle.index.proofs.Filling.{padded-none}

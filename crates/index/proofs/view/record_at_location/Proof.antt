@@ -1,6 +1,5 @@
 -- `record_at_location` meets its contract, test by test. Assumes nothing.
-use mathlib.Core.Path.{_≡_, sym, _∙_}
-use mathlib.Core.Bool.{true, false}
+use mathlib.Core.Path.{_∙_}
 use native.Mathlib.Omega.{arith}
 use borrow.Author.Tests.{lt-ltb, le-ltb}
 use Rattle.index.proofs.Views.{location-none, location-outside, location-inside}

@@ -5,7 +5,6 @@ use native.Mathlib.Omega.{arith}
 use mathlib.Core.List.{List}
 use lib.ListN.{take, drop, length, length-take}
 use Rattle.records.specs.declared.record.RecordAnswer.the-variants.{Read, Unreadable}
-use Rattle.records.specs.Area.{part}
 use Rattle.records.proofs.Stored.{record-inside}
 use Rattle.index.proofs.Views.{part-front, segment-outside, segment-gives}
 use borrow.Author.Needs.{needs}

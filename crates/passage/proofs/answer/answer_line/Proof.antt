@@ -1,5 +1,5 @@
 -- `answer_line` meets its contract: each command is what its function does. Assumes nothing.
-use mathlib.Core.Path.{_≡_, sym, ap, _∙_}
+use mathlib.Core.Path.{sym, ap, _∙_}
 use Rattle.passage_lines.specs.Reply.{replyText}
 use Rattle.passage.specs.Answer.{Areas, areas, afterOpening, afterPutting, afterClosing, afterGetting, lineStep}
 use Rattle.passage.specs.Stage.{answerText}

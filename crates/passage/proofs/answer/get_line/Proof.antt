@@ -1,9 +1,6 @@
 -- `get_line` meets its contract: the key is what its text spells. Assumes nothing.
-use mathlib.Core.Path.{_≡_, sym, ap, _∙_}
 use native.Mathlib.Omega.{arith}
-use Rattle.passage_lines.specs.Hex.{decodeResult}
 use Rattle.passage_lines.specs.Reply.{replyText}
-use Rattle.passage.specs.Answer.{getBytes, within}
 use Rattle.passage.specs.Stage.{answerText}
 use Rattle.passage.proofs.Decoding.{Decoding, decode-none, decode-some}
 use borrow.Author.Needs.{needs}

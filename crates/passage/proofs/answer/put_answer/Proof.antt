@@ -1,8 +1,5 @@
 -- `put_answer` meets its contract. Assumes nothing.
-use mathlib.Core.Path.{_≡_, sym, ap, _∙_}
 use Rattle.passage.specs.Stage.{answerText}
-use Rattle.passage_lines.specs.Output.{appended}
-use Rattle.passage_lines.specs.Reply.{valueText}
 use borrow.Author.Needs.{needs}
 use Rattle.passage.proofs.answer.put_answer.Statement.{statement}
 use Rattle.passage.proofs.answer.put_answer.Tie as tie

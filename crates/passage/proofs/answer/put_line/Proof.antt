@@ -1,8 +1,6 @@
 -- `put_line` meets its contract: key and value are what their texts spell. Assumes nothing.
-use mathlib.Core.Path.{_≡_, sym, ap, _∙_}
 use native.Mathlib.Omega.{arith}
 use Rattle.passage_lines.specs.Reply.{replyText}
-use Rattle.passage.specs.Answer.{putBytes, within}
 use Rattle.passage.specs.Stage.{answerText}
 use Rattle.passage.proofs.Decoding.{Decoding, decode-none, decode-some}
 use borrow.Author.Needs.{needs}

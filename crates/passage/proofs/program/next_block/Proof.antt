@@ -1,5 +1,5 @@
 -- `next_block` meets its contract: the last line lies inside the block. Assumes nothing.
-use mathlib.Core.Path.{_≡_, ap}
+use mathlib.Core.Path.{ap}
 use native.Mathlib.Omega.{arith}
 use Rattle.passage.specs.Program.{endedWith}
 use borrow.Author.Needs.{needs}

@@ -1,5 +1,4 @@
 -- `print_answer` keeps the output's end inside. Assumes nothing.
-use mathlib.Core.Path.{_≡_}
 use native.Mathlib.Omega.{arith}
 use Rattle.passage.specs.Stage.{answerText}
 use Rattle.passage.proofs.Loop.{appended-within}

@@ -1,5 +1,4 @@
 -- `respond_bad` keeps the output's end inside. Assumes nothing.
-use mathlib.Core.Path.{_≡_}
 use native.Mathlib.Omega.{arith}
 use Rattle.passage_lines.specs.Reply.{replyText}
 use Rattle.passage_lines.specs.declared.reply.Reply.the-variants.{Bad}

@@ -1,8 +1,6 @@
 -- `parse_line` meets its contract: the first field is the word. Assumes nothing.
-use mathlib.Core.Path.{_≡_, sym, ap, _∙_}
-use Prim.Native.Nat.{_+_, _-_, _≤_}
-use native.Mathlib.Omega.{arith}
-use borrow.Author.Tests.{lt-ltb, le-ltb}
+use Prim.Native.Nat.{_-_}
+use borrow.Author.Tests.{lt-ltb}
 use lib.ListN.{length}
 use Rattle.passage_lines.specs.Command.{commandOf}
 use Rattle.passage_lines.proofs.Forms.{command-is}

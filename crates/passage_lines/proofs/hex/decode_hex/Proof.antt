@@ -1,6 +1,6 @@
 -- `decode_hex` meets its contract: the text spells half as many bytes as it has characters. Assumes nothing.
 use mathlib.Core.Path.{_≡_, refl, sym, _∙_}
-use mathlib.Core.Bool.{true, false}
+use mathlib.Core.Bool.{true}
 use native.Mathlib.Omega.{arith}
 use borrow.Author.Tests.{not-true, not-false}
 use Rattle.passage_lines.specs.Hex.{isHex}

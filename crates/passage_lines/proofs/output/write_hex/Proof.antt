@@ -1,7 +1,7 @@
 -- `write_hex` meets its contract: what is written and what is left to write are the digits of the bytes. Assumes nothing.
-use mathlib.Core.Path.{_≡_, refl, sym, ap, ap₂, subst, _∙_}
-use mathlib.Core.List.{List, _∷_}
-use Prim.Native.Nat.{ℕ, _+_, _*_, _-_, _/_, _%_, _≤_}
+use mathlib.Core.Path.{_≡_, refl, sym, ap, ap₂, _∙_}
+use mathlib.Core.List.{_∷_}
+use Prim.Native.Nat.{ℕ, _+_, _-_, _/_, _%_, _≤_}
 use native.Mathlib.Omega.{arith}
 use lib.ListN.{length, getD, drop, length-set}
 use Rattle.records.proofs.Area.{Writing, begin, room, next-byte, complete}

@@ -1,5 +1,4 @@
 -- `put_word` meets its contract. Assumes nothing.
-use Rattle.passage_lines.specs.Reply.{wordText}
 use borrow.Author.Needs.{needs}
 use Rattle.passage_lines.proofs.reply.put_word.Statement.{statement}
 use Rattle.passage_lines.proofs.reply.put_word.Tie as tie

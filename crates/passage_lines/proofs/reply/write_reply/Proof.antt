@@ -1,6 +1,5 @@
 -- `write_reply` meets its contract: each kind of reply is its line. Assumes nothing.
 use borrow.Author.Needs.{needs}
-use mathlib.Core.Path.{_≡_, ap, _∙_}
 use native.Mathlib.Omega.{arith}
 use Rattle.passage_lines.specs.Ascii.{ascii}
 use Rattle.passage_lines.specs.Reply.{replyText}

@@ -1,11 +1,11 @@
 -- `parse_duration` meets its contract: the parts before and after the point are its numbers. Assumes nothing.
-use mathlib.Core.Path.{_≡_, sym, ap, ap₂, _∙_}
-use mathlib.Core.Option.{Option, none, some}
-use Prim.Native.Nat.{ℕ, _-_, _^_}
+use mathlib.Core.Path.{_≡_, sym, ap, _∙_}
+use mathlib.Core.Option.{none, some}
+use Prim.Native.Nat.{_-_, _^_}
 use native.Mathlib.Omega.{arith}
 use lib.ListN.{length, take, drop}
 use lib.Seq.{length-take-le}
-use Rattle.passage_lines.specs.Text.{numberGiven, numberIn, timed}
+use Rattle.passage_lines.specs.Text.{numberGiven, numberIn}
 use Rattle.passage_lines.proofs.Numbers.{number-limit, duration-short, duration-no-point, after-point, duration-is}
 use borrow.Author.Needs.{needs}
 use Rattle.passage_lines.proofs.text.parse_duration.Statement.{statement}

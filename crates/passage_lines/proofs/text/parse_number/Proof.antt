@@ -1,9 +1,8 @@
 -- `parse_number` meets its contract: the digits left, after the value read so far, spell the number that was asked. Assumes nothing.
-use mathlib.Core.Path.{_≡_, refl, sym, ap, _∙_}
-use mathlib.Core.List.{List}
-use Prim.Native.Nat.{ℕ, _+_, _*_, _-_, _≤_, _<_}
+use mathlib.Core.Path.{_≡_, sym, ap, _∙_}
+use Prim.Native.Nat.{_+_, _*_, _-_, _≤_}
 use native.Mathlib.Omega.{arith}
-use lib.ListN.{length, getD, drop}
+use lib.ListN.{length, drop}
 use Rattle.passage_lines.specs.Text.{spelled, atMost, numberIn}
 use Rattle.passage_lines.proofs.Numbers.{spelled-next, spelled-bad, spelled-end, past, in-limit, step-in, step-out, number-start, number-none}
 use Rattle.passage_lines.proofs.text.parse_number.Statement.{statement}

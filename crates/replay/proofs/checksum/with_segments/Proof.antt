@@ -1,6 +1,5 @@
 -- `with_segments` ends. Assumes nothing.
 use Prim.Native.Nat.{_-_, _≤_}
-use lib.ListN.{length}
 use borrow.Author.Needs.{needs}
 use Rattle.replay.proofs.checksum.with_segments.Statement.{statement}
 use Rattle.replay.proofs.checksum.with_segments.Tie as tie

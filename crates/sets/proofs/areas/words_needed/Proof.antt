@@ -1,17 +1,12 @@
 -- `words_needed` meets its contract. Assumes nothing.
 use mathlib.Core.Path.{_≡_}
-use Prim.Native.Nat.{ℕ, _+_, _-_, _*_}
+use Prim.Native.Nat.{_+_, _-_, _*_}
 use native.Mathlib.Omega.{arith}
 use native.Mathlib.Nat.{div-le-self}
 use borrow.Author.Needs.{needs}
 use Rattle.index.specs.Build.{bucketsFor}
-use Rattle.index.proofs.build.bucket_count.Reads as bucket-count-reads
 use Rattle.sets.proofs.areas.words_needed.Statement.{statement}
 use Rattle.sets.proofs.areas.words_needed.Tie as tie
-use Rattle.sets.proofs.areas.words_needed.Reads as reads
-use Rattle.sets.proofs.areas.words_needed.Lts as lts
-use Rattle.sets.proofs.areas.scratch_words.Reads as scratch-words-reads
-use Rattle.sets.proofs.questions.filter_words_for.Reads as filter-words-for-reads
 
 bucket-count-requires : tie.Need-bucket-count-requires
 bucket-count-requires c κs = search needs

@@ -1,32 +1,23 @@
 -- `pack_index` meets its contract. Assumes nothing.
-use mathlib.Core.Path.{_≡_, refl, sym, ap, _∙_}
-use borrow.Author.Tests.{lt-ltb, le-ltb, le-leb, lt-leb, eq-eqb, ne-eqb, not-true, not-false}
+use mathlib.Core.Path.{refl}
 use borrow.Author.Needs.{needs}
 use Rattle.sets.proofs.builder.pack_index.Statement.{statement}
 use Rattle.sets.proofs.builder.pack_index.Tie as tie
-use Rattle.sets.proofs.builder.pack_index.Reads as reads
-use Rattle.sets.proofs.builder.pack_index.Lts as lts
-use Rattle.index.proofs.packed.finish_packed_index.Reads as finish-packed-index-reads
 
--- src/builder.rt:416:9
 finish-packed-index-requires : tie.Need-finish-packed-index-requires
 finish-packed-index-requires c κs = search needs
 
--- src/builder.rt:412:1
 same-length : tie.Need-same-length
 same-length c = search needs
 
--- src/builder.rt:412:1
 same-length-2 : tie.Need-same-length-2
 same-length-2 c = search needs
 
--- src/builder.rt:412:1
 returns : tie.Need-returns
 returns c =
     let w = c .before .before .before .before .finish-packed-index in
     rw (c .before .before .before .before .before .before .before .if1 .taken) (w .ensures .0, w .ensures .1)
 
--- src/builder.rt:412:1
 returns-2 : tie.Need-returns-2
 returns-2 c = rw (c .if1 .left) (refl, refl)
 

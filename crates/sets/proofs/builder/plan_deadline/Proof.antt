@@ -1,6 +1,5 @@
 -- `plan_deadline` meets its contract. Assumes nothing.
-use mathlib.Core.Path.{_≡_, refl, sym, ap, _∙_}
-use borrow.Author.Tests.{lt-ltb, le-ltb, le-leb, lt-leb, eq-eqb, ne-eqb, not-true, not-false}
+use mathlib.Core.Path.{sym, ap, _∙_}
 use Rattle.sets.specs.Build.{planDeadline}
 use Rattle.sets.specs.Questions.{deadlineRefusal}
 use Rattle.sets.proofs.Decides.{decided-refused}
@@ -8,10 +7,6 @@ use Rattle.hash_parts.specs.Duration.{expiryOutcome}
 use borrow.Author.Needs.{needs}
 use Rattle.sets.proofs.builder.plan_deadline.Statement.{statement}
 use Rattle.sets.proofs.builder.plan_deadline.Tie as tie
-use Rattle.sets.proofs.builder.plan_deadline.Reads as reads
-use Rattle.sets.proofs.builder.plan_deadline.Lts as lts
-use Rattle.hash_parts.proofs.duration.encode_expiry_at_tick.Reads as encode-expiry-at-tick-reads
-use Rattle.sets.proofs.questions.deadline_refusal.Reads as deadline-refusal-reads
 
 encode-expiry-at-tick-requires : tie.Need-encode-expiry-at-tick-requires
 encode-expiry-at-tick-requires c κs = search needs

@@ -1,6 +1,6 @@
 -- `next_entry` meets its contract: what the slots from the next one on say is what was asked. Assumes nothing.
-use mathlib.Core.Path.{_≡_, refl, sym, ap, _∙_}
-use Prim.Native.Nat.{ℕ, _+_, _-_, _*_, _/_, _^_, _≤_, _<_}
+use mathlib.Core.Path.{_≡_, refl, sym, _∙_}
+use Prim.Native.Nat.{_-_, _*_}
 use native.Mathlib.Omega.{arith}
 use borrow.Author.Needs.{needs}
 use Rattle.index.specs.View.{recordIn}
@@ -8,9 +8,6 @@ use Rattle.sets.specs.Lookup.{entryAt, firstEntry, nextEntry}
 use Rattle.sets.proofs.WalkSteps.{entry-hit, entry-miss, entry-none}
 use Rattle.sets.proofs.lookup.next_entry.Statement.{statement}
 use Rattle.sets.proofs.lookup.next_entry.Tie as tie
-use Rattle.sets.proofs.lookup.next_entry.Reads as reads
-use Rattle.sets.proofs.lookup.next_entry.Lts as lts
-use Rattle.sets.proofs.lookup.entry_at.Reads as entry-at-reads
 
 abbrev Inv-loop : tie.InvT-loop
 Inv-loop view packed buckets from index starts lengths arena slots slot₀ slot =
@@ -20,24 +17,19 @@ Inv-loop view packed buckets from index starts lengths arena slots slot₀ slot 
 abbrev μ-loop : tie.MeasureT-loop
 μ-loop view packed buckets from index starts lengths arena slots slot₀ slot = slots - slot
 
--- src/lookup.rt:80:17
 mul-slots : tie.Need-mul-slots Inv-loop μ-loop
 mul-slots c = search needs
 
--- src/lookup.rt:82:5
 loop-holds : tie.Need-loop-holds Inv-loop μ-loop
 unfolding nextEntry
 loop-holds c = refl
 
--- src/lookup.rt:83:13
 entry-at-requires : tie.Need-entry-at-requires Inv-loop μ-loop
 entry-at-requires c κs = search needs
 
--- src/lookup.rt:84:35
 enum-known-read : tie.Need-enum-known-read Inv-loop μ-loop
 enum-known-read c = search needs
 
--- src/lookup.rt:85:13
 returns : tie.Need-returns Inv-loop μ-loop
 returns c =
     let a = c .before .before .before .before .before .before .before .before .before .before .args in
@@ -49,15 +41,12 @@ returns c =
 enum-told : tie.Need-enum-told Inv-loop μ-loop
 enum-told c = search needs
 
--- src/lookup.rt:87:9
 add-slot : tie.Need-add-slot Inv-loop μ-loop
 add-slot c = search needs
 
--- src/lookup.rt:82:5
 loop-less : tie.Need-loop-less Inv-loop μ-loop
 loop-less c = omega (arith, c .before .before .before .loop-test .taken)
 
--- src/lookup.rt:82:5
 loop-again : tie.Need-loop-again Inv-loop μ-loop
 loop-again c =
     let a = c .before .before .before .before .before .before .before .before .before .args in
@@ -66,7 +55,6 @@ loop-again c =
     let entry-at = c .before .before .entry-at in
     entry-miss (entryAt (recordIn (a .view) (a .arena .now) (a .starts .now) (a .lengths .now)) (a .packed) (a .buckets) (a .index .now)) (8 * a .buckets) (loop .slot) (omega (arith, loop-test .taken)) (sym (entry-at .ensures) ∙ c .enum-told .given .1) ∙ loop .inv
 
--- src/lookup.rt:67:1
 returns-2 : tie.Need-returns-2 Inv-loop μ-loop
 returns-2 c =
     let a = c .before .before .before .before .before .before .args in

@@ -1,37 +1,29 @@
 -- `counts_fit` meets its contract. Assumes nothing.
 use Rattle.sets.specs.Questions.{countsFit, bucketsIn}
-use borrow.Author.Tests.{lt-ltb, le-ltb, le-leb, lt-leb, eq-eqb, ne-eqb, not-true, not-false}
-use mathlib.Core.Path.{_≡_, refl, sym, ap, _∙_}
-use borrow.Author.Tests.{lt-ltb, le-ltb, le-leb, lt-leb, eq-eqb, ne-eqb}
+use borrow.Author.Tests.{le-leb, lt-leb, eq-eqb, ne-eqb}
+use Rattle.sets.proofs.Said.{said-no, said-yes}
+use mathlib.Core.Path.{sym, _∙_}
+use borrow.Author.Tests.{le-leb, lt-leb, eq-eqb, ne-eqb}
+use Rattle.sets.proofs.Said.{said-no, said-yes}
 use Rattle.sets.specs.Questions.{countsFit}
 use borrow.Author.Needs.{needs}
 use Rattle.sets.proofs.questions.counts_fit.Statement.{statement}
 use Rattle.sets.proofs.questions.counts_fit.Tie as tie
-use Rattle.sets.proofs.questions.counts_fit.Reads as reads
-use Rattle.sets.proofs.questions.counts_fit.Lts as lts
-use Rattle.index.proofs.build.bucket_count.Reads as bucket-count-reads
-use Rattle.sets.proofs.questions.filter_words_for.Reads as filter-words-for-reads
-use Rattle.sets.proofs.questions.setting_fits.Reads as setting-fits-reads
 
--- src/questions.rt:97:9
 setting-fits-requires : tie.Need-setting-fits-requires
 setting-fits-requires c κs = search needs
 
--- src/questions.rt:98:9
 returns : tie.Need-returns
 unfolding countsFit
-returns c = rw (sym (c .before .setting-fits .ensures) ∙ not-true (c .before .setting-fits .result) (c .if1 .taken))
+returns c = rw (said-no (c .before .setting-fits .ensures) (c .if1 .taken))
 
--- src/questions.rt:101:9
 returns-2 : tie.Need-returns-2
 unfolding countsFit
-returns-2 c = rw (sym (c .before .before .setting-fits .ensures) ∙ not-false (c .before .before .setting-fits .result) (c .before .if1 .left), lt-leb _ _ (c .if2 .taken))
+returns-2 c = rw (said-yes (c .before .before .setting-fits .ensures) (c .before .if1 .left), lt-leb _ _ (c .if2 .taken))
 
--- src/questions.rt:103:19
 bucket-count-requires : tie.Need-bucket-count-requires
 bucket-count-requires c κs = search needs
 
--- src/questions.rt:104:9
 returns-3 : tie.Need-returns-3
 unfolding countsFit
 returns-3 c =
@@ -39,13 +31,11 @@ returns-3 c =
     let setting-fits = c .before .before .before .before .setting-fits in
     let if1 = c .before .before .before .if1 in
     let if2 = c .before .before .if2 in
-    rw (sym (setting-fits .ensures) ∙ not-false (setting-fits .result) (if1 .left), le-leb _ _ (if2 .left), ne-eqb (a .buckets) (bucketsIn (a .config) (a .records)) (λ e. c .if3 .taken (e ∙ sym (c .before .bucket-count .ensures))))
+    rw (said-yes (setting-fits .ensures) (if1 .left), le-leb _ _ (if2 .left), ne-eqb (a .buckets) (bucketsIn (a .config) (a .records)) (λ e. c .if3 .taken (e ∙ sym (c .before .bucket-count .ensures))))
 
--- src/questions.rt:106:21
 filter-words-for-requires : tie.Need-filter-words-for-requires
 filter-words-for-requires c κs = search needs
 
--- src/questions.rt:89:1
 returns-4 : tie.Need-returns-4
 unfolding countsFit
 returns-4 c =
@@ -54,7 +44,7 @@ returns-4 c =
     let if1 = c .before .before .before .before .if1 in
     let if2 = c .before .before .before .if2 in
     let bucket-count = c .before .before .bucket-count in
-    rw (sym (setting-fits .ensures) ∙ not-false (setting-fits .result) (if1 .left), le-leb _ _ (if2 .left), eq-eqb (a .buckets) (bucketsIn (a .config) (a .records)) (c .before .if3 .left ∙ bucket-count .ensures), c .filter-words-for .ensures)
+    rw (said-yes (setting-fits .ensures) (if1 .left), le-leb _ _ (if2 .left), eq-eqb (a .buckets) (bucketsIn (a .config) (a .records)) (c .before .if3 .left ∙ bucket-count .ensures), c .filter-words-for .ensures)
 
 pub counts-fit-spec : {M : Type 1} → statement M
 counts-fit-spec =

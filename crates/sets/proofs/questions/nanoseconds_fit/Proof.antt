@@ -1,27 +1,19 @@
 -- `nanoseconds_fit` meets its contract. Assumes nothing.
 use Rattle.sets.specs.Questions.{nanosecondsFit}
-use mathlib.Core.Path.{_≡_, refl, sym, ap, _∙_}
-use borrow.Author.Tests.{lt-ltb, le-ltb, le-leb, lt-leb, eq-eqb, ne-eqb}
 use borrow.Author.Needs.{needs}
 use Rattle.sets.proofs.questions.nanoseconds_fit.Statement.{statement}
 use Rattle.sets.proofs.questions.nanoseconds_fit.Tie as tie
-use Rattle.sets.proofs.questions.nanoseconds_fit.Reads as reads
-use Rattle.sets.proofs.questions.nanoseconds_fit.Lts as lts
 
--- src/questions.rt:34:37
 enum-known-expiry : tie.Need-enum-known-expiry
 enum-known-expiry c = search needs
 
--- src/questions.rt:35:9
 enum-told : tie.Need-enum-told
 enum-told c = search needs
 
--- src/questions.rt:35:9
 returns : tie.Need-returns
 unfolding nanosecondsFit
 returns c = rw (c .enum-told .given .1)
 
--- src/questions.rt:31:1
 returns-2 : tie.Need-returns-2
 unfolding nanosecondsFit
 returns-2 c = rw (c .before .before .expiry .given .1)

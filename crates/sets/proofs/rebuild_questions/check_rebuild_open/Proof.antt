@@ -1,6 +1,6 @@
 -- `check_rebuild_open` meets its contract. Assumes nothing.
-use mathlib.Core.Path.{sym, _∙_}
-use borrow.Author.Tests.{le-leb, lt-leb, eq-eqb, ne-eqb, not-true, not-false}
+use borrow.Author.Tests.{le-leb, lt-leb, eq-eqb, ne-eqb}
+use Rattle.sets.proofs.Said.{said-no, said-yes}
 use Prim.Native.Nat.{_+_, _≤_, _<_}
 use native.Mathlib.Omega.{arith}
 use Rattle.sets.specs.Kept.{keptCount}
@@ -16,21 +16,21 @@ source-holds-requires c κs = search needs
 
 returns : tie.Need-returns
 unfolding askRebuildOpen
-returns c = rw (sym (c .before .source-holds .ensures) ∙ not-true (c .before .source-holds .result) (c .if1 .taken))
+returns c = rw (said-no (c .before .source-holds .ensures) (c .if1 .taken))
 
 returns-2 : tie.Need-returns-2
 unfolding askRebuildOpen
 returns-2 c =
     let source-holds = c .before .before .before .source-holds in
     let if1 = c .before .before .if1 in
-    rw (sym (source-holds .ensures) ∙ not-false (source-holds .result) (if1 .left), ne-eqb _ _ (c .if2 .taken))
+    rw (said-yes (source-holds .ensures) (if1 .left), ne-eqb _ _ (c .if2 .taken))
 
 returns-3 : tie.Need-returns-3
 unfolding askRebuildOpen
 returns-3 c =
     let source-holds = c .before .before .before .before .source-holds in
     let if1 = c .before .before .before .if1 in
-    rw (sym (source-holds .ensures) ∙ not-false (source-holds .result) (if1 .left), eq-eqb _ _ (c .before .if2 .left), lt-leb _ _ (c .if3 .taken))
+    rw (said-yes (source-holds .ensures) (if1 .left), eq-eqb _ _ (c .before .if2 .left), lt-leb _ _ (c .if3 .taken))
 
 kept-count-requires : tie.Need-kept-count-requires
 kept-count-requires c κs = search needs
@@ -44,7 +44,7 @@ add-if4 c =
     let source-holds = c .before .before .before .before .before .before .source-holds in
     let if1 = c .before .before .before .before .before .if1 in
     let if2 = c .before .before .before .if2 in
-    let few = source-areas-asked (a .source) (a .source-starts .now) (a .source-lengths .now) (a .arena-len) (sym (source-holds .ensures) ∙ not-false (source-holds .result) (if1 .left)) .few in
+    let few = source-areas-asked (a .source) (a .source-starts .now) (a .source-lengths .now) (a .arena-len) (said-yes (source-holds .ensures) (if1 .left)) .few in
     omega (arith, few, if2 .left, c .before .kept-count .ensures, c .segment-for .ensures, kept-most (a .used-source-segments .now), segment-most (a .copied-record-capacity))
 
 returns-4 : tie.Need-returns-4
@@ -57,7 +57,7 @@ returns-4 c =
     let if3 = c .before .before .before .if3 in
     let kept-count = c .before .before .kept-count in
     let n : 256 < keptCount (a .used-source-segments .now) + segmentFor (a .copied-record-capacity) = omega (arith, c .if4 .taken, kept-count .ensures, c .before .segment-for .ensures) in
-    rw (sym (source-holds .ensures) ∙ not-false (source-holds .result) (if1 .left), eq-eqb _ _ (if2 .left), le-leb _ _ (if3 .left), lt-leb _ _ n)
+    rw (said-yes (source-holds .ensures) (if1 .left), eq-eqb _ _ (if2 .left), le-leb _ _ (if3 .left), lt-leb _ _ n)
 
 open-areas-hold-requires : tie.Need-open-areas-hold-requires
 open-areas-hold-requires c κs = search needs
@@ -74,7 +74,7 @@ returns-5 c =
     let segment-for = c .before .before .before .segment-for in
     let if4 = c .before .before .if4 in
     let n : keptCount (a .used-source-segments .now) + segmentFor (a .copied-record-capacity) ≤ 256 = omega (arith, if4 .left, kept-count .ensures, segment-for .ensures) in
-    rw (sym (source-holds .ensures) ∙ not-false (source-holds .result) (if1 .left), eq-eqb _ _ (if2 .left), le-leb _ _ (if3 .left), le-leb _ _ n, sym (c .before .open-areas-hold .ensures) ∙ not-true (c .before .open-areas-hold .result) (c .if5 .taken))
+    rw (said-yes (source-holds .ensures) (if1 .left), eq-eqb _ _ (if2 .left), le-leb _ _ (if3 .left), le-leb _ _ n, said-no (c .before .open-areas-hold .ensures) (c .if5 .taken))
 
 segment-areas-hold-requires : tie.Need-segment-areas-hold-requires
 segment-areas-hold-requires c κs = search needs
@@ -93,7 +93,7 @@ returns-6 c =
     let open-areas-hold = c .before .before .before .open-areas-hold in
     let if5 = c .before .before .if5 in
     let n : keptCount (a .used-source-segments .now) + segmentFor (a .copied-record-capacity) ≤ 256 = omega (arith, if4 .left, kept-count .ensures, segment-for .ensures) in
-    rw (sym (source-holds .ensures) ∙ not-false (source-holds .result) (if1 .left), eq-eqb _ _ (if2 .left), le-leb _ _ (if3 .left), le-leb _ _ n, sym (open-areas-hold .ensures) ∙ not-false (open-areas-hold .result) (if5 .left), sym (c .before .segment-areas-hold .ensures) ∙ not-true (c .before .segment-areas-hold .result) (c .if6 .taken))
+    rw (said-yes (source-holds .ensures) (if1 .left), eq-eqb _ _ (if2 .left), le-leb _ _ (if3 .left), le-leb _ _ n, said-yes (open-areas-hold .ensures) (if5 .left), said-no (c .before .segment-areas-hold .ensures) (c .if6 .taken))
 
 returns-7 : tie.Need-returns-7
 unfolding askRebuildOpen
@@ -109,7 +109,7 @@ returns-7 c =
     let open-areas-hold = c .before .before .before .open-areas-hold in
     let if5 = c .before .before .if5 in
     let n : keptCount (a .used-source-segments .now) + segmentFor (a .copied-record-capacity) ≤ 256 = omega (arith, if4 .left, kept-count .ensures, segment-for .ensures) in
-    rw (sym (source-holds .ensures) ∙ not-false (source-holds .result) (if1 .left), eq-eqb _ _ (if2 .left), le-leb _ _ (if3 .left), le-leb _ _ n, sym (open-areas-hold .ensures) ∙ not-false (open-areas-hold .result) (if5 .left), sym (c .before .segment-areas-hold .ensures) ∙ not-false (c .before .segment-areas-hold .result) (c .if6 .left))
+    rw (said-yes (source-holds .ensures) (if1 .left), eq-eqb _ _ (if2 .left), le-leb _ _ (if3 .left), le-leb _ _ n, said-yes (open-areas-hold .ensures) (if5 .left), said-yes (c .before .segment-areas-hold .ensures) (c .if6 .left))
 
 pub check-rebuild-open-spec : {M : Type 1} → statement M
 check-rebuild-open-spec =

@@ -1,6 +1,7 @@
 -- `same_record` meets its contract. Assumes nothing.
 use mathlib.Core.Path.{sym, ap, _∙_}
-use borrow.Author.Tests.{eq-eqb, ne-eqb, not-true, not-false}
+use borrow.Author.Tests.{eq-eqb, ne-eqb}
+use Rattle.sets.proofs.Said.{said-no, said-yes}
 use Prim.Native.Nat.{ℕ}
 use mathlib.Core.List.{List}
 use Rattle.records.specs.Area.{sameBytes}
@@ -25,7 +26,7 @@ returns-2 c =
     let a = c .before .before .before .before .before .before .before .before .before .args in
     let if1 = c .before .before .before .before .if1 in
     let value-slice = c .before .before .value-slice in
-    rw (eq-eqb _ _ (if1 .left), ap (λ (l : List ℕ). sameBytes l (a .key .now)) (sym (value-slice .ensures)) ∙ sym (c .before .same-bytes .ensures) ∙ not-true (c .before .same-bytes .result) (c .if2 .taken))
+    rw (eq-eqb _ _ (if1 .left), ap (λ (l : List ℕ). sameBytes l (a .key .now)) (sym (value-slice .ensures)) ∙ said-no (c .before .same-bytes .ensures) (c .if2 .taken))
 
 value-slice-requires-2 : tie.Need-value-slice-requires-2
 value-slice-requires-2 c κs = search needs
@@ -41,7 +42,7 @@ returns-3 c =
     let value-slice = c .before .before .before .before .before .value-slice in
     let same-bytes = c .before .before .before .before .same-bytes in
     let if2 = c .before .before .before .if2 in
-    rw (eq-eqb _ _ (if1 .left), ap (λ (l : List ℕ). sameBytes l (a .key .now)) (sym (value-slice .ensures)) ∙ sym (same-bytes .ensures) ∙ not-false (same-bytes .result) (if2 .left))
+    rw (eq-eqb _ _ (if1 .left), ap (λ (l : List ℕ). sameBytes l (a .key .now)) (sym (value-slice .ensures)) ∙ said-yes (same-bytes .ensures) (if2 .left))
     (c .same-bytes2 .ensures ∙ ap (λ (l : List ℕ). sameBytes l (a .value .now)) (c .before .value-slice2 .ensures))
 
 pub same-record-spec : {M : Type 1} → statement M

@@ -1,6 +1,5 @@
 -- `source_holds` meets its contract. Assumes nothing.
-use mathlib.Core.Path.{sym, _∙_}
-use borrow.Author.Tests.{not-true, not-false}
+use Rattle.sets.proofs.Said.{said-no, said-yes}
 use native.Mathlib.Omega.{arith}
 use lib.ListN.{length}
 use Rattle.sets.specs.Rebuild.{areasHoldSource}
@@ -14,7 +13,7 @@ fits-requires c κs = search needs
 
 returns : tie.Need-returns
 unfolding areasHoldSource
-returns c = rw (sym (c .before .fits2 .ensures) ∙ not-true (c .before .fits2 .result) (c .if1 .taken))
+returns c = rw (said-no (c .before .fits2 .ensures) (c .if1 .taken))
 
 segment-areas-hold-requires : tie.Need-segment-areas-hold-requires
 segment-areas-hold-requires c κs = search needs
@@ -24,7 +23,7 @@ unfolding areasHoldSource
 returns-2 c =
     let fits2 = c .before .before .before .fits2 in
     let if1 = c .before .before .if1 in
-    rw (sym (fits2 .ensures) ∙ not-false (fits2 .result) (if1 .left), sym (c .before .segment-areas-hold .ensures) ∙ not-true (c .before .segment-areas-hold .result) (c .if2 .taken))
+    rw (said-yes (fits2 .ensures) (if1 .left), said-no (c .before .segment-areas-hold .ensures) (c .if2 .taken))
 
 arena-holds-requires : tie.Need-arena-holds-requires
 arena-holds-requires c κs = search needs
@@ -36,7 +35,7 @@ returns-3 c =
     let if1 = c .before .before .before .before .if1 in
     let segment-areas-hold = c .before .before .before .segment-areas-hold in
     let if2 = c .before .before .if2 in
-    rw (sym (fits2 .ensures) ∙ not-false (fits2 .result) (if1 .left), sym (segment-areas-hold .ensures) ∙ not-false (segment-areas-hold .result) (if2 .left), sym (c .before .arena-holds .ensures) ∙ not-true (c .before .arena-holds .result) (c .if3 .taken))
+    rw (said-yes (fits2 .ensures) (if1 .left), said-yes (segment-areas-hold .ensures) (if2 .left), said-no (c .before .arena-holds .ensures) (c .if3 .taken))
 
 segments-inside-requires : tie.Need-segments-inside-requires
 segments-inside-requires c κs =
@@ -45,8 +44,8 @@ segments-inside-requires c κs =
     let if1 = c .before .before .before .before .if1 in
     let segment-areas-hold = c .before .before .before .segment-areas-hold in
     let if2 = c .before .before .if2 in
-    let held = areas-256 (length (a .starts .now)) (length (a .lengths .now)) (sym (segment-areas-hold .ensures) ∙ not-false (segment-areas-hold .result) (if2 .left)) in
-    let few = set-few (a .source) (sym (fits2 .ensures) ∙ not-false (fits2 .result) (if1 .left)) in
+    let held = areas-256 (length (a .starts .now)) (length (a .lengths .now)) (said-yes (segment-areas-hold .ensures) (if2 .left)) in
+    let few = set-few (a .source) (said-yes (fits2 .ensures) (if1 .left)) in
     (omega (arith, held .0, few), omega (arith, held .1, few))
 
 returns-4 : tie.Need-returns-4
@@ -57,7 +56,7 @@ returns-4 c =
     let segment-areas-hold = c .before .before .before .before .segment-areas-hold in
     let if2 = c .before .before .before .if2 in
     let arena-holds = c .before .before .arena-holds in
-    rw (sym (fits2 .ensures) ∙ not-false (fits2 .result) (if1 .left), sym (segment-areas-hold .ensures) ∙ not-false (segment-areas-hold .result) (if2 .left), sym (arena-holds .ensures) ∙ not-false (arena-holds .result) (c .before .if3 .left)) (c .segments-inside .ensures)
+    rw (said-yes (fits2 .ensures) (if1 .left), said-yes (segment-areas-hold .ensures) (if2 .left), said-yes (arena-holds .ensures) (c .before .if3 .left)) (c .segments-inside .ensures)
 
 pub source-holds-spec : {M : Type 1} → statement M
 source-holds-spec =

@@ -1,8 +1,5 @@
 -- `is_zero` meets its contract: the nanoseconds are none exactly where both parts are. Assumes nothing.
 use Rattle.hash_parts.proofs.Deadlines.{no-secs, some-secs}
-use mathlib.Core.Path.{sym}
-use native.Mathlib.Omega.{arith}
-use borrow.Author.Tests.{ne-eqb}
 use Rattle.hash_parts.proofs.duration.Duration.is_zero.Statement.{statement}
 use Rattle.hash_parts.proofs.duration.Duration.is_zero.Tie as tie
 

@@ -1,7 +1,6 @@
 -- `push` meets its contract. Assumes nothing.
-use mathlib.Core.Path.{_≡_, refl, sym, ap, _∙_}
-use borrow.Author.Tests.{lt-ltb, le-ltb, le-leb, lt-leb, eq-eqb, ne-eqb, not-true, not-false}
-use Prim.Native.Nat.{ℕ, _+_, _-_, _*_, _/_, _^_, _≤_, _<_}
+use mathlib.Core.Path.{sym, ap, _∙_}
+use Prim.Native.Nat.{_-_}
 use native.Mathlib.Omega.{arith}
 use lib.ListN.{length}
 use Rattle.hash_parts.specs.Error.{errorNumber}
@@ -14,24 +13,16 @@ use Rattle.sets.proofs.Asked.{push-asked}
 use borrow.Author.Needs.{needs}
 use Rattle.sets.proofs.builder.SegmentCacheBuilder.push.Statement.{statement}
 use Rattle.sets.proofs.builder.SegmentCacheBuilder.push.Tie as tie
-use Rattle.sets.proofs.builder.SegmentCacheBuilder.push.Reads as reads
-use Rattle.sets.proofs.builder.SegmentCacheBuilder.push.Lts as lts
-use Rattle.sets.proofs.builder.SegmentCacheBuilder.plan_push.Reads as plan-push-reads
-use Rattle.sets.proofs.builder.SegmentCacheBuilder.push_at.Reads as push-at-reads
 
--- src/builder.rt:141:15
 plan-push-requires : tie.Need-plan-push-requires
 plan-push-requires c κs = search needs
 
--- src/builder.rt:142:31
 enum-known-refusal : tie.Need-enum-known-refusal
 enum-known-refusal c = search needs
 
--- src/builder.rt:146:29
 enum-known-slot : tie.Need-enum-known-slot
 enum-known-slot c = search needs
 
--- src/builder.rt:147:17
 push-at-requires : tie.Need-push-at-requires
 push-at-requires c κs =
     let a = c .before .before .before .before .before .before .before .before .before .before .before .before .before .before .args in
@@ -44,15 +35,12 @@ push-at-requires c κs =
     let s = found-below _ (a .index .now) (a .self .«bucket_count») (a .hash) (told .0 .0) (c .before .before .before .before .before .before .before .before .before .before .before .before .before .before .fits .hash .fits) (q .place ∙ ap Empty (p .1)) in
     (q .areas .filled-held, q .areas .arena-short, omega (arith, q .areas .index-holds, s), q .announced, omega (arith, n .key-bytes, n .announced, r), omega (arith, n .value-bytes, n .announced, r))
 
--- src/builder.rt:129:5
 same-length : tie.Need-same-length
 same-length c = search needs
 
--- src/builder.rt:129:5
 same-length-2 : tie.Need-same-length-2
 same-length-2 c = search needs
 
--- src/builder.rt:129:5
 returns : tie.Need-returns
 unfolding afterPush
 returns c =
@@ -62,19 +50,15 @@ returns c =
     let p = plan-refused (a .self) (a .hash) (a .key .now) (a .ttl) (a .index .now) (length (a .filter .now)) (a .arena .now) (errorNumber (told .0 .0)) (sym (plan .ensures) ∙ ap planned (told .1)) in
     rw p (sym (decided-refused (told .0 .0) _ _))
 
--- src/builder.rt:129:5
 same-length-3 : tie.Need-same-length-3
 same-length-3 c = search needs
 
--- src/builder.rt:129:5
 same-length-4 : tie.Need-same-length-4
 same-length-4 c = search needs
 
--- src/builder.rt:129:5
 same-length-5 : tie.Need-same-length-5
 same-length-5 c = search needs
 
--- src/builder.rt:129:5
 returns-2 : tie.Need-returns-2
 unfolding afterPush
 returns-2 c =

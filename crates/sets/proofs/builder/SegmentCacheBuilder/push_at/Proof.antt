@@ -1,11 +1,10 @@
 -- `push_at` meets its contract. Assumes nothing.
-use mathlib.Core.Path.{_≡_, refl, sym, ap, _∙_}
-use borrow.Author.Tests.{lt-ltb, le-ltb, le-leb, lt-leb, eq-eqb, ne-eqb, not-true, not-false}
-use Prim.Native.Nat.{ℕ, _+_, _-_, _*_, _/_, _^_, _≤_, _<_}
+use mathlib.Core.Path.{sym, ap, _∙_}
+use Prim.Native.Nat.{ℕ, _-_}
 use native.Mathlib.Omega.{arith}
-use lib.ListN.{length, length-take, length-drop}
+use lib.ListN.{length}
 use Rattle.records.specs.Area.{writeResult}
-use Rattle.records.specs.Record.{recordBytes, recordSize}
+use Rattle.records.specs.Record.{recordBytes}
 use Rattle.records.specs.declared.varint.WriteAnswer.{WriteAnswer}
 use Rattle.records.proofs.Parts.{size-is}
 use Rattle.index.specs.Word.{wordOf}
@@ -13,43 +12,28 @@ use Rattle.sets.proofs.Appends.{append-in, append-out, push-made, push-
 use borrow.Author.Needs.{needs}
 use Rattle.sets.proofs.builder.SegmentCacheBuilder.push_at.Statement.{statement}
 use Rattle.sets.proofs.builder.SegmentCacheBuilder.push_at.Tie as tie
-use Rattle.sets.proofs.builder.SegmentCacheBuilder.push_at.Reads as reads
-use Rattle.sets.proofs.builder.SegmentCacheBuilder.push_at.Lts as lts
-use Rattle.hash_parts.proofs.hash.hash_tag.Reads as hash-tag-reads
-use Rattle.index.proofs.filter.mark_displaced.Reads as mark-displaced-reads
-use Rattle.index.proofs.word.encode_index_word.Reads as encode-index-word-reads
-use Rattle.records.proofs.record.append_record.Reads as append-record-reads
-use Rattle.sets.proofs.builder.SegmentCacheBuilder.grown.Reads as grown-reads
 
--- src/builder.rt:303:37
 sub-append-record : tie.Need-sub-append-record
 sub-append-record c = search needs
 
--- src/builder.rt:303:37
 part-append-record-start : tie.Need-part-append-record-start
 part-append-record-start c = search needs
 
--- src/builder.rt:303:37
 part-append-record-end : tie.Need-part-append-record-end
 part-append-record-end c = search needs
 
--- src/builder.rt:303:13
 append-record-requires : tie.Need-append-record-requires
 append-record-requires c κs = search needs
 
--- src/builder.rt:304:34
 enum-known-written : tie.Need-enum-known-written
 enum-known-written c = search needs
 
--- src/builder.rt:306:26
 enum-told : tie.Need-enum-told
 enum-told c = search needs
 
--- src/builder.rt:305:13
 same-length : tie.Need-same-length
 same-length c = search needs
 
--- src/builder.rt:305:13
 returns : tie.Need-returns
 returns c =
     let a = c .before .before .before .before .before .before .before .before .before .before .before .before .args in
@@ -58,27 +42,21 @@ returns c =
     let q = append-out bytes (rest (a .self .filled) (a .arena .now)) (w .last .0) (c .enum-told .given .0 .0) (ap (λ (r : WriteAnswer). writeResult r (w .last .0)) (sym (c .enum-told .given .1)) ∙ w .ensures) in
     push-no-room (a .slot) (a .expires-at) (a .self) (a .hash) (a .key .now) (a .value .now) (a .index .now) (a .filter .now) (a .arena .now) (w .last .0) (omega arith) (q .0) (q .1)
 
--- src/builder.rt:310:41
 hash-tag-requires : tie.Need-hash-tag-requires
 hash-tag-requires c κs = search needs
 
--- src/builder.rt:310:23
 encode-index-word-requires : tie.Need-encode-index-word-requires
 encode-index-word-requires c κs = search needs
 
--- src/builder.rt:310:9
 mul-index : tie.Need-mul-index
 mul-index c = search needs
 
--- src/builder.rt:310:9
 slice-write-index : tie.Need-slice-write-index
 slice-write-index c = search needs
 
--- src/builder.rt:311:9
 mark-displaced-requires : tie.Need-mark-displaced-requires
 mark-displaced-requires c κs = search needs
 
--- src/builder.rt:313:22
 grown-requires : tie.Need-grown-requires
 grown-requires c κs =
     let a = c .before .before .before .before .before .before .before .before .before .before .before .before .before .before .before .before .before .before .before .args in
@@ -89,19 +67,15 @@ grown-requires c κs =
     let s = size-is (a .self .config .expiry) (a .key .now) (a .value .now) (a .expires-at) in
     omega (arith, q .0, q .1, s, size-holds (a .self .config .expiry) (length (a .key .now)) (length (a .value .now)), rest-length (a .self .filled) (a .arena .now))
 
--- src/builder.rt:286:5
 same-length-2 : tie.Need-same-length-2
 same-length-2 c = search needs
 
--- src/builder.rt:286:5
 same-length-3 : tie.Need-same-length-3
 same-length-3 c = search needs
 
--- src/builder.rt:286:5
 same-length-4 : tie.Need-same-length-4
 same-length-4 c = search needs
 
--- src/builder.rt:286:5
 returns-2 : tie.Need-returns-2
 returns-2 c =
     let a = c .before .before .before .before .before .before .before .before .before .before .before .before .before .before .before .before .before .before .before .before .args in

@@ -1,25 +1,17 @@
 -- `find` meets its contract. Assumes nothing.
-use mathlib.Core.Path.{_≡_, refl, sym, ap, _∙_}
-use borrow.Author.Tests.{lt-ltb, le-ltb, le-leb, lt-leb, eq-eqb, ne-eqb, not-true, not-false}
+use mathlib.Core.Path.{ap, _∙_}
 use Rattle.index.specs.Find.{findIn}
 use Rattle.index.specs.declared.view.SegmentView.{SegmentView}
 use borrow.Author.Needs.{needs}
 use Rattle.sets.proofs.cache.FrozenSegmentCache.find.Statement.{statement}
 use Rattle.sets.proofs.cache.FrozenSegmentCache.find.Tie as tie
-use Rattle.sets.proofs.cache.FrozenSegmentCache.find.Reads as reads
-use Rattle.sets.proofs.cache.FrozenSegmentCache.find.Lts as lts
-use Rattle.index.proofs.find.find_record.Reads as find-record-reads
-use Rattle.sets.proofs.cache.FrozenSegmentCache.view.Reads as view-reads
 
--- src/cache.rt:270:13
 view-requires : tie.Need-view-requires
 view-requires c κs = search needs
 
--- src/cache.rt:269:9
 find-record-requires : tie.Need-find-record-requires
 find-record-requires c κs = search needs
 
--- src/cache.rt:256:5
 returns : tie.Need-returns
 returns c =
     let a = c .before .before .before .before .before .before .before .before .args in

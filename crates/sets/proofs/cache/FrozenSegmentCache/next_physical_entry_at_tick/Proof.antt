@@ -1,6 +1,6 @@
 -- `next_physical_entry_at_tick` meets its contract. Assumes nothing.
-use mathlib.Core.Path.{_≡_, refl, sym, ap, _∙_}
-use borrow.Author.Tests.{lt-ltb, le-ltb, le-leb, lt-leb, eq-eqb, ne-eqb, not-true, not-false}
+use mathlib.Core.Path.{sym, ap, _∙_}
+use Rattle.sets.proofs.Said.{said-no, said-yes}
 use lib.ListN.{length}
 use Rattle.sets.specs.Lookup.{walkAnswer, nextEntry}
 use Rattle.sets.proofs.Counts.{set-index}
@@ -11,53 +11,38 @@ use Rattle.sets.proofs.cache.FrozenSegmentCache.next_physical_entry_at_
   statement,
 }
 use Rattle.sets.proofs.cache.FrozenSegmentCache.next_physical_entry_at_tick.Tie as tie
-use Rattle.sets.proofs.cache.FrozenSegmentCache.next_physical_entry_at_tick.Reads as reads
-use Rattle.sets.proofs.cache.FrozenSegmentCache.next_physical_entry_at_tick.Lts as lts
-use Rattle.sets.proofs.cache.FrozenSegmentCache.areas_hold.Reads as areas-hold-reads
-use Rattle.sets.proofs.cache.FrozenSegmentCache.view.Reads as view-reads
-use Rattle.sets.proofs.lookup.base_record.Reads as base-record-reads
-use Rattle.sets.proofs.lookup.next_entry.Reads as next-entry-reads
 
--- src/cache.rt:192:13
 areas-hold-requires : tie.Need-areas-hold-requires
 areas-hold-requires c κs = search needs
 
--- src/cache.rt:193:13
 returns : tie.Need-returns
 unfolding walkAnswer
-returns c = rw (sym (c .before .areas-hold .ensures) ∙ not-true (c .before .areas-hold .result) (c .if1 .taken))
+returns c = rw (said-no (c .before .areas-hold .ensures) (c .if1 .taken))
 
--- src/cache.rt:197:13
 view-requires : tie.Need-view-requires
 view-requires c κs = search needs
 
--- src/cache.rt:196:13
 next-entry-requires : tie.Need-next-entry-requires
 next-entry-requires c κs =
     let a = c .before .before .before .before .before .before .before .args in
-    set-index (a .self) (length (a .index .now)) (length (a .starts .now)) (length (a .lengths .now)) (length (a .arena .now)) (sym (c .before .before .areas-hold .ensures) ∙ not-false (c .before .before .areas-hold .result) (c .before .if1 .left))
+    set-index (a .self) (length (a .index .now)) (length (a .starts .now)) (length (a .lengths .now)) (length (a .arena .now)) (said-yes (c .before .before .areas-hold .ensures) (c .before .if1 .left))
 
--- src/cache.rt:206:31
 enum-known-next : tie.Need-enum-known-next
 enum-known-next c = search needs
 
--- src/cache.rt:207:13
 enum-told : tie.Need-enum-told
 enum-told c = search needs
 
--- src/cache.rt:207:13
 returns-2 : tie.Need-returns-2
 unfolding walkAnswer
 returns-2 c =
     let a = c .before .before .before .before .before .before .before .before .before .before .args in
     let r = ap (λ (v : SegmentView). nextEntry (recordIn v (a .arena .now) (a .starts .now) (a .lengths .now)) (a .self .config .«packed_bucket_index») (a .self .buckets) (a .index .now) (a .from)) (sym (c .before .before .before .view .ensures)) in
-    rw (sym (c .before .before .before .before .before .areas-hold .ensures) ∙ not-false (c .before .before .before .before .before .areas-hold .result) (c .before .before .before .before .if1 .left), r ∙ sym (c .before .before .next-entry .ensures) ∙ c .enum-told .given .1)
+    rw (said-yes (c .before .before .before .before .before .areas-hold .ensures) (c .before .before .before .before .if1 .left), r ∙ sym (c .before .before .next-entry .ensures) ∙ c .enum-told .given .1)
 
--- src/cache.rt:209:27
 base-record-requires : tie.Need-base-record-requires
 base-record-requires c κs = search needs
 
--- src/cache.rt:181:5
 returns-3 : tie.Need-returns-3
 unfolding walkAnswer
 returns-3 c =
@@ -67,7 +52,7 @@ returns-3 c =
     let if1 = c .before .before .before .before .before .before .if1 in
     let next-entry = c .before .before .before .before .next-entry in
     let next = c .before .before .next in
-    rw (sym (areas-hold .ensures) ∙ not-false (areas-hold .result) (if1 .left), r ∙ sym (next-entry .ensures) ∙ next .given .1, c .base-record .ensures)
+    rw (said-yes (areas-hold .ensures) (if1 .left), r ∙ sym (next-entry .ensures) ∙ next .given .1, c .base-record .ensures)
 
 pub next-physical-entry-at-tick-spec : {M : Type 1} → statement M
 next-physical-entry-at-tick-spec =

@@ -1,6 +1,6 @@
 -- `check_finish` meets its contract. Assumes nothing.
-use mathlib.Core.Path.{sym, _∙_}
-use borrow.Author.Tests.{eq-eqb, ne-eqb, not-true, not-false}
+use borrow.Author.Tests.{eq-eqb, ne-eqb}
+use Rattle.sets.proofs.Said.{said-no, said-yes}
 use Rattle.sets.specs.Rebuild.{askRebuildFinish}
 use borrow.Author.Needs.{needs}
 use Rattle.sets.proofs.rebuild.SharedSegmentCacheBuilder.check_finish.Statement.{statement}
@@ -11,14 +11,14 @@ areas-hold-requires c κs = search needs
 
 returns : tie.Need-returns
 unfolding askRebuildFinish
-returns c = rw (sym (c .before .areas-hold .ensures) ∙ not-true (c .before .areas-hold .result) (c .if1 .taken))
+returns c = rw (said-no (c .before .areas-hold .ensures) (c .if1 .taken))
 
 returns-2 : tie.Need-returns-2
 unfolding askRebuildFinish
 returns-2 c =
     let areas-hold = c .before .before .before .areas-hold in
     let if1 = c .before .before .if1 in
-    rw (sym (areas-hold .ensures) ∙ not-false (areas-hold .result) (if1 .left), ne-eqb _ _ (c .if2 .taken))
+    rw (said-yes (areas-hold .ensures) (if1 .left), ne-eqb _ _ (c .if2 .taken))
 
 scratch-holds-requires : tie.Need-scratch-holds-requires
 scratch-holds-requires c κs = search needs
@@ -29,7 +29,7 @@ returns-3 c =
     let areas-hold = c .before .before .before .before .before .areas-hold in
     let if1 = c .before .before .before .before .if1 in
     let if2 = c .before .before .if2 in
-    rw (sym (areas-hold .ensures) ∙ not-false (areas-hold .result) (if1 .left), eq-eqb _ _ (if2 .left), sym (c .before .scratch-holds .ensures) ∙ not-true (c .before .scratch-holds .result) (c .if3 .taken))
+    rw (said-yes (areas-hold .ensures) (if1 .left), eq-eqb _ _ (if2 .left), said-no (c .before .scratch-holds .ensures) (c .if3 .taken))
 
 returns-4 : tie.Need-returns-4
 unfolding askRebuildFinish
@@ -37,7 +37,7 @@ returns-4 c =
     let areas-hold = c .before .before .before .before .before .areas-hold in
     let if1 = c .before .before .before .before .if1 in
     let if2 = c .before .before .if2 in
-    rw (sym (areas-hold .ensures) ∙ not-false (areas-hold .result) (if1 .left), eq-eqb _ _ (if2 .left), sym (c .before .scratch-holds .ensures) ∙ not-false (c .before .scratch-holds .result) (c .if3 .left))
+    rw (said-yes (areas-hold .ensures) (if1 .left), eq-eqb _ _ (if2 .left), said-yes (c .before .scratch-holds .ensures) (c .if3 .left))
 
 pub check-finish-spec : {M : Type 1} → statement M
 check-finish-spec =

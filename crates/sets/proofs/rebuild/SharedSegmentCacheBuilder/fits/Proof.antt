@@ -1,6 +1,6 @@
 -- `fits` meets its contract. Assumes nothing.
-use mathlib.Core.Path.{sym, _∙_}
-use borrow.Author.Tests.{le-leb, lt-leb, not-true, not-false}
+use borrow.Author.Tests.{le-leb, lt-leb}
+use Rattle.sets.proofs.Said.{said-no, said-yes}
 use Prim.Native.Nat.{_+_, _≤_, _<_}
 use native.Mathlib.Omega.{arith}
 use Rattle.sets.specs.Kept.{retained}
@@ -17,14 +17,14 @@ counts-fit-requires c κs = search needs
 
 returns : tie.Need-returns
 unfolding rebuildFits
-returns c = rw (sym (c .before .counts-fit .ensures) ∙ not-true (c .before .counts-fit .result) (c .if1 .taken))
+returns c = rw (said-no (c .before .counts-fit .ensures) (c .if1 .taken))
 
 returns-2 : tie.Need-returns-2
 unfolding rebuildFits
 returns-2 c =
     let counts-fit = c .before .before .before .counts-fit in
     let if1 = c .before .before .if1 in
-    rw (sym (counts-fit .ensures) ∙ not-false (counts-fit .result) (if1 .left), lt-leb _ _ (c .if2 .taken))
+    rw (said-yes (counts-fit .ensures) (if1 .left), lt-leb _ _ (c .if2 .taken))
 
 retained-requires : tie.Need-retained-requires
 retained-requires c κs = search needs
@@ -46,14 +46,14 @@ returns-3 c =
     let if2 = c .before .before .before .before .if2 in
     let counted = c .before .before .retained in
     let n : 256 < retained (a .self .kept) + segmentFor (a .self .«copied_bytes») = omega (arith, c .if3 .taken, counted .ensures, c .before .segment-for .ensures) in
-    rw (sym (counts-fit .ensures) ∙ not-false (counts-fit .result) (if1 .left), le-leb _ _ (if2 .left), lt-leb _ _ n)
+    rw (said-yes (counts-fit .ensures) (if1 .left), le-leb _ _ (if2 .left), lt-leb _ _ n)
 
 bytes-fit-requires : tie.Need-bytes-fit-requires
 bytes-fit-requires c κs =
     let counts-fit = c .before .before .before .before .before .before .before .counts-fit in
     let if1 = c .before .before .before .before .before .before .if1 in
     let if2 = c .before .before .before .before .if2 in
-    omega (arith, if2 .left, counts-records _ _ _ _ (sym (counts-fit .ensures) ∙ not-false (counts-fit .result) (if1 .left)))
+    omega (arith, if2 .left, counts-records _ _ _ _ (said-yes (counts-fit .ensures) (if1 .left)))
 
 returns-4 : tie.Need-returns-4
 unfolding rebuildFits
@@ -66,14 +66,14 @@ returns-4 c =
     let segment-for = c .before .before .before .segment-for in
     let if3 = c .before .before .if3 in
     let n : retained (a .self .kept) + segmentFor (a .self .«copied_bytes») ≤ 256 = omega (arith, if3 .left, counted .ensures, segment-for .ensures) in
-    rw (sym (counts-fit .ensures) ∙ not-false (counts-fit .result) (if1 .left), le-leb _ _ (if2 .left), le-leb _ _ n, sym (c .before .bytes-fit .ensures) ∙ not-true (c .before .bytes-fit .result) (c .if4 .taken))
+    rw (said-yes (counts-fit .ensures) (if1 .left), le-leb _ _ (if2 .left), le-leb _ _ n, said-no (c .before .bytes-fit .ensures) (c .if4 .taken))
 
 bytes-fit-requires-2 : tie.Need-bytes-fit-requires-2
 bytes-fit-requires-2 c κs =
     let counts-fit = c .before .before .before .before .before .before .before .before .before .counts-fit in
     let if1 = c .before .before .before .before .before .before .before .before .if1 in
     let if2 = c .before .before .before .before .before .before .if2 in
-    omega (arith, if2 .left, counts-records _ _ _ _ (sym (counts-fit .ensures) ∙ not-false (counts-fit .result) (if1 .left)))
+    omega (arith, if2 .left, counts-records _ _ _ _ (said-yes (counts-fit .ensures) (if1 .left)))
 
 returns-5 : tie.Need-returns-5
 unfolding rebuildFits
@@ -88,14 +88,14 @@ returns-5 c =
     let bytes-fit = c .before .before .before .bytes-fit in
     let if4 = c .before .before .if4 in
     let n : retained (a .self .kept) + segmentFor (a .self .«copied_bytes») ≤ 256 = omega (arith, if3 .left, counted .ensures, segment-for .ensures) in
-    rw (sym (counts-fit .ensures) ∙ not-false (counts-fit .result) (if1 .left), le-leb _ _ (if2 .left), le-leb _ _ n, sym (bytes-fit .ensures) ∙ not-false (bytes-fit .result) (if4 .left), sym (c .before .bytes-fit2 .ensures) ∙ not-true (c .before .bytes-fit2 .result) (c .if5 .taken))
+    rw (said-yes (counts-fit .ensures) (if1 .left), le-leb _ _ (if2 .left), le-leb _ _ n, said-yes (bytes-fit .ensures) (if4 .left), said-no (c .before .bytes-fit2 .ensures) (c .if5 .taken))
 
 bytes-fit-requires-3 : tie.Need-bytes-fit-requires-3
 bytes-fit-requires-3 c κs =
     let counts-fit = c .before .before .before .before .before .before .before .before .before .before .before .counts-fit in
     let if1 = c .before .before .before .before .before .before .before .before .before .before .if1 in
     let if2 = c .before .before .before .before .before .before .before .before .if2 in
-    omega (arith, if2 .left, counts-records _ _ _ _ (sym (counts-fit .ensures) ∙ not-false (counts-fit .result) (if1 .left)))
+    omega (arith, if2 .left, counts-records _ _ _ _ (said-yes (counts-fit .ensures) (if1 .left)))
 
 returns-6 : tie.Need-returns-6
 unfolding rebuildFits
@@ -111,7 +111,7 @@ returns-6 c =
     let if4 = c .before .before .before .if4 in
     let bytes-fit2 = c .before .before .bytes-fit2 in
     let n : retained (a .self .kept) + segmentFor (a .self .«copied_bytes») ≤ 256 = omega (arith, if3 .left, counted .ensures, segment-for .ensures) in
-    rw (sym (counts-fit .ensures) ∙ not-false (counts-fit .result) (if1 .left), le-leb _ _ (if2 .left), le-leb _ _ n, sym (bytes-fit .ensures) ∙ not-false (bytes-fit .result) (if4 .left), sym (bytes-fit2 .ensures) ∙ not-false (bytes-fit2 .result) (c .before .if5 .left)) (c .bytes-fit3 .ensures)
+    rw (said-yes (counts-fit .ensures) (if1 .left), le-leb _ _ (if2 .left), le-leb _ _ n, said-yes (bytes-fit .ensures) (if4 .left), said-yes (bytes-fit2 .ensures) (c .before .if5 .left)) (c .bytes-fit3 .ensures)
 
 pub fits-spec : {M : Type 1} → statement M
 fits-spec =

@@ -1,6 +1,7 @@
 -- `plan_reused` meets its contract. Assumes nothing.
 use mathlib.Core.Path.{sym, _∙_}
-use borrow.Author.Tests.{lt-ltb, le-ltb, le-leb, lt-leb, not-true, not-false}
+use borrow.Author.Tests.{lt-ltb, le-ltb, le-leb, lt-leb}
+use Rattle.sets.proofs.Said.{said-no, said-yes}
 use native.Mathlib.Omega.{arith}
 use lib.ListN.{length}
 use Rattle.sets.specs.Rebuild.{askReused}
@@ -15,14 +16,14 @@ areas-hold-requires c κs = search needs
 
 returns : tie.Need-returns
 unfolding planReused askReused
-returns c = rw (sym (c .before .areas-hold .ensures) ∙ not-true (c .before .areas-hold .result) (c .if1 .taken))
+returns c = rw (said-no (c .before .areas-hold .ensures) (c .if1 .taken))
 
 returns-2 : tie.Need-returns-2
 unfolding planReused askReused
 returns-2 c =
     let areas-hold = c .before .before .before .areas-hold in
     let if1 = c .before .before .if1 in
-    rw (sym (areas-hold .ensures) ∙ not-false (areas-hold .result) (if1 .left), lt-leb _ _ (c .if2 .taken))
+    rw (said-yes (areas-hold .ensures) (if1 .left), lt-leb _ _ (c .if2 .taken))
 
 returns-3 : tie.Need-returns-3
 unfolding planReused askReused
@@ -30,7 +31,7 @@ returns-3 c =
     let areas-hold = c .before .before .before .before .before .areas-hold in
     let if1 = c .before .before .before .before .if1 in
     let if2 = c .before .before .if2 in
-    rw (sym (areas-hold .ensures) ∙ not-false (areas-hold .result) (if1 .left), le-leb _ _ (if2 .left), le-ltb _ _ (c .if3 .taken))
+    rw (said-yes (areas-hold .ensures) (if1 .left), le-leb _ _ (if2 .left), le-ltb _ _ (c .if3 .taken))
 
 is-kept-requires : tie.Need-is-kept-requires
 is-kept-requires c κs = search needs
@@ -42,15 +43,15 @@ returns-4 c =
     let if1 = c .before .before .before .before .before .before .before .before .if1 in
     let if2 = c .before .before .before .before .before .before .if2 in
     let if3 = c .before .before .before .before .if3 in
-    rw (sym (areas-hold .ensures) ∙ not-false (areas-hold .result) (if1 .left), le-leb _ _ (if2 .left), lt-ltb _ _ (if3 .left), sym (c .before .is-kept .ensures) ∙ not-true (c .before .is-kept .result) (c .if4 .taken))
+    rw (said-yes (areas-hold .ensures) (if1 .left), le-leb _ _ (if2 .left), lt-ltb _ _ (if3 .left), said-no (c .before .is-kept .ensures) (c .if4 .taken))
 
 holds-record-requires : tie.Need-holds-record-requires
 holds-record-requires c κs =
     let a = c .before .before .before .before .before .before .before .before .before .before .before .before .before .before .before .before .args in
     let areas-hold = c .before .before .before .before .before .before .before .before .before .areas-hold in
     let if1 = c .before .before .before .before .before .before .before .before .if1 in
-    let q = rebuild-areas-asked (a .self) (length (a .index .now)) (a .starts .now) (a .lengths .now) (length (a .arena .now)) (sym (areas-hold .ensures) ∙ not-false (areas-hold .result) (if1 .left)) in
-    (sym (c .before .is-kept .ensures) ∙ not-false (c .before .is-kept .result) (c .if4 .left), omega (arith, q .filled-held, q .arena-short))
+    let q = rebuild-areas-asked (a .self) (length (a .index .now)) (a .starts .now) (a .lengths .now) (length (a .arena .now)) (said-yes (areas-hold .ensures) (if1 .left)) in
+    (said-yes (c .before .is-kept .ensures) (c .if4 .left), omega (arith, q .filled-held, q .arena-short))
 
 returns-5 : tie.Need-returns-5
 unfolding planReused askReused
@@ -61,7 +62,7 @@ returns-5 c =
     let if3 = c .before .before .before .before .before .before .if3 in
     let is-kept = c .before .before .before .is-kept in
     let if4 = c .before .before .if4 in
-    rw (sym (areas-hold .ensures) ∙ not-false (areas-hold .result) (if1 .left), le-leb _ _ (if2 .left), lt-ltb _ _ (if3 .left), sym (is-kept .ensures) ∙ not-false (is-kept .result) (if4 .left), sym (c .before .holds-record .ensures) ∙ not-true (c .before .holds-record .result) (c .if5 .taken))
+    rw (said-yes (areas-hold .ensures) (if1 .left), le-leb _ _ (if2 .left), lt-ltb _ _ (if3 .left), said-yes (is-kept .ensures) (if4 .left), said-no (c .before .holds-record .ensures) (c .if5 .taken))
 
 find-empty-build-slot-requires : tie.Need-find-empty-build-slot-requires
 find-empty-build-slot-requires c κs = search needs
@@ -87,7 +88,7 @@ returns-6 c =
     let holds-record = c .before .before .before .before .holds-record in
     let if5 = c .before .before .before .if5 in
     let find-empty-build-slot = c .before .before .find-empty-build-slot in
-    rw (sym (areas-hold .ensures) ∙ not-false (areas-hold .result) (if1 .left), le-leb _ _ (if2 .left), lt-ltb _ _ (if3 .left), sym (is-kept .ensures) ∙ not-false (is-kept .result) (if4 .left), sym (holds-record .ensures) ∙ not-false (holds-record .result) (if5 .left), sym (find-empty-build-slot .ensures) ∙ c .enum-told .given .1)
+    rw (said-yes (areas-hold .ensures) (if1 .left), le-leb _ _ (if2 .left), lt-ltb _ _ (if3 .left), said-yes (is-kept .ensures) (if4 .left), said-yes (holds-record .ensures) (if5 .left), sym (find-empty-build-slot .ensures) ∙ c .enum-told .given .1)
 
 returns-7 : tie.Need-returns-7
 unfolding planReused askReused
@@ -101,7 +102,7 @@ returns-7 c =
     let holds-record = c .before .before .before .before .holds-record in
     let if5 = c .before .before .before .if5 in
     let find-empty-build-slot = c .before .before .find-empty-build-slot in
-    rw (sym (areas-hold .ensures) ∙ not-false (areas-hold .result) (if1 .left), le-leb _ _ (if2 .left), lt-ltb _ _ (if3 .left), sym (is-kept .ensures) ∙ not-false (is-kept .result) (if4 .left), sym (holds-record .ensures) ∙ not-false (holds-record .result) (if5 .left), sym (find-empty-build-slot .ensures) ∙ c .enum-told2 .given .1)
+    rw (said-yes (areas-hold .ensures) (if1 .left), le-leb _ _ (if2 .left), lt-ltb _ _ (if3 .left), said-yes (is-kept .ensures) (if4 .left), said-yes (holds-record .ensures) (if5 .left), sym (find-empty-build-slot .ensures) ∙ c .enum-told2 .given .1)
 
 returns-8 : tie.Need-returns-8
 unfolding planReused askReused
@@ -115,7 +116,7 @@ returns-8 c =
     let holds-record = c .before .before .before .before .before .holds-record in
     let if5 = c .before .before .before .before .if5 in
     let find-empty-build-slot = c .before .before .before .find-empty-build-slot in
-    rw (sym (areas-hold .ensures) ∙ not-false (areas-hold .result) (if1 .left), le-leb _ _ (if2 .left), lt-ltb _ _ (if3 .left), sym (is-kept .ensures) ∙ not-false (is-kept .result) (if4 .left), sym (holds-record .ensures) ∙ not-false (holds-record .result) (if5 .left), sym (find-empty-build-slot .ensures) ∙ c .before .slot .given .1)
+    rw (said-yes (areas-hold .ensures) (if1 .left), le-leb _ _ (if2 .left), lt-ltb _ _ (if3 .left), said-yes (is-kept .ensures) (if4 .left), said-yes (holds-record .ensures) (if5 .left), sym (find-empty-build-slot .ensures) ∙ c .before .slot .given .1)
 
 pub plan-reused-spec : {M : Type 1} → statement M
 plan-reused-spec =

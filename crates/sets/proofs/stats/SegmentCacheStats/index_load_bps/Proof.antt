@@ -1,38 +1,28 @@
 -- `index_load_bps` meets its contract. Assumes nothing.
-use mathlib.Core.Path.{_≡_, refl, sym, ap, _∙_}
-use borrow.Author.Tests.{lt-ltb, le-ltb, le-leb, lt-leb, eq-eqb, ne-eqb, not-true, not-false}
+use mathlib.Core.Path.{sym}
+use borrow.Author.Tests.{le-leb, lt-leb, eq-eqb, ne-eqb}
 use Rattle.sets.specs.Stats.{loadOf}
-use Prim.Native.Nat.{ℕ, _/_}
 use borrow.Author.Needs.{needs}
 use Rattle.sets.proofs.stats.SegmentCacheStats.index_load_bps.Statement.{statement}
 use Rattle.sets.proofs.stats.SegmentCacheStats.index_load_bps.Tie as tie
-use Rattle.sets.proofs.stats.SegmentCacheStats.index_load_bps.Reads as reads
-use Rattle.sets.proofs.stats.SegmentCacheStats.index_load_bps.Lts as lts
-use Rattle.sets.proofs.stats.ten_thousand_times.Reads as ten-thousand-times-reads
 
--- src/stats.rt:47:13
 returns : tie.Need-returns
 unfolding loadOf
 returns c = rw (eq-eqb _ _ (c .if1 .taken))
 
--- src/stats.rt:49:28
 ten-thousand-times-requires : tie.Need-ten-thousand-times-requires
 ten-thousand-times-requires c κs = search needs
 
--- src/stats.rt:49:28
 div-basis-points : tie.Need-div-basis-points
 div-basis-points c = search needs
 
--- src/stats.rt:51:13
 returns-2 : tie.Need-returns-2
 unfolding loadOf
 returns-2 c = rw (ne-eqb _ _ (c .before .before .before .if1 .left), sym (c .before .before .ten-thousand-times .ensures), lt-leb _ _ (c .if2 .taken))
 
--- src/stats.rt:53:9
 cast-result : tie.Need-cast-result
 cast-result c = search needs
 
--- src/stats.rt:43:5
 returns-3 : tie.Need-returns-3
 unfolding loadOf
 returns-3 c = rw (ne-eqb _ _ (c .before .before .before .if1 .left), sym (c .before .before .ten-thousand-times .ensures), le-leb _ _ (c .if2 .left))
