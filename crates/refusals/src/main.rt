@@ -1,5 +1,5 @@
-// Refusals that the program passage cannot reach: 9, and 11 at the boundaries of question 1. Each line
-// names what was changed in a state that passes, and the number of the answer.
+// Refusals at the boundaries of each number: 9 and 11, which the program passage cannot reach, and others
+// beside them. Each line names what was changed in a state that passes, and the number of the answer.
 mod pushes;
 mod sets_asked;
 

@@ -8,8 +8,12 @@ use sets::builder::SegmentCacheBuilder;
 
 // Seven records announced, one in: ten bytes filled, two of them key and three value.
 fn passing() -> SegmentCacheBuilder {
+    with_setting(SegmentCacheConfig::without_expiry())
+}
+
+fn with_setting(config: SegmentCacheConfig) -> SegmentCacheBuilder {
     SegmentCacheBuilder {
-        config: SegmentCacheConfig::without_expiry().with_negative_filter_bits_per_entry(8),
+        config: config.with_negative_filter_bits_per_entry(8),
         expected_entries: 7,
         inserted_entries: 1,
         bucket_count: 1,
@@ -55,6 +59,35 @@ fn show_push(
 // A lifetime of these nanoseconds.
 fn brief(nanos: u32) -> Lifetime {
     Lifetime::For(Duration { secs: 0, nanos })
+}
+
+fn with_tick(nanos: u32) -> SegmentCacheBuilder {
+    with_setting(SegmentCacheConfig::with_relative_expiry(Duration { secs: 0, nanos }))
+}
+
+// What open would have refused by other numbers.
+fn settings() {
+    push(
+        b"push, occupancy 0",
+        with_setting(SegmentCacheConfig::without_expiry().with_target_bucket_occupancy(0)),
+        Lifetime::Never,
+    );
+    push(
+        b"push, occupancy 8",
+        with_setting(SegmentCacheConfig::without_expiry().with_target_bucket_occupancy(8)),
+        Lifetime::Never,
+    );
+    push(b"push, tick of no length", with_tick(0), Lifetime::Never);
+    push(
+        b"push, tick of 999999999 ns",
+        with_tick(999_999_999),
+        Lifetime::Never,
+    );
+    push(
+        b"push, tick of 1000000000 ns",
+        with_tick(1_000_000_000),
+        Lifetime::Never,
+    );
 }
 
 fn numbers() {
@@ -181,14 +214,25 @@ fn areas() {
 }
 
 fn finish(name: &[u8], builder: SegmentCacheBuilder, index: &mut [u64], scratch: &mut [u64]) {
-    match builder.finish(
-        4_096,
+    show_finish(
+        name,
+        builder,
         index,
         &mut [0u64; 256],
         &mut [0u64; 256],
         scratch,
-        &[0u8; 16],
-    ) {
+    );
+}
+
+fn show_finish(
+    name: &[u8],
+    builder: SegmentCacheBuilder,
+    index: &mut [u64],
+    starts: &mut [u64],
+    lengths: &mut [u64],
+    scratch: &mut [u64],
+) {
+    match builder.finish(4_096, index, starts, lengths, scratch, &[0u8; 16]) {
         FinishAnswer::Finished(_) => show::number(name, 0),
         FinishAnswer::Refused {
             refusal,
@@ -231,9 +275,41 @@ fn finishes() {
     );
 }
 
+fn finish_areas() {
+    let b = passing();
+    let full = SegmentCacheBuilder {
+        inserted_entries: 7,
+        ..b
+    };
+    finish(
+        b"finish, index a word short",
+        full,
+        &mut [0u64; 7],
+        &mut [0u64; 1],
+    );
+    show_finish(
+        b"finish, starts a word short",
+        full,
+        &mut [0u64; 8],
+        &mut [0u64; 255],
+        &mut [0u64; 256],
+        &mut [0u64; 1],
+    );
+    show_finish(
+        b"finish, lengths a word short",
+        full,
+        &mut [0u64; 8],
+        &mut [0u64; 256],
+        &mut [0u64; 255],
+        &mut [0u64; 1],
+    );
+}
+
 pub(crate) fn run() {
+    settings();
     numbers();
     bytes();
     areas();
     finishes();
+    finish_areas();
 }

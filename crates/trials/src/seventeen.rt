@@ -6,20 +6,26 @@ use sets::builder::OpenAnswer;
 use sets::builder::PushAnswer;
 use sets::builder::SegmentCacheBuilder;
 
-fn first_word(words: &[u64]) -> u64 {
-    if words.len() == 0 {
-        return 0;
+const FILTER_WORDS: usize = 3;
+
+fn show_filter(filter: &[u64]) {
+    if filter.len() != FILTER_WORDS {
+        return;
     }
-    words[0]
+    show::text(b"filter");
+    show::decimal(filter[0]);
+    show::decimal(filter[1]);
+    show::decimal(filter[2]);
+    show::text(b"\n");
 }
 
-// The slots of the last two records, and the first filter word after each.
+// The slots of the last two records, and the filter after each.
 fn show_last(key: u8, slot: usize, filter: &[u64]) {
     if key < 15 {
         return;
     }
     show::number(b"slot", slot as u64);
-    show::number(b"first filter word", first_word(filter));
+    show_filter(filter);
 }
 
 // Pushes a record of hash 0 with a key of one byte; a refusal is shown.
@@ -57,7 +63,7 @@ fn push_all(builder: SegmentCacheBuilder, index: &mut [u64], filter: &mut [u64],
 
 pub(crate) fn run() {
     let mut index = [0u64; 24];
-    let mut filter = [0u64; 3];
+    let mut filter = [0u64; FILTER_WORDS];
     let mut arena = [0u8; 64];
     let segments = [0u64; 256];
     let config = SegmentCacheConfig::without_expiry().with_negative_filter_bits_per_entry(8);
