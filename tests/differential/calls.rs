@@ -4,6 +4,7 @@ use super::call_build::{built, damaged};
 use super::oracle::access::SEGMENT_TARGET;
 use super::oracle::access_index::Setting;
 use crate::call_lists::{Entry, entries, total};
+use crate::full_records::made;
 use crate::report::Group;
 use crate::rng::Rng;
 use crate::set_world::{By, model, port};
@@ -16,6 +17,9 @@ const FEW: [usize; 24] = [
 ];
 
 const MANY: [usize; 6] = [895, 896, 897, 4_095, 4_096, 4_097];
+
+// Lengths of keys and of values on both sides of where a prefix takes a byte more.
+const LENGTHS: [usize; 6] = [127, 128, 16_383, 16_384, 2_097_151, 2_097_152];
 
 const BITS: [u8; 4] = [0, 1, 8, 255];
 
@@ -69,6 +73,11 @@ pub fn calls(group: &mut Group, random: u64) {
     large_sets(group, &mut rng, &settings, long);
     for full in [1, 2, 254, 255, 256] {
         full_segments(group, &mut rng, full);
+    }
+    for packed in [false, true] {
+        for tick in [None, TICKS[1]] {
+            boundary_lengths(group, &mut rng, packed, tick);
+        }
     }
     for setting in settings {
         for count in [2, 9, 20] {
@@ -192,4 +201,21 @@ fn full_segments(group: &mut Group, rng: &mut Rng, full: usize) {
             asked(group, rng, port, &about, setting, &list);
         }
     }
+}
+
+// Each of the lengths for a key, and for a value.
+fn boundary_lengths(group: &mut Group, rng: &mut Rng, packed: bool, tick: Option<Duration>) {
+    let setting = Setting {
+        tick,
+        occupied: 7,
+        packed,
+        bits: 8,
+    };
+    let lengths = |_: &mut Rng, i: usize| match (i % 2, LENGTHS[i / 2]) {
+        (0, key) => (key, 3),
+        (_, value) => (4, value),
+    };
+    let list = made(rng, &SPREADS[0], 2 * LENGTHS.len(), 7, tick, &lengths);
+    let about = format!("lengths where a prefix grows, {setting:?}");
+    asked(group, rng, port, &about, setting, &list);
 }

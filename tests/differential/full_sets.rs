@@ -114,8 +114,12 @@ pub fn most_records(group: &mut Group, _: u64) {
     one(group, &mut rng, MOST[2], RECORDS - 1, &short);
 }
 
+// At this length a prefix has five bytes, before it four.
+const FIVE_BYTES: usize = 1 << 28;
+
 // An arena of 2^30 bytes: with the large target records of about 1,000 bytes in 11 segments, with
-// the small one 256 of 4 MiB, each a segment; and one record that fills it exactly.
+// the small one 256 of 4 MiB, each a segment; and one record that fills it exactly. Then two keys and
+// two values, the second with a prefix that has a byte more.
 pub fn gibibytes(group: &mut Group, _: u64) {
     let mut rng = Rng::new(62 + SEGMENT_TARGET as u64);
     if SEGMENT_TARGET > 4_096 {
@@ -128,6 +132,10 @@ pub fn gibibytes(group: &mut Group, _: u64) {
         let on = most.0.tick.is_some();
         one(group, &mut rng, most, 1, &|_, _| exact(GIBIBYTE, on));
     }
+    let keys = |_: &mut Rng, i| (FIVE_BYTES - 1 + i, 4);
+    let values = |_: &mut Rng, i| (4, FIVE_BYTES - 1 + i);
+    one(group, &mut rng, MOST[1], 2, &keys);
+    one(group, &mut rng, MOST[2], 2, &values);
 }
 
 // Records that fill the target exactly, with one byte more, and with a record of two bytes behind,

@@ -67,6 +67,9 @@ const SMALL: usize = 1 << 16;
 
 const PART: usize = 1 << 12;
 
+// With occupancy 7 these are small too: 4,097 records are.
+const STILL_SMALL: usize = 1 << 20;
+
 // What stands in the answer's words before a call.
 pub const UNSET: u64 = 0xa5c3_9d71_e6b4_2f8d;
 
@@ -116,7 +119,11 @@ impl World {
     // After so many calls all areas are compared whole: small ones after each.
     pub fn interval(&self) -> usize {
         let bytes = 8 * (self.index.len() + self.filter.len()) + self.arena.len();
-        if bytes < SMALL { 1 } else { bytes / PART }
+        let small = match self.setting[..] {
+            [_, _, _, 7, _, _] => STILL_SMALL,
+            _ => SMALL,
+        };
+        if bytes < small { 1 } else { bytes / PART }
     }
 
     // Whether all is as in such a copy.
