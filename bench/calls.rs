@@ -1,7 +1,7 @@
 // The public calls beside the Rust's methods, on sets of the same records.
 use crate::measure::{Pass, Table, timed};
 use crate::port::{Port, TARGET};
-use crate::records::{Entry, NOW, Record, Shape, checksum, random_entries, random_records};
+use crate::records::{Entry, NOW, Record, Shape, VALUE, checksum, random_entries, random_records};
 use crate::rng::Rng;
 use oracle_large::access_index::{Builder, Set};
 use oracle_large::access_sets::Told;
@@ -142,12 +142,12 @@ pub fn calls(rng: &mut Rng, shape: Shape, count: usize) {
     builds(table, &mut sides);
     gets(table, &mut sides, "get hit, jumping order", &jumping);
     gets(table, &mut sides, "get hit, push order", &ordered);
+    chained_gets(table, &mut sides, &jumping);
     gets(table, &mut sides, "get miss", &misses);
     peeks(table, &sides, &jumping);
     probes(table, &sides, &jumping);
     takes(table, &mut sides, &jumping);
     walks(table, &sides);
-    #[cfg(rebuild)]
     crate::rebuilds::rebuilds(table, sides);
 }
 
@@ -169,18 +169,40 @@ pub fn asked(queries: &[Entry], mut ask: impl FnMut(&Entry) -> u64) -> Pass {
     })
 }
 
-pub fn rust_gets(rust: &Set, queries: &[Entry], mark: bool) -> Pass {
-    asked(queries, |(key, hash)| {
-        let value = rust.value(key, *hash, NOW, mark);
-        value.map_or(0, |value| 1 + value.len() as u64)
+// The same, but each query waits for the answer before it, whose length says which comes next; all
+// must hit.
+fn asked_in_turn(queries: &[Entry], mut ask: impl FnMut(&Entry) -> u64) -> Pass {
+    const HIT: u64 = 1 + VALUE as u64;
+    timed(|| {
+        let (mut sum, mut next) = (0_u64, 0);
+        for _ in 0..operations(queries) {
+            let answer = ask(&queries[next]);
+            sum = sum.wrapping_add(answer);
+            next += (answer - HIT + 1) as usize;
+            if next == queries.len() {
+                next = 0;
+            }
+        }
+        sum
     })
 }
 
+fn rust_get(rust: &Set, (key, hash): &Entry, mark: bool) -> u64 {
+    let value = rust.value(key, *hash, NOW, mark);
+    value.map_or(0, |value| 1 + value.len() as u64)
+}
+
+fn port_get(port: &mut Port, query: &Entry) -> u64 {
+    let [found, _, len] = port.get(query);
+    found + len
+}
+
+pub fn rust_gets(rust: &Set, queries: &[Entry], mark: bool) -> Pass {
+    asked(queries, |query| rust_get(rust, query, mark))
+}
+
 pub fn port_gets(port: &mut Port, queries: &[Entry]) -> Pass {
-    asked(queries, |query| {
-        let [found, _, len] = port.get(query);
-        found + len
-    })
+    asked(queries, |query| port_get(port, query))
 }
 
 fn operations(queries: &[Entry]) -> usize {
@@ -194,6 +216,16 @@ fn gets(table: &mut Table, sides: &mut Sides, name: &str, queries: &[Entry]) {
         operations(queries),
         || rust_gets(rust, queries, true),
         || port_gets(port, queries),
+    );
+}
+
+fn chained_gets(table: &mut Table, sides: &mut Sides, queries: &[Entry]) {
+    let (rust, port) = (&sides.rust, &mut sides.port);
+    table.row(
+        "get hit, each after the answer before",
+        operations(queries),
+        || asked_in_turn(queries, |query| rust_get(rust, query, true)),
+        || asked_in_turn(queries, |query| port_get(port, query)),
     );
 }
 

@@ -13,7 +13,6 @@ mod port;
 #[allow(dead_code)]
 #[path = "../tests/differential/port_index.rs"]
 mod port_index;
-#[cfg(rebuild)]
 mod rebuilds;
 mod records;
 #[allow(dead_code)]
