@@ -1,6 +1,6 @@
 /*
  * Depths by cell and notes of a harbour, some with a lapse time: built, asked before and after they
- * lapse and, where the library can, rebuilt after a new survey. Prints what it finds; any call that
+ * lapse, and rebuilt after a new survey. Prints what it finds; any call that
  * is refused unexpectedly ends it with status 1.
  */
 #include <stdio.h>

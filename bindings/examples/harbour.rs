@@ -1,5 +1,5 @@
 //! Depths by cell and notes of a harbour, some with a lapse time: built, asked before and after they
-//! lapse and, where the library can, rebuilt after a new survey. Prints the lines of harbour.c.
+//! lapse, and rebuilt after a new survey. Prints the lines of harbour.c.
 use segment_cache::{AreaWords, Arena, Builder, Refusal, Remaining, Set, Setting};
 use std::time::Duration;
 

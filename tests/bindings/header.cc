@@ -1,4 +1,4 @@
-// The header in C++: its helpers and calls are named once each.
+// The header in C++: some of its helpers and calls are used.
 #include "segment_cache.h"
 
 uint64_t words_of_a_setting() {

@@ -9,8 +9,8 @@ pub enum Refusal {
     InvalidBucketOccupancy = 1,
     /// The tick length is zero.
     ZeroExpiryTick = 2,
-    /// More records than announced or allowed, fewer at finish, a wrong number of keep flags, or a
-    /// record of a segment that isn't kept.
+    /// More records than announced or allowed, fewer at finish, a size past 64 bits, a wrong number of
+    /// keep flags, or a record of a segment that isn't kept.
     CapacityOverflow = 3,
     /// The key is in the set.
     DuplicateKey = 4,

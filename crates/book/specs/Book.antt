@@ -77,7 +77,7 @@ abbrev pub filledIn : Option ListedSet → ℕ
 filledIn none = 0
 filledIn (some s) = s .filled
 
--- Questions: "keep flags (0 drops, else kept)"
+-- Questions: "keep flags .. (0 drops, else kept)"
 unfoldable pub keptBy : List ℕ → List ℕ → List ℕ
 keptBy [] starts = []
 keptBy (f ∷ flags) [] = []

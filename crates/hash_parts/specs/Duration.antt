@@ -1,7 +1,7 @@
 -- Durations as numbers of nanoseconds, deadlines, and the time that is left.
 -- Assumes nothing.
 use Prim.Native.Nat.{ℕ, _+_, _*_, _-_, _/_, _%_, _^_}
-use mathlib.Core.Bool.{Bool, true, false}
+use mathlib.Core.Bool.{Bool, true}
 use lib.Dec.{eqb, leb, ltb}
 use Rattle.hash_parts.specs.declared.duration.Duration.{Duration}
 use Rattle.hash_parts.specs.declared.duration.Lifetime.{Lifetime}

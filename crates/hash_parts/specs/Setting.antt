@@ -1,7 +1,7 @@
--- Document 01, Setting: "The expiry kind stands inside the setting: none, or a tick length. Each change of a setting takes the old one
+-- Document 01, Setting: "The expiry kind stands inside the setting: none, or a tick length. .. Each change of a setting takes the old one
 -- and hands back the new. Start values: no expiry, occupancy 7, packed, filter bits 0."
 -- Assumes nothing.
-use mathlib.Core.Bool.{Bool, true, false}
+use mathlib.Core.Bool.{Bool, true}
 use Prim.Native.Nat.{ℕ}
 use Rattle.hash_parts.specs.declared.duration.Duration.{Duration}
 use Rattle.hash_parts.specs.declared.setting.SegmentExpiry.{SegmentExpiry}

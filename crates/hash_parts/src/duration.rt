@@ -110,7 +110,7 @@ fn divide_ticks(lifetime: Duration, tick: Duration) -> u64
     (nanos + (tick_nanos - 1)) / tick_nanos
 }
 
-// The same for durations of any length: halves the range in which the answer lies, at most 17 times.
+// The same for durations of any length: halves the range in which the answer lies, at most 16 times.
 fn search_ticks(lifetime: Duration, tick: Duration, limit: u64) -> u64
     requires { ⌜ (0 < nanosOf tick) × (limit ≤ 65534) ⌝ }
     ensures { λ r. ⌜ r ≡ min (ceilDiv (nanosOf lifetime) (nanosOf tick)) (limit + 1) ⌝ }

@@ -7,8 +7,9 @@ pub enum SegmentCacheBuildError {
     InvalidBucketOccupancy,
     // A tick of no length cannot count deadlines.
     ZeroExpiryTick,
-    // More records than were announced or than a set holds, or fewer than were announced; of a rebuild,
-    // keep flags of another number than the source's segments, or a segment that is not kept.
+    // More records than were announced or than a set holds, or fewer than were announced; no empty slot;
+    // a size past 64 bits; of a rebuild, keep flags of another number than the source's segments, or a
+    // segment that is not kept.
     CapacityOverflow,
     // The key is in the set already.
     DuplicateKey,
@@ -22,7 +23,8 @@ pub enum SegmentCacheBuildError {
     InvalidSegmentTarget,
     // A duration has a whole second or more in its nanoseconds.
     InvalidNanoseconds,
-    // A lent area is too short; in the Rust an allocation fails there.
+    // A lent area, or the arena's rest, is too short, where in the Rust an allocation fails; or at open the
+    // arena is too long.
     AreaTooShort,
     // State and areas don't belong together.
     InvalidState,

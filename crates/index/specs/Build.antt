@@ -2,15 +2,15 @@
 -- and filter words that their counts need; words past them are never written. .. A push takes the first empty slot, walking on from the first
 -- bucket and around."
 -- Assumes nothing.
-use mathlib.Core.Bool.{Bool, true, false}
+use mathlib.Core.Bool.{Bool, false}
 use mathlib.Core.List.{List, [], _∷_, _++_}
 use mathlib.Core.Option.{Option, none, some}
-use Prim.Native.Nat.{ℕ, zero, suc, _+_, _-_, _*_, max}
+use Prim.Native.Nat.{ℕ, zero, suc, _+_, _*_, max}
 use lib.Dec.{eqb, leb}
 use lib.ListN.{length, take, drop, replicate}
 use Rattle.hash_parts.specs.Choice.{pick}
 use Rattle.hash_parts.specs.Duration.{ceilDiv}
-use Rattle.hash_parts.specs.Hash.{tagOf, firstBucket}
+use Rattle.hash_parts.specs.Hash.{tagOf}
 use Rattle.hash_parts.specs.declared.setting.SegmentExpiry.{SegmentExpiry}
 use Rattle.records.specs.Area.{sameBytes}
 use Rattle.records.specs.Record.{Stored, storedAt}

@@ -1,10 +1,10 @@
 -- The packed index. Document 01: "One control word a bucket, then 7 bytes a slot: tag div 128 (2 bytes), location + 1 (5 bytes), little-endian. Control
 -- byte: (tag mod 128) mod 127 + 1, empty 0, top bit the mark." The references of a bucket, 8 × 7 bytes, are just seven words.
 -- Assumes nothing.
-use mathlib.Core.Bool.{Bool, true, false}
+use mathlib.Core.Bool.{Bool, false}
 use mathlib.Core.List.{List, [], _∷_, _++_, map}
-use Prim.Native.Nat.{ℕ, zero, suc, _+_, _-_, _*_, _/_, _%_, _^_}
-use lib.Dec.{eqb, leb, ltb}
+use Prim.Native.Nat.{ℕ, zero, suc, _+_, _-_, _*_, _%_}
+use lib.Dec.{eqb, leb}
 use lib.ListN.{length, take, drop, set, getD}
 use Rattle.hash_parts.specs.Choice.{pick}
 use Rattle.hash_parts.specs.Hash.{controlTag, secondaryTag}

@@ -1,7 +1,7 @@
 -- The record under a stored location of a finished set. Document 01, Segments: "Location becomes segment × 2^32 + offset. Start and length stand in two
 -- 256-word areas"; questions: "A segment not inside the filled arena holds no readable record."
 -- Assumes nothing.
-use mathlib.Core.Bool.{Bool, true, false}
+use mathlib.Core.Bool.{Bool, false}
 use mathlib.Core.List.{List}
 use mathlib.Core.Option.{Option}
 use Prim.Native.Nat.{ℕ, zero, suc, _+_, _/_, _%_, _^_}

@@ -206,7 +206,7 @@ fn kept_tag(packed: bool, tag: u64) -> u64
     tag
 }
 
-// The slots of a bucket that may hold the tag, as marks on the bytes of a word.
+// The slots of a bucket that are looked at, as marks on the bytes of a word.
 fn candidate_marks(index: &[u64], packed: bool, bucket: usize, tag: u64) -> u64
     requires { ⌜ 8 * bucket + 8 ≤ length (now index) ⌝ }
     ensures { λ r. ⌜ r ≡ marks (candidates packed tag (now (index .entry)) bucket) ⌝ }

@@ -1,5 +1,6 @@
 // Published unsigned LEB128 examples, written and read back: the DWARF standard's table (2, 127,
-// 128, 129, 12857), the usual example 624485, and the ends of the ranges of five, nine and ten bytes.
+// 128, 129, 12857), the usual example 624485, both sides of 2^32, and the ends of the ranges of nine
+// and ten bytes.
 use records::varint::Varint;
 use records::varint::WriteAnswer;
 

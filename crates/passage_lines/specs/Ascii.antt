@@ -1,6 +1,6 @@
 -- Text as its bytes. Assumes nothing.
 use Prim.Native.Nat.{ℕ}
-use Prim.Native.Char.{Char, code}
+use Prim.Native.Char.{code}
 use Prim.Native.String as native
 use Prim.Native.String.{String}
 use mathlib.Core.List.{List, [], _∷_}

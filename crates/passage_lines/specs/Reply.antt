@@ -2,7 +2,7 @@
 -- record-bytes; value. A get without a hit prints `get none`." and "prints `bad`".
 -- Assumes nothing.
 use Prim.Native.Nat.{ℕ}
-use mathlib.Core.List.{List, [], _∷_, _++_}
+use mathlib.Core.List.{List, _∷_, _++_}
 use Rattle.hash_parts.specs.Error.{errorNumber}
 use Rattle.passage_lines.specs.Ascii.{ascii}
 use Rattle.passage_lines.specs.Output.{decimalText, bytesText}

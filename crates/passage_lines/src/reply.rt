@@ -34,7 +34,8 @@ pub enum Reply {
     },
 }
 
-// The longest reply has 49 bytes: a word of five, the zero, and two numbers of twenty digits.
+// The longest reply has 50 bytes: a word of five, the zero, two numbers of twenty digits, a space before
+// each, and the line feed.
 const REPLY_BYTES: usize = 64;
 
 // Writes the line of a reply from a position on, and gives the position after it; where the line

@@ -1,5 +1,5 @@
 -- Which segments of its source a rebuild keeps: a bit for each of 256 segments, in four words. Document 01, Rebuilt set: "Keeps chosen segments unmoved";
--- questions: "keep flags (0 drops, else kept)"; "the kept segments' starts and lengths, numbered anew in order".
+-- questions: "keep flags .. (0 drops, else kept)"; "the kept segments' starts and lengths, numbered anew in order".
 -- Assumes nothing.
 use mathlib.Core.Bool.{Bool, false}
 use mathlib.Core.List.{List, [], _∷_, _++_}

@@ -2,7 +2,7 @@
 -- Assumes nothing.
 use mathlib.Core.Bool.{Bool, true, false, not}
 use mathlib.Core.List.{List, [], _∷_}
-use Prim.Native.Nat.{ℕ, zero, suc, _+_, _-_, _*_, _^_}
+use Prim.Native.Nat.{ℕ, zero, suc, _*_, _^_}
 use lib.Dec.{eqb, leb, ltb}
 use Rattle.hash_parts.specs.Choice.{pick}
 use Rattle.hash_parts.specs.Duration.{ceilDiv, nanosOf}
@@ -49,7 +49,7 @@ unfoldable pub lifetimeFits : Lifetime → Bool
 lifetimeFits life.Never = true
 lifetimeFits (life.For lifetime) = ltb (lifetime .nanos) 1_000_000_000
 
--- question 3: "occupancy 1 to 7? Tick length above zero?"
+-- question 3: "occupancy 1 to 7? .. Tick length above zero?"
 unfoldable pub occupancyFits : ℕ → Bool
 occupancyFits occupied = all (leb 1 occupied ∷ leb occupied 7 ∷ [])
 

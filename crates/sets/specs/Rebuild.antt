@@ -9,7 +9,6 @@ use lib.Dec.{eqb, leb, ltb}
 use lib.ListN.{length, set, getD}
 use Rattle.hash_parts.specs.Choice.{pick}
 use Rattle.hash_parts.specs.Duration.{encodedExpiry}
-use Rattle.hash_parts.specs.Error.{errorNumber}
 use Rattle.hash_parts.specs.Hash.{tagOf}
 use Rattle.hash_parts.specs.Outcome.{Outcome}
 use Rattle.hash_parts.specs.declared.duration.Lifetime.{Lifetime}
@@ -285,7 +284,7 @@ afterCopied r h key value ttl index filter starts lengths arena =
 
 -- ---- rebuild finish
 
--- questions 1 and 8; scratch and arena by their lengths
+-- questions 1 and 8; index, scratch and arena by their lengths
 unfoldable pub askRebuildFinish : SharedSegmentCacheBuilder → ℕ → List ℕ → List ℕ → ℕ → ℕ → List (Bool × ℕ)
 askRebuildFinish r index starts lengths scratch arena =
     (areasHoldRebuild r index starts lengths arena, 11)

@@ -174,7 +174,8 @@ impl SharedSegmentCacheBuilder {
         }
     }
 
-    // Copies a record behind the filled arena. A refusal leaves the areas as they were.
+    // Copies a record behind the filled arena. Key and value can't be parts of the arena, which is lent to be
+    // written: the caller copies them first. A refusal leaves the areas as they were.
     pub fn push_copied(
         self,
         hash: u64,
