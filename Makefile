@@ -1,4 +1,4 @@
-.PHONY: run test soak bench install
+.PHONY: run test soak bench library install
 
 # Proves and builds the program passage and runs document 01's example.
 run:
@@ -31,7 +31,10 @@ PREFIX ?= /usr/local
 sources := $(shell find crates -name '*.rt')
 
 target/staticlib/libcapi.a: $(sources)
-	rt staticlib capi
+	bindings/library
+
+# The library for C and Rust.
+library: target/staticlib/libcapi.a
 
 target/bin/passage_run: $(sources)
 	rt check passage_run

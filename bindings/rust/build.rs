@@ -1,5 +1,4 @@
-//! Links libcapi.a, from the folder SEGMENT_CACHE_LIB_DIR or else from where `rt staticlib capi` puts
-//! it.
+//! Links libcapi.a, from the folder SEGMENT_CACHE_LIB_DIR or else from where `make library` puts it.
 use std::env;
 use std::path::PathBuf;
 

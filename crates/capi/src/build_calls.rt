@@ -86,8 +86,7 @@ fn tell_open(answer: OpenAnswer, builder: &mut [u64]) -> u64
 }
 
 // The two words of the place: slot and location.
-#[no_mangle]
-pub extern "C" fn segment_cache_push(
+pub fn segment_cache_push(
     builder: &mut [u64],
     hash: u64,
     key: &[u8],

@@ -1,8 +1,8 @@
 // The calls on sets as C functions on numbers and slices. A state is a number of lent words; the
 // result is the refusal's number, 0 for accepted. What a call hands back goes to lent words, which
 // a refusal leaves as they were.
-mod build_calls;
-mod lookup_calls;
-mod rebuild_calls;
+pub mod build_calls;
+pub mod lookup_calls;
+pub mod rebuild_calls;
 mod stats_calls;
 mod words;

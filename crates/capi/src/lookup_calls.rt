@@ -20,8 +20,7 @@ const SPAN_WORDS: usize = 3;
 const RECORD_WORDS: usize = 11;
 
 // The three words of the span: 1 and the value's place and length in the arena, or three zeros.
-#[no_mangle]
-pub extern "C" fn segment_cache_get(
+pub fn segment_cache_get(
     set: &[u64],
     hash: u64,
     key: &[u8],
@@ -46,8 +45,7 @@ pub extern "C" fn segment_cache_get(
 }
 
 // The same with no mark set.
-#[no_mangle]
-pub extern "C" fn segment_cache_peek(
+pub fn segment_cache_peek(
     set: &[u64],
     hash: u64,
     key: &[u8],
@@ -89,8 +87,7 @@ fn tell_get(answer: GetAnswer, span: &mut [u64]) -> u64
 }
 
 // The word: 1 where the mark was set, else 0.
-#[no_mangle]
-pub extern "C" fn segment_cache_take_accessed(
+pub fn segment_cache_take_accessed(
     set: &[u64],
     hash: u64,
     key: &[u8],
@@ -129,8 +126,7 @@ fn tell_take(answer: TakeAnswer, accessed: &mut [u64]) -> u64
 
 // The eleven words of a record: 1, slot, location, bytes before the key, place and length of key
 // and value, and what is left of its time; or eleven zeros.
-#[no_mangle]
-pub extern "C" fn segment_cache_probe(
+pub fn segment_cache_probe(
     set: &[u64],
     hash: u64,
     key: &[u8],
@@ -172,8 +168,7 @@ fn tell_probe(answer: ProbeAnswer, out: &mut [u64]) -> u64
 }
 
 // A step of the walk: the first record from a slot on, in the words of probe.
-#[no_mangle]
-pub extern "C" fn segment_cache_next_entry(
+pub fn segment_cache_next_entry(
     set: &[u64],
     from: usize,
     tick: u64,

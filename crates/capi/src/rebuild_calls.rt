@@ -88,8 +88,7 @@ fn tell_rebuild_open(answer: RebuildOpenAnswer, rebuild: &mut [u64]) -> u64
 
 // Location and header bytes are those of the record in the source; the two words of the place are
 // slot and location in the rebuild.
-#[no_mangle]
-pub extern "C" fn segment_cache_push_reused(
+pub fn segment_cache_push_reused(
     rebuild: &mut [u64],
     hash: u64,
     key: &[u8],
@@ -122,8 +121,7 @@ pub extern "C" fn segment_cache_push_reused(
     tell_rebuild_push(answer, rebuild, place)
 }
 
-#[no_mangle]
-pub extern "C" fn segment_cache_push_copied(
+pub fn segment_cache_push_copied(
     rebuild: &mut [u64],
     hash: u64,
     key: &[u8],

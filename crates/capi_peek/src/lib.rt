@@ -1,0 +1,34 @@
+// One call for C in a library of its own, where nothing else calls what it calls: so the compiler makes one
+// piece of code of it.
+ghost use mathlib.Core.Path.{_≡_};
+ghost use Rattle.capi.specs.Calls.{exportedPeek, told};
+
+// The same with no mark set.
+#[no_mangle]
+pub extern "C" fn segment_cache_peek(
+    set: &[u64],
+    hash: u64,
+    key: &[u8],
+    tick: u64,
+    index: &[u64],
+    filter: &[u64],
+    starts: &[u64],
+    lengths: &[u64],
+    arena: &[u8],
+    span: &mut [u64],
+) -> u64
+    ensures { λ r. ⌜ told r (now (span .exit)) ≡ exportedPeek (now (set .entry)) hash (now (key .entry)) tick (now (index .entry)) (now (filter .entry)) (now (starts .entry)) (now (lengths .entry)) (now (arena .entry)) (now (span .entry)) ⌝ }
+{
+    capi::lookup_calls::segment_cache_peek(
+        set,
+        hash,
+        key,
+        tick,
+        index,
+        filter,
+        starts,
+        lengths,
+        arena,
+        span,
+    )
+}

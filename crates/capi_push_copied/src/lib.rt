@@ -1,0 +1,36 @@
+// One call for C in a library of its own, where nothing else calls what it calls: so the compiler makes one
+// piece of code of it.
+ghost use mathlib.Core.Path.{_≡_};
+ghost use Rattle.capi.specs.Calls.{pushWords};
+ghost use Rattle.capi.specs.Rebuilds.{exportedCopied};
+
+#[no_mangle]
+pub extern "C" fn segment_cache_push_copied(
+    rebuild: &mut [u64],
+    hash: u64,
+    key: &[u8],
+    value: &[u8],
+    lifetime: &[u64],
+    index: &mut [u64],
+    filter: &mut [u64],
+    starts: &[u64],
+    lengths: &[u64],
+    arena: &mut [u8],
+    place: &mut [u64],
+) -> u64
+    ensures { λ r. ⌜ pushWords r (now (rebuild .exit)) (now (index .exit)) (now (filter .exit)) (now (arena .exit)) (now (place .exit)) ≡ exportedCopied (now (rebuild .entry)) hash (now (key .entry)) (now (value .entry)) (now (lifetime .entry)) (now (index .entry)) (now (filter .entry)) (now (starts .entry)) (now (lengths .entry)) (now (arena .entry)) (now (place .entry)) ⌝ }
+{
+    capi::rebuild_calls::segment_cache_push_copied(
+        rebuild,
+        hash,
+        key,
+        value,
+        lifetime,
+        index,
+        filter,
+        starts,
+        lengths,
+        arena,
+        place,
+    )
+}
