@@ -3,7 +3,7 @@
 ghost use mathlib.Core.Path.{_≡_};
 ghost use Rattle.capi.specs.Calls.{exportedWalk, told};
 
-// A step of the walk: the first record from a slot on, in the words of probe.
+// A step of the walk: the first record from a slot on, in the words of segment_cache_probe.
 #[no_mangle]
 pub extern "C" fn segment_cache_next_entry(
     set: &[u64],

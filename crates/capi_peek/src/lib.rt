@@ -3,7 +3,7 @@
 ghost use mathlib.Core.Path.{_≡_};
 ghost use Rattle.capi.specs.Calls.{exportedPeek, told};
 
-// The same with no mark set.
+// A lookup with no mark set, in the words of segment_cache_get.
 #[no_mangle]
 pub extern "C" fn segment_cache_peek(
     set: &[u64],

@@ -4,6 +4,7 @@ ghost use mathlib.Core.Path.{_≡_};
 ghost use Rattle.capi.specs.Calls.{pushWords};
 ghost use Rattle.capi.specs.Rebuilds.{exportedCopied};
 
+// The two words of the place: slot and location in the rebuild.
 #[no_mangle]
 pub extern "C" fn segment_cache_push_copied(
     rebuild: &mut [u64],
