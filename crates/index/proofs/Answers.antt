@@ -13,7 +13,7 @@ use Rattle.hash_parts.specs.Hash.{tagOf, firstBucket}
 use Rattle.hash_parts.specs.declared.setting.SegmentExpiry.{SegmentExpiry}
 use Rattle.records.specs.Record.{Stored}
 use Rattle.records.proofs.Area.{same-true}
-use Rattle.index.specs.Build.{Look, buildRecord, hasKey, holdsKey, looks, searched, slotFor, buildSlot, never, emptySlot}
+use Rattle.index.specs.Build.{Look, buildRecord, hasKey, holdsKey, looks, searched, slotFor, slotOutcome, never}
 use Rattle.index.specs.Slot.{wordSlots}
 use Rattle.index.specs.Walk.{rot}
 use Rattle.index.specs.Word.{wordTag, wordStored}
@@ -35,10 +35,10 @@ module _ {E : Type 0} {stored : E → Stored} {H : List ℕ → ℕ} {Holds : �
       never-full (λ b d. Unit {0}) (walk-says taken (λ b d. Unit {0}) (λ w d p y. tt) buckets index x a) (rw length-rot gap) (sym (slot-search taken index buckets h (words-long buckets index x)) ∙ e)
 
   -- a push that takes keys again finds a slot
-  pub finds-empty : length r < 8 * buckets → (s : ℕ) × (emptySlot index buckets h ≡ Empty s)
-  finds-empty room = go (emptySlot index buckets h) refl
+  pub finds-empty : length r < 8 * buckets → (s : ℕ) × (slotFor never index buckets h ≡ Empty s)
+  finds-empty room = go (slotFor never index buckets h) refl
     where
-      go : (a : BuildSlot) → emptySlot index buckets h ≡ a → (s : ℕ) × (emptySlot index buckets h ≡ Empty s)
+      go : (a : BuildSlot) → slotFor never index buckets h ≡ a → (s : ℕ) × (slotFor never index buckets h ≡ Empty s)
       go (Empty s) e = (s, e)
       go Full e = absurd (has-room never room e)
       go Duplicate e =
@@ -74,7 +74,7 @@ module _ {E : Type 0} {stored : E → Stored} {H : List ℕ → ℕ} {Holds : �
     said : Forall₂ (Says (λ b e. keyed stored key e ≡ b)) seen walk
     said = walk-says test (λ b e. keyed stored key e ≡ b) holds-just buckets index x (8 * firstBucket h buckets)
 
-    searches : searched seen Full ≡ buildSlot index buckets bytes ex key h
+    searches : searched seen Full ≡ slotFor test index buckets h
     searches = sym (slot-search test index buckets h (words-long buckets index x))
 
     own-walk : walk ≡ rot (8 * firstBucket (H key) buckets) (x .table)
@@ -84,12 +84,12 @@ module _ {E : Type 0} {stored : E → Stored} {H : List ℕ → ℕ} {Holds : �
     entries = ap (hits (keyed stored key)) own-walk ∙ x .placed .whole key
 
     -- where a slot is found, no entry has the key
-    pub empty-fresh : (s : ℕ) → buildSlot index buckets bytes ex key h ≡ Empty s → only (keyed stored key) r ≡ []
+    pub empty-fresh : (s : ℕ) → slotFor test index buckets h ≡ Empty s → only (keyed stored key) r ≡ []
     empty-fresh s e =
         sym entries ∙ empty-hits (keyed stored key) said (searches ∙ e) (ap (λ (m : List (Option E)). hits (keyed stored key) (past m)) own-walk ∙ x .placed .front key)
 
     -- where the answer is Duplicate, one has
-    pub duplicate-has : buildSlot index buckets bytes ex key h ≡ Duplicate → (e : E) × (l : List E) × (only (keyed stored key) r ≡ e ∷ l) × (stored e .key ≡ key)
+    pub duplicate-has : slotFor test index buckets h ≡ Duplicate → (e : E) × (l : List E) × (only (keyed stored key) r ≡ e ∷ l) × (stored e .key ≡ key)
     duplicate-has d = go (only (keyed stored key) r) refl
       where
         go : (m : List E) → only (keyed stored key) r ≡ m → (e : E) × (l : List E) × (only (keyed stored key) r ≡ e ∷ l) × (stored e .key ≡ key)

@@ -16,12 +16,18 @@ use Rattle.records.specs.declared.record.RecordAnswer.the-variants.{Read, Unrea
 use Rattle.records.specs.declared.record.RecordRef.{RecordRef}
 use Rattle.records.proofs.Area.{spanned-in}
 use Rattle.records.proofs.Stored.{record-inside}
-use Rattle.index.specs.Build.{Look, vacant, same, passed, buildRecord, hasKey, holdsKey, looks, searched, searchedAll, slotFor, nextBucket}
+use Rattle.index.specs.Build.{Look, vacant, same, passed, buildRecord, hasKey, holdsKey, looks, searched, searchedAll, slotFor, slotOutcome, nextBucket}
 use Rattle.index.specs.Word.{wordTag, wordStored}
 use Rattle.index.specs.declared.build.BuildSlot.{BuildSlot}
 use Rattle.index.specs.declared.build.BuildSlot.the-variants.{Empty, Duplicate, Full}
 use Rattle.index.proofs.Around.{around, around-step, around-end, walk-around}
 use Rattle.index.proofs.Walks.{part-cons}
+
+-- a slot that was found
+pub slot-accepted : (s : BuildSlot) → slotOutcome s .number ≡ 0 → s ≡ Empty (slotOutcome s .value)
+slot-accepted (Empty s) e = refl
+slot-accepted Duplicate e = absurd (omega (arith, e))
+slot-accepted Full e = absurd (omega (arith, e))
 
 -- ---- a word that holds the key
 

@@ -11,6 +11,8 @@ use lib.ListN.{length, take, drop, replicate}
 use Rattle.hash_parts.specs.Choice.{pick}
 use Rattle.hash_parts.specs.Duration.{ceilDiv}
 use Rattle.hash_parts.specs.Hash.{tagOf}
+use Rattle.hash_parts.specs.Outcome.{Outcome, accepted, refused}
+use Rattle.hash_parts.specs.declared.error.SegmentCacheBuildError.the-variants.{CapacityOverflow, DuplicateKey}
 use Rattle.hash_parts.specs.declared.setting.SegmentExpiry.{SegmentExpiry}
 use Rattle.records.specs.Area.{sameBytes}
 use Rattle.records.specs.Record.{Stored, storedAt}
@@ -73,17 +75,24 @@ unfoldable pub slotFor : (ℕ → Bool) → List ℕ → ℕ → ℕ → BuildSl
 slotFor taken index buckets h =
     pick (leb (8 * buckets) (length index)) (searchedAll (λ b. looks taken (8 * b) (take 8 (drop (8 * b) index))) (bucketWalk h buckets)) Full
 
+-- its answer as document 01 counts it: "Key new among the words of its tag on its walk? 4."; "A push that walks all buckets without an empty slot would
+-- also give 3, at that walk's end after 4"
+abbrev pub slotOutcome : BuildSlot → Outcome
+slotOutcome (Empty s) = accepted s
+slotOutcome Duplicate = refused DuplicateKey
+slotOutcome Full = refused CapacityOverflow
+
 -- the slot of a push; `bytes` are the filled bytes
-abbrev pub buildSlot : List ℕ → ℕ → List ℕ → SegmentExpiry → List ℕ → ℕ → BuildSlot
-buildSlot index buckets bytes e key h = slotFor (holdsKey (buildRecord e bytes) key (tagOf h)) index buckets h
+abbrev pub buildSlot : List ℕ → ℕ → List ℕ → SegmentExpiry → List ℕ → ℕ → Outcome
+buildSlot index buckets bytes e key h = slotOutcome (slotFor (holdsKey (buildRecord e bytes) key (tagOf h)) index buckets h)
 
 -- no word holds the key
 abbrev pub never : ℕ → Bool
 never w = false
 
 -- the slot of a push that takes a key again
-abbrev pub emptySlot : List ℕ → ℕ → ℕ → BuildSlot
-emptySlot index buckets h = slotFor never index buckets h
+abbrev pub emptySlot : List ℕ → ℕ → ℕ → Outcome
+emptySlot index buckets h = slotOutcome (slotFor never index buckets h)
 
 -- the bucket after a bucket, around
 unfoldable pub nextBucket : ℕ → ℕ → ℕ

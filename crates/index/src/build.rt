@@ -10,7 +10,7 @@ use records::record::value_slice;
 ghost use mathlib.Core.Path.{_≡_};
 ghost use Prim.Native.Nat.{_+_, _*_, _<_, _≤_};
 ghost use lib.ListN.{length, take, drop};
-ghost use Rattle.index.specs.Build.{bucketsFor, cleared, nextBucket, buildRecord, holdsKey, looks, searched, buildSlot, emptySlot, never};
+ghost use Rattle.index.specs.Build.{bucketsFor, cleared, nextBucket, buildRecord, holdsKey, looks, searched, buildSlot, emptySlot, never, slotOutcome};
 
 // What looking for a slot finds.
 pub enum BuildSlot {
@@ -59,7 +59,7 @@ pub fn find_build_slot(
     key: &[u8],
     hash: u64,
 ) -> BuildSlot
-    ensures { λ r. ⌜ r ≡ buildSlot (now (index .entry)) buckets (now (records .entry)) expiry (now (key .entry)) hash ⌝ }
+    ensures { λ r. ⌜ slotOutcome r ≡ buildSlot (now (index .entry)) buckets (now (records .entry)) expiry (now (key .entry)) hash ⌝ }
 {
     if index.len() / BUCKET_SLOTS < buckets {
         return BuildSlot::Full;
@@ -140,7 +140,7 @@ fn holds_key(word: u64, records: &[u8], expiry: SegmentExpiry, key: &[u8], tag: 
 
 // The slot of a record whose key may stand in the index already.
 pub fn find_empty_build_slot(index: &[u64], buckets: usize, hash: u64) -> BuildSlot
-    ensures { λ r. ⌜ r ≡ emptySlot (now (index .entry)) buckets hash ⌝ }
+    ensures { λ r. ⌜ slotOutcome r ≡ emptySlot (now (index .entry)) buckets hash ⌝ }
 {
     if index.len() / BUCKET_SLOTS < buckets {
         return BuildSlot::Full;

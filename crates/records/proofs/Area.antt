@@ -12,10 +12,10 @@ use lib.Dec.{eqb}
 use lib.ListN.{length, getD, take, drop, set, length-append, length-drop, drop-of-length-le}
 use lib.Seq.{take-all, take-at, drop-at, drop-drop, set-at, drop-cons, getD-drop}
 use Rattle.hash_parts.specs.Choice.{pick}
+use Rattle.hash_parts.specs.Outcome.{accepted, refused}
 use Rattle.hash_parts.specs.declared.error.SegmentCacheBuildError.the-variants.{AreaTooShort}
-use Rattle.records.specs.Area.{wordIn, over, pasted, writeResult, written, spanned, sameBytes}
+use Rattle.records.specs.Area.{wordIn, over, pasted, written, spanned, sameBytes}
 use Rattle.records.specs.declared.record.Span.{Span}
-use Rattle.records.specs.declared.varint.WriteAnswer.the-variants as write
 
 -- ---- writing over an area's front
 
@@ -44,12 +44,12 @@ part-home s area home at e =
     (ap₂ (λ (x y : List ℕ). x ++ y) (e ∙ ap (λ (t : List ℕ). over s t) all) (drop-of-length-le (drop at area) h) ∙ append-nil (over s (drop at area)))
 
 -- what fits is written
-pub written-in : (s area out : List ℕ) (n : ℕ) → length s ≤ length area → n ≡ length s → out ≡ over s area → writeResult (write.Written n) out ≡ written s area
+pub written-in : (s area : List ℕ) → length s ≤ length area → written s area ≡ record { answer = accepted (length s); area = over s area }
 unfolding written
-written-in s area out n h e f = rw (e, f, le-leb (length s) (length area) h)
+written-in s area h = rw (le-leb (length s) (length area) h)
 
 -- what does not fit changes nothing
-pub written-out : (s area : List ℕ) → length area < length s → writeResult (write.Refused AreaTooShort) area ≡ written s area
+pub written-out : (s area : List ℕ) → length area < length s → written s area ≡ record { answer = refused AreaTooShort; area = area }
 unfolding written
 written-out s area h = rw (lt-leb (length s) (length area) h)
 

@@ -1,6 +1,5 @@
 // Stored records: key length, value length, the deadline where the set has one, key, value.
 use crate::varint::Varint;
-use crate::varint::WriteAnswer;
 use crate::varint::put_varint;
 use crate::varint::read_varint;
 use crate::varint::varint_bytes;
@@ -11,7 +10,7 @@ ghost use mathlib.Core.Bool.{true};
 ghost use Prim.Native.Nat.{_+_, _<_, _≤_};
 ghost use lib.ListN.{drop, getD, length};
 ghost use Rattle.hash_parts.specs.Setting.{bytesPerRecord};
-ghost use Rattle.records.specs.Area.{over, pasted, sameBytes, spanned, wordIn, writeResult, written};
+ghost use Rattle.records.specs.Area.{over, pasted, sameBytes, spanned, wordIn, written};
 ghost use Rattle.records.specs.Record.{deadlineBytes, deadlineIn, encodedSize, recordAt, recordBytes, recordOf, sizeOutcome};
 ghost use Rattle.records.specs.Uleb128.{uleb128};
 
@@ -59,24 +58,25 @@ pub fn encoded_record_bytes(
     SizeAnswer::Bytes(header + key_bytes + value_bytes)
 }
 
-// Writes a record to the front of an arena's rest, which is lent from the first free byte.
+// Writes a record to the front of an arena's rest, which is lent from the first free byte, and says
+// how many bytes it wrote: none where the record does not fit, which a push asks before.
 pub fn append_record(
     rest: &mut [u8],
     expiry: SegmentExpiry,
     key: &[u8],
     value: &[u8],
     expires_at: u16,
-) -> WriteAnswer
-    ensures { λ r. ⌜ writeResult r (now (rest .exit)) ≡ written (recordBytes expiry (now (key .entry)) (now (value .entry)) «expires_at») (now (rest .entry)) ⌝ }
+) -> usize
+    ensures { λ r. ⌜ (r ≡ written (recordBytes expiry (now (key .entry)) (now (value .entry)) «expires_at») (now (rest .entry)) .answer .value) × (now (rest .exit) ≡ written (recordBytes expiry (now (key .entry)) (now (value .entry)) «expires_at») (now (rest .entry)) .area) ⌝ }
 {
     let SizeAnswer::Bytes(size) = encoded_record_bytes(expiry, key.len(), value.len()) else {
-        return WriteAnswer::Refused(SegmentCacheBuildError::AreaTooShort);
+        return 0;
     };
     if rest.len() < size {
-        return WriteAnswer::Refused(SegmentCacheBuildError::AreaTooShort);
+        return 0;
     }
     put_record(rest, expiry, key, value, expires_at);
-    WriteAnswer::Written(size)
+    size
 }
 
 fn put_record(rest: &mut [u8], expiry: SegmentExpiry, key: &[u8], value: &[u8], expires_at: u16)

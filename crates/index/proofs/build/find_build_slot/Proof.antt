@@ -7,7 +7,7 @@ use native.Mathlib.Omega.{arith}
 use borrow.Author.Needs.{needs}
 use Rattle.hash_parts.specs.Hash.{firstBucket, tagOf}
 use Rattle.index.specs.declared.build.BuildSlot.the-variants.{Full}
-use Rattle.index.specs.Build.{holdsKey, buildRecord, slotFor, buildSlot}
+use Rattle.index.specs.Build.{holdsKey, buildRecord, slotFor, slotOutcome}
 use Rattle.index.proofs.Walks.{next-within}
 use Rattle.index.proofs.Slots.{slots-short, bucketsAnswer, buckets-first, buckets-end, buckets-on, buckets-found}
 use Rattle.index.proofs.build.find_build_slot.Statement.{statement}
@@ -16,7 +16,7 @@ use Rattle.index.proofs.build.find_build_slot.Tie as tie
 abbrev Inv-loop : tie.InvT-loop
 Inv-loop index buckets records expiry key hash tag bucket₀ left₀ bucket left =
     let taken = holdsKey (buildRecord expiry records) key tag in
-    (bucket ≤ buckets - 1) × (left ≤ buckets) × (buildSlot index buckets records expiry key hash ≡ bucketsAnswer taken index buckets left bucket)
+    (bucket ≤ buckets - 1) × (left ≤ buckets) × (slotFor (holdsKey (buildRecord expiry records) key (tagOf hash)) index buckets hash ≡ bucketsAnswer taken index buckets left bucket)
 
 abbrev μ-loop : tie.MeasureT-loop
 μ-loop index buckets records expiry key hash tag bucket₀ left₀ bucket left = left
@@ -25,7 +25,7 @@ returns : tie.Need-returns Inv-loop μ-loop
 returns c =
     let a = c .before .before .before .before .args in
     let t = holdsKey (buildRecord (a .expiry) (a .records .now)) (a .key .now) (tagOf (a .hash)) in
-    sym (slots-short t (a .index .now) (a .buckets) (a .hash) (c .if1 .taken))
+    ap slotOutcome (sym (slots-short t (a .index .now) (a .buckets) (a .hash) (c .if1 .taken)))
 
 hash-tag-requires : tie.Need-hash-tag-requires Inv-loop μ-loop
 hash-tag-requires c κs = search needs
@@ -60,10 +60,11 @@ returns-2 c =
     let r = c .before .build-slot-in-bucket .result in
     let e = c .before .build-slot-in-bucket .ensures in
     let other : r ≡ Full → ⊥ = λ (f : r ≡ Full). ⊎-elim (λ p. omega arith) (λ p. omega arith) (rw f at (c .match .keys2)) in
-    e
+    ap slotOutcome
+    (e
     ∙ sym (buckets-found t (a .index .now) (a .buckets) (l .loop .left) (l .loop .bucket)
     (c .before .before .loop-test .taken) (λ f. other (e ∙ f)))
-    ∙ sym (l .loop .inv .2)
+    ∙ sym (l .loop .inv .2))
 
 next-bucket-requires : tie.Need-next-bucket-requires Inv-loop μ-loop
 next-bucket-requires c κs = search needs
@@ -92,7 +93,7 @@ returns-3 c =
     let l = c .before in
     let a = l .before .before .before .before .before .before .before .args in
     let t = holdsKey (buildRecord (a .expiry) (a .records .now)) (a .key .now) (l .before .before .hash-tag .result) in
-    sym (l .loop .inv .2 ∙ buckets-end t (a .index .now) (a .buckets) (l .loop .left) (l .loop .bucket) (c .loop-test .left))
+    ap slotOutcome (sym (l .loop .inv .2 ∙ buckets-end t (a .index .now) (a .buckets) (l .loop .left) (l .loop .bucket) (c .loop-test .left)))
 
 pub find-build-slot-spec : {M : Type 1} → statement M
 find-build-slot-spec =

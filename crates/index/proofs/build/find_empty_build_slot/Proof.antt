@@ -1,13 +1,13 @@
 -- `find_empty_build_slot` meets its contract: the buckets left answer as the whole walk does. Without buckets a hash's first bucket is 0, so buckets are bounded
 -- by `buckets - 1`. Assumes nothing.
-use mathlib.Core.Path.{_≡_, sym, _∙_}
+use mathlib.Core.Path.{_≡_, sym, ap, _∙_}
 use mathlib.Core.Logic.{⊎-elim}
 use Prim.Native.Nat.{_-_, _≤_}
 use native.Mathlib.Omega.{arith}
 use borrow.Author.Needs.{needs}
 use Rattle.hash_parts.specs.Hash.{firstBucket}
 use Rattle.index.specs.declared.build.BuildSlot.the-variants.{Full}
-use Rattle.index.specs.Build.{never, emptySlot}
+use Rattle.index.specs.Build.{never, slotFor, slotOutcome}
 use Rattle.index.proofs.Walks.{next-within}
 use Rattle.index.proofs.Slots.{slots-short, bucketsAnswer, buckets-first, buckets-end, buckets-on, buckets-found}
 use Rattle.index.proofs.build.find_empty_build_slot.Statement.{statement}
@@ -15,13 +15,13 @@ use Rattle.index.proofs.build.find_empty_build_slot.Tie as tie
 
 abbrev Inv-loop : tie.InvT-loop
 Inv-loop index buckets hash bucket₀ left₀ bucket left =
-    (bucket ≤ buckets - 1) × (left ≤ buckets) × (emptySlot index buckets hash ≡ bucketsAnswer never index buckets left bucket)
+    (bucket ≤ buckets - 1) × (left ≤ buckets) × (slotFor never index buckets hash ≡ bucketsAnswer never index buckets left bucket)
 
 abbrev μ-loop : tie.MeasureT-loop
 μ-loop index buckets hash bucket₀ left₀ bucket left = left
 
 returns : tie.Need-returns Inv-loop μ-loop
-returns c = let a = c .before .before .args in sym (slots-short never (a .index .now) (a .buckets) (a .hash) (c .if1 .taken))
+returns c = let a = c .before .before .args in ap slotOutcome (sym (slots-short never (a .index .now) (a .buckets) (a .hash) (c .if1 .taken)))
 
 reduce-hash-requires : tie.Need-reduce-hash-requires Inv-loop μ-loop
 reduce-hash-requires c κs = search needs
@@ -46,10 +46,11 @@ returns-2 c =
     let r = c .before .empty-slot-in-bucket .result in
     let e = c .before .empty-slot-in-bucket .ensures in
     let other : r ≡ Full → ⊥ = λ (f : r ≡ Full). ⊎-elim (λ p. omega arith) (λ p. omega arith) (rw f at (c .match .keys2)) in
-    e
+    ap slotOutcome
+    (e
     ∙ sym (buckets-found never (a .index .now) (a .buckets) (l .loop .left) (l .loop .bucket)
     (c .before .before .loop-test .taken) (λ f. other (e ∙ f)))
-    ∙ sym (l .loop .inv .2)
+    ∙ sym (l .loop .inv .2))
 
 next-bucket-requires : tie.Need-next-bucket-requires Inv-loop μ-loop
 next-bucket-requires c κs = search needs
@@ -76,7 +77,7 @@ returns-3 : tie.Need-returns-3 Inv-loop μ-loop
 returns-3 c =
     let l = c .before in
     let a = l .before .before .before .before .args in
-    sym (l .loop .inv .2 ∙ buckets-end never (a .index .now) (a .buckets) (l .loop .left) (l .loop .bucket) (c .loop-test .left))
+    ap slotOutcome (sym (l .loop .inv .2 ∙ buckets-end never (a .index .now) (a .buckets) (l .loop .left) (l .loop .bucket) (c .loop-test .left)))
 
 pub find-empty-build-slot-spec : {M : Type 1} → statement M
 find-empty-build-slot-spec =

@@ -1,5 +1,5 @@
 -- `append_record` meets its contract: the size that it asks for is the number of the record's bytes. Assumes nothing.
-use mathlib.Core.Path.{_≡_, sym, ap, _∙_}
+use mathlib.Core.Path.{_≡_, refl, sym, ap, _∙_}
 use mathlib.Core.List.{List}
 use Prim.Native.Nat.{ℕ, _^_, _≤_}
 use borrow.Author.Needs.{needs}
@@ -45,12 +45,12 @@ returns c =
     let big : 2 ^ 64 ≤ recordSize (a .expiry) (length (a .key .now)) (length (a .value .now)) =
     size-refused (a .expiry) (length (a .key .now)) (length (a .value .now)) (c .enum-told .given .0 .0)
     (sym (ap sizeOutcome (c .enum-told .given .1)) ∙ c .before .before .encoded-record-bytes .ensures) in
-    written-out (bytes s) (a .rest .now) (omega (arith, bytes-size s))
+    rw (written-out (bytes s) (a .rest .now) (omega (arith, bytes-size s))) (refl, refl)
 
 returns-2 : tie.Need-returns-2
 returns-2 c =
     let k = c .before .before in
-    written-out (bytes (from k)) (from k .args .rest .now) (omega (arith, sized k))
+    rw (written-out (bytes (from k)) (from k .args .rest .now) (omega (arith, sized k))) (refl, refl)
 
 put-record-requires : tie.Need-put-record-requires
 put-record-requires c κs = omega (arith, sized (c .before .before .before))
@@ -62,7 +62,7 @@ returns-3 : tie.Need-returns-3
 returns-3 c =
     let k = c .before .before .before .before .before .before in
     let p = c .before .before .put-record in
-    written-in (bytes (from k)) (from k .args .rest .now) (p .last .0) (k .size .given .0 .0) (omega (arith, sized k)) (sized k) (p .ensures)
+    rw (written-in (bytes (from k)) (from k .args .rest .now) (omega (arith, sized k))) (sized k, p .ensures)
 
 pub append-record-spec : {M : Type 1} → statement M
 append-record-spec =

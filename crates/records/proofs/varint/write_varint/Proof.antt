@@ -1,4 +1,5 @@
 -- `write_varint` meets its contract: it asks for the room that `put_varint` needs. Assumes nothing.
+use mathlib.Core.Path.{sym}
 use borrow.Author.Needs.{needs}
 use native.Mathlib.Omega.{arith}
 use Rattle.records.specs.Uleb128.{uleb128}
@@ -12,7 +13,7 @@ varint-bytes-requires c κs = search needs
 returns : tie.Need-returns
 returns c =
     let a = c .before .before .before .args in
-    written-out (uleb128 (a .value)) (a .output .now) (omega arith)
+    sym (written-out (uleb128 (a .value)) (a .output .now) (omega arith))
 
 put-varint-requires : tie.Need-put-varint-requires
 put-varint-requires c κs = search needs
@@ -24,7 +25,7 @@ returns-2 : tie.Need-returns-2
 returns-2 c =
     let a = c .before .before .before .before .before .before .before .args in
     let p = c .before .before .put-varint in
-    written-in (uleb128 (a .value)) (a .output .now) (p .last .0) (p .result) (omega arith) (p .ensures .0) (p .ensures .1)
+    rw (p .ensures .0, p .ensures .1) (sym (written-in (uleb128 (a .value)) (a .output .now) (omega arith)))
 
 pub write-varint-spec : {M : Type 1} → statement M
 write-varint-spec =
