@@ -1,25 +1,20 @@
 -- The ways in which open, push and finish end, with what its questions tell where one is accepted. Assumes nothing.
-use mathlib.Core.Path.{_≡_, refl}
+use mathlib.Core.Path.{_≡_, refl, _∙_}
 use mathlib.Core.Bool.{Bool, true, false}
 use mathlib.Core.List.{List}
-use Prim.Native.Nat.{ℕ, zero, suc, _+_, _-_, _*_, _≤_}
+use Prim.Native.Nat.{ℕ, zero, suc, _*_, _≤_}
 use lib.Dec.{leb}
 use lib.ListN.{length, take}
-use borrow.Author.Tests.{leb-true, le-leb}
+use borrow.Author.Tests.{leb-true, ne-eqb}
 use Rattle.hash_parts.specs.Choice.{pick}
-use Rattle.hash_parts.specs.Outcome.{accepted, refused}
-use Rattle.hash_parts.specs.declared.error.SegmentCacheBuildError.the-variants.{ArenaTooLarge}
 use Rattle.hash_parts.specs.declared.duration.Lifetime.{Lifetime}
 use Rattle.hash_parts.specs.declared.setting.SegmentCacheConfig.{SegmentCacheConfig}
-use Rattle.records.specs.Record.{recordSize}
 use Rattle.index.specs.Build.{cleared}
-use Rattle.index.specs.Packed.{packedIndex, packedScratch}
-use Rattle.index.specs.Segments.{startsOf, lengthsOf, padded, replaced, splitWords, split}
 use Rattle.sets.specs.Answers.{accept, refuse}
-use Rattle.sets.specs.Build.{builderOpened, Opened, afterOpen, slotFor, slotIn, deadlineFor, askPush, Pushed, pushRefused, pushMade, pushAt, afterPush, askFinish, setOf, Finished, finishSplit, afterFinish}
+use Rattle.sets.specs.Build.{builderOpened, Opened, afterOpen, pushSlot, deadlineFor, askPush, Pushed, pushRefused, pushMade, afterPush, segmentStarts, askFinish, Finished, startsWritten, finishMade, finishRefused, afterFinish}
 use Rattle.sets.specs.Questions.{askOpen, bucketsIn, decided, filterWordsIn, firstNo}
 use Rattle.sets.specs.declared.builder.SegmentCacheBuilder.{SegmentCacheBuilder}
-use Rattle.sets.proofs.Asked.{OpenAsked, open-asked, PushAsked, push-asked, FinishAsked, finish-asked}
+use Rattle.sets.proofs.Asked.{OpenAsked, open-asked, PushAsked, push-asked, FinishAsked, finish-asked, finish-last, finish-not-seven}
 
 -- ---- open
 
@@ -49,80 +44,43 @@ module _ (c : SegmentCacheConfig) (records : ℕ) (index filter starts lengths a
 
 module _ (b : SegmentCacheBuilder) (h : ℕ) (key value : List ℕ) (ttl : Lifetime) (index filter arena : List ℕ) where
   pub data PushCase : Pushed → Type 0 where
-    push-made : PushAsked b h key ttl index (length filter) arena → b .filled + recordSize (b .config .expiry) (length key) (length value) ≤ length arena
-        → PushCase (pushMade (slotIn (slotFor b h key index arena)) (deadlineFor (b .config) ttl .value) b h key value index filter arena)
+    push-made : PushAsked b h key (length value) ttl index (length filter) arena
+        → PushCase (pushMade (pushSlot b h key index arena .value) (deadlineFor (b .config) ttl .value) b h key value index filter arena)
     push-refused : (n : ℕ) → PushCase (pushRefused b index filter arena n)
 
   pub push-case : PushCase (afterPush b h key value ttl index filter arena)
-  unfolding afterPush pushAt
-  push-case = go (firstNo (askPush b h key ttl index (length filter) arena)) refl
+  unfolding afterPush
+  push-case = go (firstNo (askPush b h key (length value) ttl index (length filter) arena)) refl
     where
-      made : Pushed
-      made = pushMade (slotIn (slotFor b h key index arena)) (deadlineFor (b .config) ttl .value) b h key value index filter arena
-
-      fitting : PushAsked b h key ttl index (length filter) arena → (t : Bool) → leb (b .filled + recordSize (b .config .expiry) (length key) (length value)) (length arena) ≡ t
-          → PushCase (pick t made (pushRefused b index filter arena 10))
-      fitting a true f = push-made a (leb-true _ _ f)
-      fitting a false f = push-refused 10
-
-      go : (n : ℕ) → firstNo (askPush b h key ttl index (length filter) arena) ≡ n
+      go : (n : ℕ) → firstNo (askPush b h key (length value) ttl index (length filter) arena) ≡ n
           → PushCase
-          (decided n (pick (leb (b .filled + recordSize (b .config .expiry) (length key) (length value)) (length arena)) made (pushRefused b index filter arena 10))
+          (decided n (pushMade (pushSlot b h key index arena .value) (deadlineFor (b .config) ttl .value) b h key value index filter arena)
           (pushRefused b index filter arena))
-      go zero e = fitting (push-asked b h key ttl index (length filter) arena e) _ refl
+      go zero e = push-made (push-asked b h key (length value) ttl index (length filter) arena e)
       go (suc n) e = push-refused (suc n)
 
 -- ---- finish
 
 module _ (b : SegmentCacheBuilder) (target : ℕ) (index starts lengths scratch arena : List ℕ) where
-  -- the starts of the segments
-  abbrev pub startsMade : List ℕ
-  startsMade = startsOf (take (8 * b .«bucket_count») index) (b .filled) target
-
-  abbrev pub indexSplit : List ℕ
-  indexSplit = splitWords index (b .«bucket_count») startsMade (b .filled) target
-
-  abbrev pub finishMade : Finished
-  finishMade =
-      record {
-        answer = accept (setOf b (length startsMade));
-        index = pick (b .config .«packed_bucket_index») (packedIndex (b .«bucket_count») indexSplit scratch) indexSplit;
-        starts = replaced (padded startsMade) starts;
-        lengths = replaced (padded (lengthsOf (b .filled) startsMade)) lengths;
-        scratch = pick (b .config .«packed_bucket_index») (packedScratch (b .«bucket_count») indexSplit scratch) scratch;
-      }
-
   abbrev Asked : Type 0
   Asked = FinishAsked b target index (length starts) (length lengths) (length scratch) (length arena)
 
   pub data FinishCase : Finished → Type 0 where
-    finish-made : Asked → length startsMade ≤ 256 → FinishCase finishMade
-    finish-many : Asked → FinishCase record { answer = refuse 7 b; index = index; starts = replaced (padded startsMade) starts; lengths = lengths; scratch = scratch }
+    finish-made : Asked → length (segmentStarts b target index) ≤ 256 → FinishCase (finishMade b target index starts lengths scratch)
+    finish-many : Asked → FinishCase record { answer = refuse 7 b; index = index; starts = startsWritten b target index starts; lengths = lengths; scratch = scratch }
     finish-refused : (n : ℕ) → FinishCase record { answer = refuse n b; index = index; starts = starts; lengths = lengths; scratch = scratch }
 
-  pub finish-case : FinishCase (afterFinish b target index starts lengths scratch arena)
-  unfolding afterFinish split
-  finish-case = go (firstNo (askFinish b target index (length starts) (length lengths) (length scratch) (length arena))) refl
-    where
-      many : Asked → (t : Bool) → leb (length startsMade) 256 ≡ t
-          → FinishCase
-          (finishSplit b scratch
-          (pick t
-          (record {
-            answer = accepted (length startsMade);
-            index = indexSplit;
-            starts = replaced (padded startsMade) starts;
-            lengths = replaced (padded (lengthsOf (b .filled) startsMade)) lengths;
-          })
-          (record { answer = refused ArenaTooLarge; index = index; starts = replaced (padded startsMade) starts; lengths = lengths })))
-      many a true f = finish-made a (leb-true _ _ f)
-      many a false f = finish-many a
+  abbrev questions : List (Bool × ℕ)
+  questions = askFinish b target index (length starts) (length lengths) (length scratch) (length arena)
 
-      go : (n : ℕ) → firstNo (askFinish b target index (length starts) (length lengths) (length scratch) (length arena)) ≡ n
-          → FinishCase
-          (decided n (finishSplit b scratch (split index (b .«bucket_count») (b .filled) target starts lengths))
-          (λ m. record { answer = refuse m b; index = index; starts = starts; lengths = lengths; scratch = scratch }))
-      go (suc n) e = finish-refused (suc n)
-      go zero e =
-          let a = finish-asked b target index (length starts) (length lengths) (length scratch) (length arena) e in
-          rw (le-leb _ _ (a .areas .index-holds), le-leb _ _ (a .starts-hold), le-leb _ _ (a .lengths-hold)) (many a (leb (length startsMade) 256) refl)
+  pub finish-case : FinishCase (afterFinish b target index starts lengths scratch arena)
+  unfolding afterFinish
+  finish-case = rw (finish-last b target index (length starts) (length lengths) (length scratch) (length arena)) (go (firstNo (take 6 questions)) refl (leb (length (segmentStarts b target index)) 256) refl)
+    where
+      go : (n : ℕ) → firstNo (take 6 questions) ≡ n → (t : Bool) → leb (length (segmentStarts b target index)) 256 ≡ t
+          → FinishCase (decided (decided n (pick t 0 7) (λ m. m)) (finishMade b target index starts lengths scratch) (finishRefused b target index starts lengths scratch))
+      go zero e true f = finish-made (finish-asked b target index (length starts) (length lengths) (length scratch) (length arena) e) (leb-true _ _ f)
+      go zero e false f = finish-many (finish-asked b target index (length starts) (length lengths) (length scratch) (length arena) e)
+      go (suc n) e t f =
+          let other : suc n ≡ 7 → ⊥ = λ (z : suc n ≡ 7). finish-not-seven b target index (length starts) (length lengths) (length scratch) (length arena) (e ∙ z) in
+          rw (ne-eqb (suc n) 7 other) (finish-refused (suc n))

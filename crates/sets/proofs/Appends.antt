@@ -1,71 +1,65 @@
--- A push into a slot: the record where it fits the arena's rest, or nothing. Assumes nothing.
-use mathlib.Core.Path.{_≡_, refl, ap, ap₂, _∙_}
+-- A push into its slot: room for the record in the arena, its bytes there, and what the push leaves. Assumes nothing.
+use mathlib.Core.Path.{_≡_, refl, ap, _∙_}
 use mathlib.Core.Bool.{Bool, true, false}
-use mathlib.Core.List.{List, _++_, append-nil}
-use Prim.Native.Nat.{ℕ, _+_, _-_, _≤_, _<_}
-use native.Mathlib.Nat.{le-of-eq}
+use mathlib.Core.List.{List}
+use Prim.Native.Nat.{ℕ, _+_, _-_, _^_, _≤_}
 use native.Mathlib.Omega.{arith}
-use lib.Dec.{leb}
-use lib.ListN.{length, take, drop, set, length-take, length-drop, take-append-drop, drop-of-length-le}
-use lib.Seq.{take-all}
-use borrow.Author.Tests.{leb-true, leb-false, le-leb, lt-leb}
+use lib.Dec.{leb, ltb}
+use lib.ListN.{length, take, drop, set, length-append, length-take, length-drop}
+use borrow.Author.Tests.{leb-true, leb-false, le-leb, lt-leb, ltb-false}
 use borrow.Rule.Slice.PartMut.{putMid}
 use Rattle.hash_parts.specs.Choice.{pick}
 use Rattle.hash_parts.specs.Hash.{tagOf}
-use Rattle.hash_parts.specs.Outcome.{accepted, refused}
+use Rattle.hash_parts.specs.Outcome.{Outcome, accepted, refused}
 use Rattle.hash_parts.specs.declared.error.SegmentCacheBuildError.{SegmentCacheBuildError}
-use Rattle.hash_parts.specs.declared.error.SegmentCacheBuildError.the-variants.{AreaTooShort}
+use Rattle.hash_parts.specs.declared.error.SegmentCacheBuildError.the-variants.{CapacityOverflow}
 use Rattle.hash_parts.specs.declared.setting.SegmentExpiry.{SegmentExpiry}
 use Rattle.hash_parts.proofs.Refusals.{refusal-pos}
-use Rattle.records.specs.Area.{Written, over, writeResult, written}
-use Rattle.records.specs.Record.{recordBytes, recordSize}
-use Rattle.records.specs.declared.varint.WriteAnswer.the-variants as write
-use Rattle.records.proofs.Area.{part-home}
+use Rattle.records.specs.Area.{Written, over, pasted, written}
+use Rattle.records.specs.Record.{encodedSize, recordBytes, recordSize}
+use Rattle.records.proofs.Area.{part-home, written-in}
 use Rattle.records.proofs.Parts.{size-is}
 use Rattle.index.specs.Filter.{displacedMarked}
 use Rattle.index.specs.Word.{wordOf}
 use Rattle.sets.specs.Answers.{accept}
-use Rattle.sets.specs.Build.{Pushed, builderGrown, pushAt, pushRefused}
+use Rattle.sets.specs.Build.{Pushed, builderGrown, pushMade}
 use Rattle.sets.specs.declared.builder.SegmentCacheBuilder.{SegmentCacheBuilder}
 
--- ---- what the record's writer says
+-- ---- room
 
-module _ (s area out : List ℕ) where
-  pub append-out : (e : SegmentCacheBuildError) → writeResult (write.Refused e) out ≡ written s area → (length area < length s) × (out ≡ area)
-  unfolding written
-  append-out e f = go (leb (length s) (length area)) refl f
-    where
-      go : (b : Bool) → leb (length s) (length area) ≡ b
-          → writeResult (write.Refused e) out ≡ pick b (record { answer = accepted (length s); area = over s area }) (record { answer = refused AreaTooShort; area = area })
-          → (length area < length s) × (out ≡ area)
-      go true t q = absurd (omega (arith, refusal-pos e, ap (λ (w : Written). w .answer .number) q))
-      go false t q = (leb-false _ _ t, ap (λ (w : Written). w .area) q)
+-- room in what is left
+pub room : (filled n arena : ℕ) → filled ≤ arena → leb (filled + n) arena ≡ leb n (arena - filled)
+room filled n arena h = go (leb n (arena - filled)) refl
+  where
+    go : (b : Bool) → leb n (arena - filled) ≡ b → leb (filled + n) arena ≡ b
+    go true e = le-leb (filled + n) arena (omega (arith, leb-true n (arena - filled) e))
+    go false e = lt-leb (filled + n) arena (omega (arith, leb-false n (arena - filled) e))
 
-  pub append-in : (n : ℕ) → writeResult (write.Written n) out ≡ written s area → (length s ≤ length area) × (n ≡ length s) × (out ≡ over s area)
-  unfolding written
-  append-in n f = go (leb (length s) (length area)) refl f
+-- a size that was told, and one that passes 64 bits
+module _ (e : SegmentExpiry) (key value : ℕ) where
+  pub size-told : (n : ℕ) → accepted n ≡ encodedSize e key value → n ≡ recordSize e key value
+  unfolding encodedSize
+  size-told n q = go (ltb (recordSize e key value) (2 ^ 64)) q
     where
-      go : (b : Bool) → leb (length s) (length area) ≡ b
-          → writeResult (write.Written n) out ≡ pick b (record { answer = accepted (length s); area = over s area }) (record { answer = refused AreaTooShort; area = area })
-          → (length s ≤ length area) × (n ≡ length s) × (out ≡ over s area)
-      go true t q = (leb-true _ _ t, ap (λ (w : Written). w .answer .value) q, ap (λ (w : Written). w .area) q)
-      go false t q = absurd (omega (arith, ap (λ (w : Written). w .answer .number) q))
+      go : (b : Bool) → accepted n ≡ pick b (accepted (recordSize e key value)) (refused CapacityOverflow) → n ≡ recordSize e key value
+      go true f = ap (λ (o : Outcome). o .value) f
+      go false f = absurd (omega (arith, ap (λ (o : Outcome). o .number) f))
+
+  pub size-large : (f : SegmentCacheBuildError) → refused f ≡ encodedSize e key value → 2 ^ 64 ≤ recordSize e key value
+  unfolding encodedSize
+  size-large f q = go (ltb (recordSize e key value) (2 ^ 64)) refl q
+    where
+      go : (b : Bool) → ltb (recordSize e key value) (2 ^ 64) ≡ b → refused f ≡ pick b (accepted (recordSize e key value)) (refused CapacityOverflow)
+          → 2 ^ 64 ≤ recordSize e key value
+      go true t g = absurd (omega (arith, refusal-pos f, ap (λ (o : Outcome). o .number) g))
+      go false t g = ltb-false _ _ t
 
 -- a record is at least as long as its key and its value
 pub size-holds : (e : SegmentExpiry) (k v : ℕ) → k + v ≤ recordSize e k v
 unfolding recordSize
 size-holds e k v = omega arith
 
--- ---- what the push leaves
-
--- a rest that was lent and left alone comes home
-part-back : (area home : List ℕ) (at : ℕ) → home ≡ take (length area - at) (drop at area) → putMid at (length area - at) area home ≡ area
-part-back area home at e =
-    let h : length (drop at area) ≤ length area - at = le-of-eq (length-drop at area) in
-    let all : take (length area - at) (drop at area) ≡ drop at area = take-all (length area - at) (drop at area) h in
-    ap (λ (t : List ℕ). take at area ++ t)
-    (ap₂ (λ (x y : List ℕ). x ++ y) (e ∙ all) (drop-of-length-le (drop at area) h) ∙ append-nil (drop at area))
-    ∙ take-append-drop at area
+-- ---- what the record's writer leaves
 
 -- the rest of an arena
 abbrev pub rest : ℕ → List ℕ → List ℕ
@@ -74,27 +68,39 @@ rest filled arena = take (length arena - filled) (drop filled arena)
 pub rest-length : (filled : ℕ) (arena : List ℕ) → length (rest filled arena) ≡ length arena - filled
 rest-length filled arena = length-take (length arena - filled) (drop filled arena) ∙ omega (arith, length-drop filled arena)
 
-module _ (slot deadline : ℕ) (b : SegmentCacheBuilder) (h : ℕ) (key value index filter arena out : List ℕ) (inside : b .filled ≤ length arena) where
+-- a record that fits the rest of the arena is written there whole
+module _ (e : SegmentExpiry) (key value : List ℕ) (deadline filled : ℕ) (arena : List ℕ) (fits : filled + recordSize e (length key) (length value) ≤ length arena) where
   abbrev bytes : List ℕ
-  bytes = recordBytes (b .config .expiry) key value deadline
+  bytes = recordBytes e key value deadline
 
-  abbrev home : List ℕ
-  home = putMid (b .filled) (length arena - b .filled) arena out
+  appends : written bytes (rest filled arena) ≡ record { answer = accepted (length bytes); area = over bytes (rest filled arena) }
+  appends = written-in bytes (rest filled arena) (omega (arith, rest-length filled arena, size-is e key value deadline))
 
-  pub push-no-room : length (rest (b .filled) arena) < length bytes → out ≡ rest (b .filled) arena
-      → pushRefused b index filter home 10 ≡ pushAt slot deadline b h key value index filter arena
-  unfolding pushAt
-  push-no-room short same =
-      let n : length arena < b .filled + recordSize (b .config .expiry) (length key) (length value) =
-      omega (arith, rest-length (b .filled) arena, size-is (b .config .expiry) key value deadline) in
-      rw (lt-leb _ _ n) (ap (λ (a : List ℕ). pushRefused b index filter a 10) (part-back arena out (b .filled) same))
+  pub appended-size : (n : ℕ) → n ≡ written bytes (rest filled arena) .answer .value → n ≡ recordSize e (length key) (length value)
+  appended-size n q = q ∙ ap (λ (w : Written). w .answer .value) appends ∙ size-is e key value deadline
 
-  pub push-made : (n : ℕ) (grown : SegmentCacheBuilder) (w : ℕ) (marked : List ℕ) → length bytes ≤ length (rest (b .filled) arena) → n ≡ length bytes → out ≡ over bytes (rest (b .filled) arena)
+  pub appended-home : (out : List ℕ) → out ≡ written bytes (rest filled arena) .area → putMid filled (length arena - filled) arena out ≡ pasted filled bytes arena
+  appended-home out q = part-home bytes arena out filled (q ∙ ap (λ (w : Written). w .area) appends)
+
+-- the arena is as long as it was
+pub home-length : (s area out : List ℕ) (at : ℕ) → at + length s ≤ length area → out ≡ over s (rest at area) → length (putMid at (length area - at) area out) ≡ length area
+home-length s area out at fits e =
+    ap length (part-home s area out at e)
+    ∙ omega (
+      arith,
+      length-append (take at area) (over s (drop at area)),
+      length-append s (drop (length s) (drop at area)),
+      length-take at area,
+      length-drop (length s) (drop at area),
+      length-drop at area,
+    )
+
+-- ---- what a push leaves
+
+module _ (slot deadline : ℕ) (b : SegmentCacheBuilder) (h : ℕ) (key value index filter arena : List ℕ) where
+  pub push-left : (n : ℕ) (grown : SegmentCacheBuilder) (w : ℕ) (marked home : List ℕ) → n ≡ recordSize (b .config .expiry) (length key) (length value)
+      → home ≡ pasted (b .filled) (recordBytes (b .config .expiry) key value deadline) arena
       → grown ≡ builderGrown b n (length key) (length value) → w ≡ wordOf (tagOf h) (b .filled) → marked ≡ displacedMarked filter (b .«filter_words») h slot (b .«bucket_count»)
       → _≡_ {A = Pushed} (record { answer = accept record { builder = grown; slot = slot; location = b .filled }; index = set index slot w; filter = marked; arena = home })
-      (pushAt slot deadline b h key value index filter arena)
-  unfolding pushAt
-  push-made n grown w marked fits size over-it same word mark =
-      let k : length bytes ≡ recordSize (b .config .expiry) (length key) (length value) = size-is (b .config .expiry) key value deadline in
-      let m : b .filled + recordSize (b .config .expiry) (length key) (length value) ≤ length arena = omega (arith, rest-length (b .filled) arena) in
-      rw (le-leb _ _ m, same, size ∙ k, word, mark, part-home bytes arena out (b .filled) over-it)
+      (pushMade slot deadline b h key value index filter arena)
+  push-left n grown w marked home size wrote same word mark = rw (same, size, word, mark, wrote)

@@ -1,25 +1,26 @@
 -- What the questions of open, push and finish tell where all are answered yes. Assumes nothing.
 use mathlib.Core.Path.{_≡_, refl, sym, _∙_}
 use mathlib.Core.Bool.{Bool, true, false}
-use mathlib.Core.List.{List}
+use mathlib.Core.List.{List, [], _∷_, _++_}
+use mathlib.Core.Logic.{_⊎_, inl, inr, ⊎-elim}
 use Prim.Native.Nat.{ℕ, zero, suc, _*_, _≤_, _<_}
 use native.Mathlib.Omega.{arith}
 use lib.Dec.{eqb, leb, ltb}
-use lib.ListN.{length}
+use lib.ListN.{length, take}
 use borrow.Author.Tests.{eq-eqb, ne-eqb, eqb-true, leb-true, ltb-true}
 use Rattle.hash_parts.specs.Choice.{pick}
+use Rattle.hash_parts.specs.Hash.{tagOf}
 use Rattle.hash_parts.specs.declared.duration.Lifetime.{Lifetime}
 use Rattle.hash_parts.specs.declared.setting.SegmentCacheConfig.{SegmentCacheConfig}
-use Rattle.index.specs.Build.{cleared}
+use Rattle.index.specs.Build.{buildRecord, cleared, holdsKey, slotFor}
 use Rattle.index.specs.Segments.{locationsInside}
-use Rattle.index.specs.declared.build.BuildSlot.{BuildSlot}
-use Rattle.index.specs.declared.build.BuildSlot.the-variants.{Empty, Duplicate, Full}
+use Rattle.index.specs.declared.build.BuildSlot.the-variants.{Empty}
+use Rattle.index.proofs.Slots.{slot-accepted}
 use Rattle.sets.specs.Answers.{accept}
-use Rattle.sets.specs.Build.{Opened, areasHoldBuilder, askFinish, askPush, builderOpened, deadlineFor, isFound, isNew, slotFor, slotIn}
-use Rattle.sets.specs.Questions.{askOpen, bucketsIn, countsFit, filterWordsIn, firstNo, lifetimeFits, nanosecondsFit, occupancyFits, openAreasHold, scratchHolds, segmentAreasHold, settingFits, targetFits, tickRuns}
+use Rattle.sets.specs.Build.{Opened, areasHoldBuilder, askFinish, askPush, builderOpened, deadlineFor, pushEnd, pushSlot, segmentStarts}
+use Rattle.sets.specs.Questions.{askOpen, bucketsIn, countsFit, decided, filterWordsIn, firstNo, lifetimeFits, nanosecondsFit, occupancyFits, openAreasHold, scratchHolds, segmentAreasHold, settingFits, targetFits, tickRuns}
 use Rattle.sets.specs.declared.builder.SegmentCacheBuilder.{SegmentCacheBuilder}
 use Rattle.sets.proofs.Counts.{both, AreasHoldBuilder, builder-areas-asked}
-use Rattle.sets.proofs.Decides.{own-number}
 
 -- the first question, and those after it
 pub then : (b : Bool) (n r : ℕ) → 0 < n → pick b r n ≡ 0 → (b ≡ true) × (r ≡ 0)
@@ -33,11 +34,32 @@ then-own (suc n) r e =
     let own : pick (eqb (suc n) 0) r (suc n) ≡ suc n = rw (ne-eqb (suc n) 0 (λ (z : suc n ≡ 0). omega arith)) in
     absurd (omega (arith, own, e))
 
--- a slot that was found
-pub found-slot : (s : BuildSlot) → isFound s ≡ true → s ≡ Empty (slotIn s)
-found-slot (Empty s) q = refl
-found-slot Duplicate q = absurd (let z : _≡_ {A = ℕ} 0 1 = cc in omega arith)
-found-slot Full q = absurd (let z : _≡_ {A = ℕ} 0 1 = cc in omega arith)
+-- ---- the last question
+
+-- questions whose numbers are neither 0 nor another
+abbrev Apart : ℕ → List (Bool × ℕ) → Type 0
+Apart m [] = Unit {0}
+Apart m (q ∷ l) = ((0 < q .1) × (q .1 ≡ m → ⊥)) × Apart m l
+
+module _ (m : ℕ) where
+  -- one question more after them
+  with-last : (l : List (Bool × ℕ)) (b : Bool) → Apart m l → firstNo (l ++ ((b, m) ∷ [])) ≡ decided (firstNo l) (pick b 0 m) (λ n. n)
+  with-last [] b a = refl
+  with-last (q ∷ l) b a = go (q .0) (q .1) (a .0 .0) (with-last l b (a .1))
+    where
+      go : (t : Bool) (n : ℕ) → 0 < n → firstNo (l ++ ((b, m) ∷ [])) ≡ decided (firstNo l) (pick b 0 m) (λ n. n)
+          → pick t (firstNo (l ++ ((b, m) ∷ []))) n ≡ decided (pick t (firstNo l) n) (pick b 0 m) (λ n. n)
+      go true n p e = e
+      go false zero p e = absurd (omega arith)
+      go false (suc n) p e = refl
+
+  not-last : (l : List (Bool × ℕ)) → 0 < m → Apart m l → firstNo l ≡ m → ⊥
+  not-last [] p a e = omega (arith, e)
+  not-last (q ∷ l) p a e = go (q .0) (not-last l p (a .1)) e
+    where
+      go : (t : Bool) → (firstNo l ≡ m → ⊥) → pick t (firstNo l) (q .1) ≡ m → ⊥
+      go true rest f = rest f
+      go false rest f = a .0 .1 f
 
 -- ---- open
 
@@ -77,36 +99,44 @@ open-left c records index filter zeroed blank b made zeros blanks =
     let e : bucketsIn c records * 8 ≡ 8 * bucketsIn c records = omega arith in
     rw (zeros, blanks, made, e)
 
--- ---- push: all questions but the last, on the room in the arena
+-- ---- push
 
-module _ (b : SegmentCacheBuilder) (h : ℕ) (key : List ℕ) (ttl : Lifetime) (index : List ℕ) (filter : ℕ) (arena : List ℕ) where
+module _ (b : SegmentCacheBuilder) (h : ℕ) (key : List ℕ) (value : ℕ) (ttl : Lifetime) (index : List ℕ) (filter : ℕ) (arena : List ℕ) where
+  -- the words that hold the key
+  abbrev pub takenBy : ℕ → Bool
+  takenBy = holdsKey (buildRecord (b .config .expiry) (take (b .filled) arena)) key (tagOf h)
+
   pub record PushAsked : Type 0 where
     pub areas : AreasHoldBuilder b (length index) (length arena)
     pub filter-holds : b .«filter_words» ≤ filter
     pub announced : b .«inserted_entries» < b .«expected_entries»
-    pub place : slotFor b h key index arena ≡ Empty (slotIn (slotFor b h key index arena))
+    pub place : slotFor takenBy index (b .«bucket_count») h ≡ Empty (pushSlot b h key index arena .value)
     pub deadline : deadlineFor (b .config) ttl .number ≡ 0
+    pub fits : pushEnd b (length key) value ≤ length arena
 
-  pub push-asked : firstNo (askPush b h key ttl index filter arena) ≡ 0 → PushAsked
+  pub push-asked : firstNo (askPush b h key value ttl index filter arena) ≡ 0 → PushAsked
   unfolding askPush
   push-asked e =
       let t = then (areasHoldBuilder b (length index) (length arena)) 11 _ (omega arith) e in
       let u = then (leb (b .«filter_words») filter) 11 _ (omega arith) (t .1) in
       let v = then (lifetimeFits ttl) 9 _ (omega arith) (u .1) in
       let w = then (ltb (b .«inserted_entries») (b .«expected_entries»)) 3 _ (omega arith) (v .1) in
-      let x = then (isNew (slotFor b h key index arena)) 4 _ (omega arith) (w .1) in
-      let y = then (isFound (slotFor b h key index arena)) 3 _ (omega arith) (x .1) in
+      let x = then-own (pushSlot b h key index arena .number) _ (w .1) in
+      let y = then-own (deadlineFor (b .config) ttl .number) _ (x .1) in
+      let z = then (leb (pushEnd b (length key) value) (length arena)) 10 _ (omega arith) (y .1) in
       record {
         areas = builder-areas-asked b (length index) (length arena) (t .0);
         filter-holds = leb-true _ _ (u .0);
         announced = ltb-true _ _ (w .0);
-        place = found-slot (slotFor b h key index arena) (y .0);
-        deadline = sym (own-number (deadlineFor (b .config) ttl .number)) ∙ y .1;
+        place = slot-accepted (slotFor takenBy index (b .«bucket_count») h) (x .0);
+        deadline = y .0;
+        fits = leb-true _ _ (z .0);
       }
 
--- ---- finish: all questions but the last, on the number of segments
+-- ---- finish
 
 module _ (b : SegmentCacheBuilder) (target : ℕ) (index : List ℕ) (starts lengths scratch arena : ℕ) where
+  -- what all questions but the last tell
   pub record FinishAsked : Type 0 where
     pub areas : AreasHoldBuilder b (length index) arena
     pub starts-hold : 256 ≤ starts
@@ -116,7 +146,7 @@ module _ (b : SegmentCacheBuilder) (target : ℕ) (index : List ℕ) (starts len
     pub scratch-holds : scratchHolds (b .config) (b .«bucket_count») scratch ≡ true
     pub located : locationsInside index (b .«bucket_count») (b .filled) ≡ true
 
-  pub finish-asked : firstNo (askFinish b target index starts lengths scratch arena) ≡ 0 → FinishAsked
+  pub finish-asked : firstNo (take 6 (askFinish b target index starts lengths scratch arena)) ≡ 0 → FinishAsked
   unfolding askFinish segmentAreasHold targetFits
   finish-asked e =
       let t = then (areasHoldBuilder b (length index) arena) 11 _ (omega arith) e in
@@ -135,3 +165,18 @@ module _ (b : SegmentCacheBuilder) (target : ℕ) (index : List ℕ) (starts len
         scratch-holds = x .0;
         located = y .0;
       }
+
+  -- 7 is the last question's number alone
+  others : Apart 7 (take 6 (askFinish b target index starts lengths scratch arena))
+  unfolding askFinish
+  others =
+      let apart : (n : ℕ) → n < 7 ⊎ 7 < n → n ≡ 7 → ⊥ = λ n h e. ⊎-elim (λ l. omega (arith, l, e)) (λ l. omega (arith, l, e)) h in
+      ((omega arith, apart 11 (inr (omega arith))), ((omega arith, apart 11 (inr (omega arith))), ((omega arith, apart 3 (inl (omega arith))), ((omega arith, apart 8 (inr (omega arith))), ((omega arith, apart 10 (inr (omega arith))), ((omega arith, apart 11 (inr (omega arith))), tt))))))
+
+  pub finish-last : firstNo (askFinish b target index starts lengths scratch arena)
+      ≡ decided (firstNo (take 6 (askFinish b target index starts lengths scratch arena))) (pick (leb (length (segmentStarts b target index)) 256) 0 7) (λ n. n)
+  unfolding askFinish
+  finish-last = with-last 7 (take 6 (askFinish b target index starts lengths scratch arena)) (leb (length (segmentStarts b target index)) 256) others
+
+  pub finish-not-seven : firstNo (take 6 (askFinish b target index starts lengths scratch arena)) ≡ 7 → ⊥
+  finish-not-seven = not-last 7 (take 6 (askFinish b target index starts lengths scratch arena)) (omega arith) others

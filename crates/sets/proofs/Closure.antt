@@ -29,12 +29,12 @@ use Rattle.index.proofs.Filters.{marked-length}
 use Rattle.index.proofs.PackedReads.{packed-length}
 use Rattle.index.proofs.Starts.{starts-first}
 use Rattle.sets.specs.Answers.{accept, Placed}
-use Rattle.sets.specs.Build.{areasHoldBuilder, builderOpened, builderGrown, deadlineFor, Opened, afterOpen, Pushed, afterPush, setOf, slotFor, slotIn, Finished, afterFinish}
+use Rattle.sets.specs.Build.{areasHoldBuilder, builderOpened, builderGrown, deadlineFor, Opened, afterOpen, Pushed, afterPush, setOf, pushSlot, segmentStarts, Finished, afterFinish}
 use Rattle.sets.specs.Lookup.{Lookup, Found, Nothing, Refused, setFits, areasHoldSet, areasHoldLookup, findOf, lookupOf, lookupIn, slotMarked, slotCleared, liveMarked, gotten, afterGet, takenOf, afterTake}
 use Rattle.sets.specs.Questions.{all, arenaHolds, segmentAreasHold}
 use Rattle.sets.specs.declared.builder.SegmentCacheBuilder.{SegmentCacheBuilder}
 use Rattle.sets.specs.declared.cache.FrozenSegmentCache.{FrozenSegmentCache}
-use Rattle.sets.proofs.Accepted.{OpenCase, open-made, open-refused, open-case, PushCase, push-made, push-refused, push-case, FinishCase, finish-made, finish-many, finish-refused, finish-case, startsMade}
+use Rattle.sets.proofs.Accepted.{OpenCase, open-made, open-refused, open-case, PushCase, push-made, push-refused, push-case, FinishCase, finish-made, finish-many, finish-refused, finish-case}
 use Rattle.sets.proofs.Counts.{both, BuilderFits, builder-areas-pass, set-index}
 
 -- ---- question 1 with every area, by their lengths: index, filter, starts, lengths, arena
@@ -164,10 +164,10 @@ module _ (b : SegmentCacheBuilder) (h : ℕ) (key value : List ℕ) (ttl : Lifet
       go : {p : Pushed} → PushCase b h key value ttl index filter arena p
           → (length (p .index) ≡ length index) × (length (p .filter) ≡ length filter) × (length (p .arena) ≡ length arena)
       go (push-refused n) = (refl, refl, refl)
-      go (push-made a fits) = (
+      go (push-made a) = (
         length-set index _ _,
         displaced-length filter (b .«filter_words») h _ (b .«bucket_count»),
-        pasted-length (b .filled) bytes arena (rw (size-is (b .config .expiry) key value (deadlineFor (b .config) ttl .value)) fits),
+        pasted-length (b .filled) bytes arena (rw (size-is (b .config .expiry) key value (deadlineFor (b .config) ttl .value)) (a .fits)),
       )
 
   -- what an accepted push leaves passes question 1; starts and lengths are not lent to it
@@ -179,18 +179,18 @@ module _ (b : SegmentCacheBuilder) (h : ℕ) (key value : List ℕ) (ttl : Lifet
       go : {r : Pushed} → PushCase b h key value ttl index filter arena r → r .answer ≡ accept p
           → all (areasHoldBuilder (p .builder) (length index) (length arena) ∷ leb (p .builder .«filter_words») (length filter) ∷ segmentAreasHold starts lengths ∷ []) ≡ true
       go (push-refused n) e = cc
-      go (push-made a fits) e =
+      go (push-made a) e =
           let size : ℕ = recordSize (b .config .expiry) (length key) (length value) in
           let grown : SegmentCacheBuilder = builderGrown b size (length key) (length value) in
-          let made : record { builder = grown; slot = slotIn (slotFor b h key index arena); location = b .filled } ≡ p = cc in
+          let made : record { builder = grown; slot = pushSlot b h key index arena .value; location = b .filled } ≡ p = cc in
           let same : grown ≡ p .builder = ap (λ (q : Placed). q .builder) made in
           rw (← same)
           (rw (
             builder-areas-pass grown (length index) (length arena)
                 record {
-                  numbers = grown-fits b (b .config .expiry) (length key) (length value) (length arena) (a .areas .numbers) (a .announced) fits (a .areas .arena-short);
+                  numbers = grown-fits b (b .config .expiry) (length key) (length value) (length arena) (a .areas .numbers) (a .announced) (a .fits) (a .areas .arena-short);
                   index-holds = a .areas .index-holds;
-                  filled-held = fits;
+                  filled-held = a .fits;
                   arena-short = a .areas .arena-short;
                 },
             le-leb _ _ (a .filter-holds),
@@ -228,8 +228,8 @@ module _ (b : SegmentCacheBuilder) (target : ℕ) (index starts lengths scratch 
       go (finish-many a) e = cc
       go (finish-made a few) e =
           let f = a .areas .numbers in
-          let same : setOf b (length (startsMade b target index starts lengths scratch arena)) ≡ s = cc in
-          let one : 1 ≤ length (startsMade b target index starts lengths scratch arena) = starts-first (take (8 * b .«bucket_count») index) (b .filled) target .1 in
+          let same : setOf b (length (segmentStarts b target index)) ≡ s = cc in
+          let one : 1 ≤ length (segmentStarts b target index) = starts-first (take (8 * b .«bucket_count») index) (b .filled) target .1 in
           rw (← same)
           (rw
           (f .counts, le-leb _ _ one, le-leb _ _ few, ← a .complete, le-leb _ _ (f .key-bytes), le-leb _ _ (f .value-bytes), le-leb _ _ (f .header-bytes), le-leb _ _ (a .areas .index-holds), le-leb _ _ (a .starts-hold), le-leb _ _ (a .lengths-hold), le-leb _ _ (a .areas .filled-held), le-leb _ _ (a .areas .arena-short), le-leb _ _ held))

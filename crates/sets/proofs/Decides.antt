@@ -11,7 +11,8 @@ use Rattle.hash_parts.specs.declared.duration.Lifetime.{Lifetime}
 use Rattle.hash_parts.specs.declared.error.SegmentCacheBuildError.{SegmentCacheBuildError}
 use Rattle.hash_parts.proofs.Refusals.{refusal-pos}
 use Rattle.sets.specs.Answers.{Reply, accept, refuse}
-use Rattle.sets.specs.Build.{askPush, deadlineFor, planPush, slotFor, slotIn}
+use Rattle.sets.specs.Build.{askPush, deadlineFor, pushSlot}
+use Rattle.sets.specs.BuildPlans.{planPush}
 use Rattle.sets.specs.Questions.{decided, firstNo}
 use Rattle.sets.specs.declared.builder.SegmentCacheBuilder.{SegmentCacheBuilder}
 
@@ -43,14 +44,14 @@ module _ {A : Type 0} where
   planned-no zero m x e = absurd (let z : _≡_ {A = ℕ} 0 1 = cc in omega arith)
   planned-no (suc n) m x e = cc
 
-module _ (b : SegmentCacheBuilder) (h : ℕ) (key : List ℕ) (ttl : Lifetime) (index : List ℕ) (filter : ℕ) (arena : List ℕ) where
-  pub plan-placed : (s d : ℕ) → planPush b h key ttl index filter arena ≡ accept (s, d)
-      → (firstNo (askPush b h key ttl index filter arena) ≡ 0) × (slotIn (slotFor b h key index arena) ≡ s) × (deadlineFor (b .config) ttl .value ≡ d)
+module _ (b : SegmentCacheBuilder) (h : ℕ) (key : List ℕ) (value : ℕ) (ttl : Lifetime) (index : List ℕ) (filter : ℕ) (arena : List ℕ) where
+  pub plan-placed : (s d : ℕ) → planPush b h key value ttl index filter arena ≡ accept (s, d)
+      → (firstNo (askPush b h key value ttl index filter arena) ≡ 0) × (pushSlot b h key index arena .value ≡ s) × (deadlineFor (b .config) ttl .value ≡ d)
   unfolding planPush
   plan-placed s d e =
-      let p = planned-yes (firstNo (askPush b h key ttl index filter arena)) _ (s, d) e in
+      let p = planned-yes (firstNo (askPush b h key value ttl index filter arena)) _ (s, d) e in
       (p .0, ap (λ (x : ℕ × ℕ). x .0) (p .1), ap (λ (x : ℕ × ℕ). x .1) (p .1))
 
-  pub plan-refused : (n : ℕ) → planPush b h key ttl index filter arena ≡ refuse n tt → firstNo (askPush b h key ttl index filter arena) ≡ n
+  pub plan-refused : (n : ℕ) → planPush b h key value ttl index filter arena ≡ refuse n tt → firstNo (askPush b h key value ttl index filter arena) ≡ n
   unfolding planPush
-  plan-refused n e = planned-no (firstNo (askPush b h key ttl index filter arena)) n _ e
+  plan-refused n e = planned-no (firstNo (askPush b h key value ttl index filter arena)) n _ e

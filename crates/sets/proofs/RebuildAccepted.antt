@@ -7,7 +7,6 @@ use Rattle.hash_parts.specs.declared.duration.Lifetime.{Lifetime}
 use Rattle.index.specs.Build.{cleared, emptySlot}
 use Rattle.index.specs.Segments.{padded, replaced}
 use Rattle.sets.specs.Answers.{accept, refuse}
-use Rattle.sets.specs.Build.{slotIn}
 use Rattle.sets.specs.Kept.{chosen}
 use Rattle.sets.specs.Questions.{bucketsIn, decided, filterWordsIn, firstNo}
 use Rattle.sets.specs.Rebuild.{askRebuildOpen, rebuildOpened, RebuildOpened, afterRebuildOpen, askReused, Reused, reusedMade, afterReused, askCopied, copiedDeadline, Copied, copiedMade, afterCopied, askRebuildFinish, RebuildFinished, rebuildFinishMade, afterRebuildFinish}
@@ -49,7 +48,7 @@ module _ (s : FrozenSegmentCache) (sourceStarts sourceLengths arena : List ℕ) 
 
 module _ (r : SharedSegmentCacheBuilder) (h : ℕ) (key value : List ℕ) (source : SegmentRecordLocation) (index filter starts lengths arena : List ℕ) where
   abbrev pub reusedHere : Reused
-  reusedHere = reusedMade (slotIn (emptySlot index (r .«bucket_count») h)) r h (length key) (length value) source index filter
+  reusedHere = reusedMade (emptySlot index (r .«bucket_count») h .value) r h (length key) (length value) source index filter
 
   pub data ReusedCase : Reused → Type 0 where
     reused-made : ReusedAsked r h key value source index (length filter) starts lengths arena
@@ -69,7 +68,7 @@ module _ (r : SharedSegmentCacheBuilder) (h : ℕ) (key value : List ℕ) (sourc
 
 module _ (r : SharedSegmentCacheBuilder) (h : ℕ) (key value : List ℕ) (ttl : Lifetime) (index filter starts lengths arena : List ℕ) where
   abbrev pub copiedHere : Copied
-  copiedHere = copiedMade (slotIn (emptySlot index (r .«bucket_count») h)) (copiedDeadline r ttl .value) r h key value index filter arena
+  copiedHere = copiedMade (emptySlot index (r .«bucket_count») h .value) (copiedDeadline r ttl .value) r h key value index filter arena
 
   pub data CopiedCase : Copied → Type 0 where
     copied-made : CopiedAsked r h (length key) (length value) ttl index (length filter) starts lengths (length arena)

@@ -10,10 +10,10 @@ use lib.ListN.{length, getD}
 use borrow.Author.Tests.{eq-eqb, eqb-true, leb-true, ltb-true, le-leb}
 use Rattle.hash_parts.specs.declared.duration.Lifetime.{Lifetime}
 use Rattle.records.specs.declared.record.RecordAnswer.{RecordAnswer}
-use Rattle.index.specs.Build.{emptySlot}
+use Rattle.index.specs.Build.{emptySlot, never, slotFor}
+use Rattle.index.proofs.Slots.{slot-accepted}
 use Rattle.index.specs.View.{recordIn}
 use Rattle.index.specs.declared.build.BuildSlot.the-variants.{Empty}
-use Rattle.sets.specs.Build.{isFound, slotIn}
 use Rattle.sets.specs.Kept.{isKept, keptCount, retained}
 use Rattle.sets.specs.Lookup.{setFits}
 use Rattle.sets.specs.Questions.{arenaHolds, bucketsIn, bytesFit, countsFit, filterWordsIn, firstNo, lifetimeFits, openAreasHold, scratchHolds, segmentAreasHold}
@@ -21,7 +21,7 @@ use Rattle.sets.specs.Rebuild.{areasHoldRebuild, areasHoldSource, askCop
 use Rattle.sets.specs.declared.cache.FrozenSegmentCache.{FrozenSegmentCache}
 use Rattle.sets.specs.declared.rebuild.SegmentRecordLocation.{SegmentRecordLocation}
 use Rattle.sets.specs.declared.rebuild.SharedSegmentCacheBuilder.{SharedSegmentCacheBuilder}
-use Rattle.sets.proofs.Asked.{then, then-own, found-slot}
+use Rattle.sets.proofs.Asked.{then, then-own}
 use Rattle.sets.proofs.Counts.{both, counts-setting, set-counts}
 
 -- ---- segments in the filled arena
@@ -239,7 +239,7 @@ module _ (r : SharedSegmentCacheBuilder) (h : ℕ) (key value : List ℕ) (sourc
     pub announced : r .«inserted_entries» < r .«expected_entries»
     pub kept : isKept (r .kept) (source .location / 2 ^ 32) ≡ true
     pub holds : holdsRecord key value (source .«header_bytes») arena reusedRead ≡ true
-    pub place : emptySlot index (r .«bucket_count») h ≡ Empty (slotIn (emptySlot index (r .«bucket_count») h))
+    pub place : slotFor never index (r .«bucket_count») h ≡ Empty (emptySlot index (r .«bucket_count») h .value)
 
   pub reused-asked : firstNo (askReused r h key value source index filter starts lengths arena) ≡ 0 → ReusedAsked
   unfolding askReused
@@ -249,14 +249,14 @@ module _ (r : SharedSegmentCacheBuilder) (h : ℕ) (key value : List ℕ) (sourc
       let v = then (ltb (r .«inserted_entries») (r .«expected_entries»)) 3 _ (omega arith) (u .1) in
       let w = then (isKept (r .kept) (source .location / 2 ^ 32)) 3 _ (omega arith) (v .1) in
       let x = then (holdsRecord key value (source .«header_bytes») arena reusedRead) 12 _ (omega arith) (w .1) in
-      let y = then (isFound (emptySlot index (r .«bucket_count») h)) 3 _ (omega arith) (x .1) in
+      let y = then-own (emptySlot index (r .«bucket_count») h .number) _ (x .1) in
       record {
         areas = rebuild-areas-asked r (length index) starts lengths (length arena) (t .0);
         filter-holds = leb-true _ _ (u .0);
         announced = ltb-true _ _ (v .0);
         kept = w .0;
         holds = x .0;
-        place = found-slot (emptySlot index (r .«bucket_count») h) (y .0);
+        place = slot-accepted (slotFor never index (r .«bucket_count») h) (y .0);
       }
 
 -- ---- copied push
@@ -270,7 +270,7 @@ module _ (r : SharedSegmentCacheBuilder) (h key value : ℕ) (ttl : Lifetime) (i
     pub deadline : copiedDeadline r ttl .number ≡ 0
     pub fits : filledIn r + copiedSize r key value ≤ arena
     pub room : retained (r .kept) < 256
-    pub place : emptySlot index (r .«bucket_count») h ≡ Empty (slotIn (emptySlot index (r .«bucket_count») h))
+    pub place : slotFor never index (r .«bucket_count») h ≡ Empty (emptySlot index (r .«bucket_count») h .value)
 
   pub copied-asked : firstNo (askCopied r h key value ttl index filter starts lengths arena) ≡ 0 → CopiedAsked
   unfolding askCopied
@@ -282,7 +282,7 @@ module _ (r : SharedSegmentCacheBuilder) (h key value : ℕ) (ttl : Lifetime) (i
       let x = then-own (copiedDeadline r ttl .number) _ (w .1) in
       let y = then (leb (filledIn r + copiedSize r key value) arena) 10 _ (omega arith) (x .1) in
       let z = then (ltb (retained (r .kept)) 256) 7 _ (omega arith) (y .1) in
-      let f = then (isFound (emptySlot index (r .«bucket_count») h)) 3 _ (omega arith) (z .1) in
+      let f = then-own (emptySlot index (r .«bucket_count») h .number) _ (z .1) in
       record {
         areas = rebuild-areas-asked r (length index) starts lengths arena (t .0);
         filter-holds = leb-true _ _ (u .0);
@@ -291,7 +291,7 @@ module _ (r : SharedSegmentCacheBuilder) (h key value : ℕ) (ttl : Lifetime) (i
         deadline = x .0;
         fits = leb-true _ _ (y .0);
         room = ltb-true _ _ (z .0);
-        place = found-slot (emptySlot index (r .«bucket_count») h) (f .0);
+        place = slot-accepted (slotFor never index (r .«bucket_count») h) (f .0);
       }
 
 -- ---- rebuild finish

@@ -20,7 +20,6 @@ use Rattle.index.specs.Segments.{padded, replaced}
 use Rattle.index.proofs.Filling.{replaced-length, filled-back}
 use Rattle.index.proofs.Table.{true≢false}
 use Rattle.sets.specs.Answers.{accept, RebuildPlaced}
-use Rattle.sets.specs.Build.{slotIn}
 use Rattle.sets.specs.Kept.{chosen, keptCount, keptOf, retained}
 use Rattle.sets.specs.Lookup.{areasHoldLookup, setFits, areasHoldSet}
 use Rattle.sets.specs.Questions.{all, arenaHolds, bucketsIn, filterWordsIn, segmentAreasHold}
@@ -212,7 +211,7 @@ module _ (r : SharedSegmentCacheBuilder) (h : ℕ) (key value : List ℕ) (sourc
       go (reused-refused n) e = cc
       go (reused-made a) e =
           let grown : SharedSegmentCacheBuilder = reusedGrown r (source .«header_bytes») (length key) (length value) in
-          let made : record { builder = grown; slot = slotIn (emptySlot index (r .«bucket_count») h); location = movedLocation r (source .location) } ≡ p = cc in
+          let made : record { builder = grown; slot = emptySlot index (r .«bucket_count») h .value; location = movedLocation r (source .location) } ≡ p = cc in
           let same : grown ≡ p .builder = ap (λ (q : RebuildPlaced). q .builder) made in
           let shown = reused-record key value (source .«header_bytes») arena (keptView r) starts lengths (movedLocation r (source .location) + 1) (a .holds) in
           rw (← same)
@@ -266,7 +265,7 @@ module _ (r : SharedSegmentCacheBuilder) (h : ℕ) (key value : List ℕ) (ttl :
           let v : ℕ = length value in
           let size : ℕ = copiedSize r k v in
           let grown : SharedSegmentCacheBuilder = copiedGrown r size k v in
-          let made : record { builder = grown; slot = slotIn (emptySlot index (r .«bucket_count») h); location = copiedLocation r } ≡ p = cc in
+          let made : record { builder = grown; slot = emptySlot index (r .«bucket_count») h .value; location = copiedLocation r } ≡ p = cc in
           let same : grown ≡ p .builder = ap (λ (q : RebuildPlaced). q .builder) made in
           let whole : size - k - v + k + v ≤ length arena = omega (arith, copied-whole (r .config .expiry) k v, a .fits) in
           rw (← same)

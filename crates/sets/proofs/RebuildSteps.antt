@@ -4,40 +4,30 @@ use mathlib.Core.Bool.{Bool, true, false}
 use mathlib.Core.List.{List, [], _∷_, _++_, append-assoc}
 use Prim.Native.Nat.{ℕ, zero, suc, _+_, _-_, _*_, _%_, _^_, _≤_, _<_}
 use native.Mathlib.Omega.{arith}
-use lib.Dec.{eqb, leb, ltb}
-use lib.ListN.{length, take, drop, replicate, set, getD, length-append, length-drop, length-replicate, length-take}
+use lib.Dec.{eqb, leb}
+use lib.ListN.{length, take, drop, replicate, set, getD, length-append, length-replicate}
 use lib.Seq.{take-all}
-use borrow.Author.Tests.{le-leb, leb-true, leb-false, lt-leb, ltb-false, eqb-true}
-use borrow.Rule.Slice.PartMut.{putMid}
+use borrow.Author.Tests.{le-leb, leb-true, leb-false, eqb-true}
 use Rattle.hash_parts.specs.Choice.{pick}
 use Rattle.hash_parts.specs.Hash.{tagOf}
-use Rattle.hash_parts.specs.Outcome.{Outcome, accepted, refused}
 use Rattle.hash_parts.specs.declared.duration.Lifetime.{Lifetime}
-use Rattle.hash_parts.specs.declared.error.SegmentCacheBuildError.{SegmentCacheBuildError}
-use Rattle.hash_parts.specs.declared.error.SegmentCacheBuildError.the-variants.{CapacityOverflow}
-use Rattle.hash_parts.specs.declared.setting.SegmentExpiry.{SegmentExpiry}
-use Rattle.hash_parts.proofs.Refusals.{refusal-pos}
-use Rattle.records.specs.Area.{over}
-use Rattle.records.specs.Record.{encodedSize, recordBytes, recordSize}
-use Rattle.records.proofs.Area.{part-home}
-use Rattle.records.proofs.Parts.{size-is}
+use Rattle.records.specs.Area.{over, pasted}
+use Rattle.records.specs.Record.{recordBytes}
 use Rattle.index.specs.Build.{cleared, emptySlot}
 use Rattle.index.specs.Filter.{displacedMarked}
 use Rattle.index.specs.Packed.{packedIndex, packedScratch}
 use Rattle.index.specs.Segments.{padded, replaced}
 use Rattle.index.specs.Word.{wordOf}
 use Rattle.sets.specs.Answers.{accept, refuse}
-use Rattle.sets.specs.Build.{slotIn}
 use Rattle.sets.specs.Kept.{keptCount, retained}
 use Rattle.sets.specs.Lookup.{setFits}
 use Rattle.sets.specs.Questions.{arenaHolds, bucketsIn, countsFit, filterWordsIn, firstNo, segmentAreasHold}
-use Rattle.sets.specs.Rebuild.{Copied, RebuildFinished, RebuildOpened, Reused, addsSegment, askCopied, askReused, buildOf, copiedDeadline, copiedGrown, copiedLocation, copiedMade, filledIn, movedLocation, rebuildFinishMade, rebuildOpened, reusedGrown, reusedMade, segmentFor, segmentsInside, sumOf, withLast}
+use Rattle.sets.specs.Rebuild.{Copied, RebuildFinished, RebuildOpened, Reused, addsSegment, askCopied, askReused, buildOf, copiedDeadline, copiedGrown, copiedLocation, copiedMade, copiedSize, filledIn, movedLocation, rebuildFinishMade, rebuildOpened, reusedGrown, reusedMade, segmentFor, segmentsInside, sumOf, withLast}
 use Rattle.sets.specs.RebuildPlans.{planCopied, planReused}
 use Rattle.sets.specs.declared.cache.FrozenSegmentCache.{FrozenSegmentCache}
 use Rattle.sets.specs.declared.rebuild.SegmentRecordLocation.{SegmentRecordLocation}
 use Rattle.sets.specs.declared.rebuild.SharedSegmentCacheBuild.{SharedSegmentCacheBuild}
 use Rattle.sets.specs.declared.rebuild.SharedSegmentCacheBuilder.{SharedSegmentCacheBuilder}
-use Rattle.sets.proofs.Appends.{rest}
 use Rattle.sets.proofs.Counts.{both}
 use Rattle.sets.proofs.Decides.{planned-yes, planned-no}
 use Rattle.sets.proofs.RebuildAsked.{segments-each}
@@ -115,7 +105,7 @@ over-cleared s area zeroed few long e =
 
 module _ (r : SharedSegmentCacheBuilder) (h : ℕ) (key value : List ℕ) (source : SegmentRecordLocation) (index : List ℕ) (filter : ℕ) (starts lengths arena : List ℕ) where
   pub reused-placed : (s : ℕ) → planReused r h key value source index filter starts lengths arena ≡ accept s
-      → (firstNo (askReused r h key value source index filter starts lengths arena) ≡ 0) × (slotIn (emptySlot index (r .«bucket_count») h) ≡ s)
+      → (firstNo (askReused r h key value source index filter starts lengths arena) ≡ 0) × (emptySlot index (r .«bucket_count») h .value ≡ s)
   unfolding planReused
   reused-placed s e = planned-yes (firstNo (askReused r h key value source index filter starts lengths arena)) _ s e
 
@@ -126,7 +116,7 @@ module _ (r : SharedSegmentCacheBuilder) (h : ℕ) (key value : List ℕ) (sourc
 
 module _ (r : SharedSegmentCacheBuilder) (h key value : ℕ) (ttl : Lifetime) (index : List ℕ) (filter : ℕ) (starts lengths : List ℕ) (arena : ℕ) where
   pub copied-placed : (s d : ℕ) → planCopied r h key value ttl index filter starts lengths arena ≡ accept (s, d)
-      → (firstNo (askCopied r h key value ttl index filter starts lengths arena) ≡ 0) × (slotIn (emptySlot index (r .«bucket_count») h) ≡ s) × (copiedDeadline r ttl .value ≡ d)
+      → (firstNo (askCopied r h key value ttl index filter starts lengths arena) ≡ 0) × (emptySlot index (r .«bucket_count») h .value ≡ s) × (copiedDeadline r ttl .value ≡ d)
   unfolding planCopied
   copied-placed s d e =
       let p = planned-yes (firstNo (askCopied r h key value ttl index filter starts lengths arena)) _ (s, d) e in
@@ -174,33 +164,6 @@ set-few s e =
     let u = both (leb 1 (s .segments)) _ (t .1) in
     leb-true _ _ (both (leb (s .segments) 256) _ (u .1) .0)
 
--- room in what is left
-pub room : (filled n arena : ℕ) → filled ≤ arena → leb (filled + n) arena ≡ leb n (arena - filled)
-room filled n arena h = go (leb n (arena - filled)) refl
-  where
-    go : (b : Bool) → leb n (arena - filled) ≡ b → leb (filled + n) arena ≡ b
-    go true e = le-leb (filled + n) arena (omega (arith, leb-true n (arena - filled) e))
-    go false e = lt-leb (filled + n) arena (omega (arith, leb-false n (arena - filled) e))
-
--- a size that was told, and one that passes 64 bits
-module _ (e : SegmentExpiry) (key value : ℕ) where
-  pub size-told : (n : ℕ) → accepted n ≡ encodedSize e key value → n ≡ recordSize e key value
-  unfolding encodedSize
-  size-told n q = go (ltb (recordSize e key value) (2 ^ 64)) q
-    where
-      go : (b : Bool) → accepted n ≡ pick b (accepted (recordSize e key value)) (refused CapacityOverflow) → n ≡ recordSize e key value
-      go true f = ap (λ (o : Outcome). o .value) f
-      go false f = absurd (omega (arith, ap (λ (o : Outcome). o .number) f))
-
-  pub size-large : (f : SegmentCacheBuildError) → refused f ≡ encodedSize e key value → 2 ^ 64 ≤ recordSize e key value
-  unfolding encodedSize
-  size-large f q = go (ltb (recordSize e key value) (2 ^ 64)) refl q
-    where
-      go : (b : Bool) → ltb (recordSize e key value) (2 ^ 64) ≡ b → refused f ≡ pick b (accepted (recordSize e key value)) (refused CapacityOverflow)
-          → 2 ^ 64 ≤ recordSize e key value
-      go true t g = absurd (omega (arith, refusal-pos f, ap (λ (o : Outcome). o .number) g))
-      go false t g = ltb-false _ _ t
-
 -- ---- what a push leaves
 
 -- totals that wrap may wrap at each step
@@ -215,36 +178,20 @@ module _ (slot : ℕ) (r : SharedSegmentCacheBuilder) (h key value : ℕ) (sourc
       (reusedMade slot r h key value source index filter)
   reused-left grown location indexed marked same moved word mark = rw (same, word, mark, moved)
 
-module _ (slot deadline : ℕ) (r : SharedSegmentCacheBuilder) (h : ℕ) (key value index filter arena out : List ℕ) where
-  abbrev bytes : List ℕ
-  bytes = recordBytes (r .config .expiry) key value deadline
-
-  pub copied-left : (n : ℕ) (grown : SharedSegmentCacheBuilder) (location : ℕ) (indexed marked : List ℕ) → n ≡ length bytes
-      → out ≡ over bytes (rest (filledIn r) arena) → grown ≡ copiedGrown r n (length key) (length value) → location ≡ copiedLocation r
+module _ (slot deadline : ℕ) (r : SharedSegmentCacheBuilder) (h : ℕ) (key value index filter arena : List ℕ) where
+  pub copied-left : (n : ℕ) (grown : SharedSegmentCacheBuilder) (location : ℕ) (indexed marked home : List ℕ) → n ≡ copiedSize r (length key) (length value)
+      → home ≡ pasted (filledIn r) (recordBytes (r .config .expiry) key value deadline) arena
+      → grown ≡ copiedGrown r n (length key) (length value) → location ≡ copiedLocation r
       → indexed ≡ set index slot (wordOf (tagOf h) location) → marked ≡ displacedMarked filter (r .«filter_words») h slot (r .«bucket_count»)
       → _≡_ {A = Copied}
       (record {
         answer = accept record { builder = grown; slot = slot; location = location };
         index = indexed;
         filter = marked;
-        arena = putMid (filledIn r) (length arena - filledIn r) arena out;
+        arena = home;
       })
       (copiedMade slot deadline r h key value index filter arena)
-  copied-left n grown location indexed marked size wrote same placed word mark =
-      rw (same, size ∙ size-is (r .config .expiry) key value deadline, word, mark, placed, part-home bytes arena out (filledIn r) wrote)
-
--- the arena is as long as it was
-pub home-length : (s area out : List ℕ) (at : ℕ) → at + length s ≤ length area → out ≡ over s (rest at area) → length (putMid at (length area - at) area out) ≡ length area
-home-length s area out at fits e =
-    ap length (part-home s area out at e)
-    ∙ omega (
-      arith,
-      length-append (take at area) (over s (drop at area)),
-      length-append s (drop (length s) (drop at area)),
-      length-take at area,
-      length-drop (length s) (drop at area),
-      length-drop at area,
-    )
+  copied-left n grown location indexed marked home size wrote same placed word mark = rw (same, size, word, mark, placed, wrote)
 
 -- ---- what rebuild open and finish leave
 

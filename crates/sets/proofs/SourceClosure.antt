@@ -14,7 +14,7 @@ use Rattle.index.specs.Word.{wordStored}
 use Rattle.index.proofs.Splits.{lengths-length}
 use Rattle.index.proofs.Starts.{inside-at, locations-in, next-start-from}
 use Rattle.sets.specs.Answers.{accept}
-use Rattle.sets.specs.Build.{setOf, Finished, afterFinish}
+use Rattle.sets.specs.Build.{setOf, Finished, afterFinish, segmentStarts}
 use Rattle.sets.specs.Lookup.{areasHoldLookup, areasHoldSet, setFits}
 use Rattle.sets.specs.Questions.{segmentAreasHold}
 use Rattle.sets.specs.Rebuild.{areasHoldSource, segmentsInside, RebuildFinished, afterRebuildFinish}
@@ -22,7 +22,7 @@ use Rattle.sets.specs.declared.builder.SegmentCacheBuilder.{SegmentCache
 use Rattle.sets.specs.declared.cache.FrozenSegmentCache.{FrozenSegmentCache}
 use Rattle.sets.specs.declared.rebuild.SharedSegmentCacheBuild.{SharedSegmentCacheBuild}
 use Rattle.sets.specs.declared.rebuild.SharedSegmentCacheBuilder.{SharedSegmentCacheBuilder}
-use Rattle.sets.proofs.Accepted.{FinishCase, finish-made, finish-many, finish-refused, finish-case, startsMade}
+use Rattle.sets.proofs.Accepted.{FinishCase, finish-made, finish-many, finish-refused, finish-case}
 use Rattle.sets.proofs.Closure.{finish-passes}
 use Rattle.sets.proofs.Counts.{both}
 use Rattle.sets.proofs.RebuildAsked.{EachInside, segments-pass}
@@ -114,7 +114,7 @@ module _ (b : SegmentCacheBuilder) (target : ℕ) (index starts lengths scratch 
   finish-inside s e = go (finish-case b target index starts lengths scratch arena) e
     where
       ss : List ℕ
-      ss = startsMade b target index starts lengths scratch arena
+      ss = segmentStarts b target index
 
       go : {f : Finished} → FinishCase b target index starts lengths scratch arena f → f .answer ≡ accept s
           → segmentsInside (s .segments) (s .filled) (f .starts) (f .lengths) ≡ true

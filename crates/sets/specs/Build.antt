@@ -7,7 +7,6 @@ use lib.Dec.{eqb, leb, ltb}
 use lib.ListN.{length, take, set}
 use Rattle.hash_parts.specs.Choice.{pick}
 use Rattle.hash_parts.specs.Duration.{encodedExpiry}
-use Rattle.hash_parts.specs.Error.{errorNumber}
 use Rattle.hash_parts.specs.Hash.{tagOf}
 use Rattle.hash_parts.specs.Outcome.{Outcome}
 use Rattle.hash_parts.specs.declared.duration.Lifetime.{Lifetime}
@@ -17,17 +16,13 @@ use Rattle.records.specs.Record.{recordBytes, recordSize}
 use Rattle.index.specs.Build.{buildSlot, cleared}
 use Rattle.index.specs.Filter.{displacedMarked}
 use Rattle.index.specs.Packed.{packedIndex, packedScratch}
-use Rattle.index.specs.Segments.{Split, locationsInside, split}
+use Rattle.index.specs.Segments.{lengthsOf, locationsInside, padded, replaced, splitWords, startsOf}
 use Rattle.index.specs.Word.{wordOf}
-use Rattle.index.specs.declared.build.BuildSlot.{BuildSlot}
-use Rattle.index.specs.declared.build.BuildSlot.the-variants.{Empty, Duplicate, Full}
 use Rattle.sets.specs.Answers.{Reply, accept, refuse, Placed, openReply, pushReply, finishReply}
 use Rattle.sets.specs.Questions.{all, arenaHolds, askOpen, bucketsIn, bytesFit, countsFit, decided, filterWordsIn, firstNo, lifetimeFits, scratchHolds, segmentAreasHold, targetFits}
 use Rattle.sets.specs.declared.builder.FinishAnswer.{FinishAnswer}
 use Rattle.sets.specs.declared.builder.OpenAnswer.{OpenAnswer}
 use Rattle.sets.specs.declared.builder.PushAnswer.{PushAnswer}
-use Rattle.sets.specs.declared.builder.PushPlan.{PushPlan}
-use Rattle.sets.specs.declared.builder.PushPlan.the-variants.{Place, Refused}
 use Rattle.sets.specs.declared.builder.SegmentCacheBuilder.{SegmentCacheBuilder}
 use Rattle.sets.specs.declared.cache.FrozenSegmentCache.{FrozenSegmentCache}
 
@@ -87,39 +82,28 @@ afterOpen c records index filter starts lengths arena =
 
 -- ---- push
 
--- the slot of a new record: the key is looked for in the filled bytes
-abbrev pub slotFor : SegmentCacheBuilder → ℕ → List ℕ → List ℕ → List ℕ → BuildSlot
-slotFor b h key index arena = buildSlot index (b .«bucket_count») (take (b .filled) arena) (b .config .expiry) key h
-
-abbrev pub isNew : BuildSlot → Bool
-isNew (Empty s) = true
-isNew Duplicate = false
-isNew Full = true
-
-abbrev pub isFound : BuildSlot → Bool
-isFound (Empty s) = true
-isFound Duplicate = false
-isFound Full = false
-
-abbrev pub slotIn : BuildSlot → ℕ
-slotIn (Empty s) = s
-slotIn Duplicate = 0
-slotIn Full = 0
+-- the slot of a new record, or its refusal, 4 or 3; the key is looked for in the filled bytes
+abbrev pub pushSlot : SegmentCacheBuilder → ℕ → List ℕ → List ℕ → List ℕ → Outcome
+pushSlot b h key index arena = buildSlot index (b .«bucket_count») (take (b .filled) arena) (b .config .expiry) key h
 
 -- the deadline of a new record, or its refusal, 5 or 6; "the base is 0 in a build"
 abbrev pub deadlineFor : SegmentCacheConfig → Lifetime → Outcome
 deadlineFor c ttl = encodedExpiry (c .expiry) ttl 0
 
--- questions 1, 2 and 4, but for the room in the arena; the filter by its length
-unfoldable pub askPush : SegmentCacheBuilder → ℕ → List ℕ → Lifetime → List ℕ → ℕ → List ℕ → List (Bool × ℕ)
-askPush b h key ttl index filter arena =
+-- where a record of these lengths would end
+abbrev pub pushEnd : SegmentCacheBuilder → ℕ → ℕ → ℕ
+pushEnd b key value = b .filled + recordSize (b .config .expiry) key value
+
+-- questions 1, 2 and 4; value and filter by their lengths
+unfoldable pub askPush : SegmentCacheBuilder → ℕ → List ℕ → ℕ → Lifetime → List ℕ → ℕ → List ℕ → List (Bool × ℕ)
+askPush b h key value ttl index filter arena =
     (areasHoldBuilder b (length index) (length arena), 11)
     ∷ (leb (b .«filter_words») filter, 11)
     ∷ (lifetimeFits ttl, 9)
     ∷ (ltb (b .«inserted_entries») (b .«expected_entries»), 3)
-    ∷ (isNew (slotFor b h key index arena), 4)
-    ∷ (isFound (slotFor b h key index arena), 3)
+    ∷ (eqb (pushSlot b h key index arena .number) 0, pushSlot b h key index arena .number)
     ∷ (eqb (deadlineFor (b .config) ttl .number) 0, deadlineFor (b .config) ttl .number)
+    ∷ (leb (pushEnd b (length key) value) (length arena), 10)
     ∷ []
 
 abbrev pub builderGrown : SegmentCacheBuilder → ℕ → ℕ → ℕ → SegmentCacheBuilder
@@ -164,34 +148,19 @@ pushMade slot deadline b h key value index filter arena =
       arena = pasted (b .filled) (recordBytes (b .config .expiry) key value deadline) arena;
     }
 
--- the last question of a push: "Fits the arena's rest? 10."
-unfoldable pub pushAt : ℕ → ℕ → SegmentCacheBuilder → ℕ → List ℕ → List ℕ → List ℕ → List ℕ → List ℕ → Pushed
-pushAt slot deadline b h key value index filter arena =
-    pick (leb (b .filled + recordSize (b .config .expiry) (length key) (length value)) (length arena))
-    (pushMade slot deadline b h key value index filter arena)
-    (pushRefused b index filter arena 10)
-
 unfoldable pub afterPush : SegmentCacheBuilder → ℕ → List ℕ → List ℕ → Lifetime → List ℕ → List ℕ → List ℕ → Pushed
 afterPush b h key value ttl index filter arena =
-    decided (firstNo (askPush b h key ttl index (length filter) arena))
-    (pushAt (slotIn (slotFor b h key index arena)) (deadlineFor (b .config) ttl .value) b h key value index filter arena)
+    decided (firstNo (askPush b h key (length value) ttl index (length filter) arena))
+    (pushMade (pushSlot b h key index arena .value) (deadlineFor (b .config) ttl .value) b h key value index filter arena)
     (pushRefused b index filter arena)
-
--- the plan of a push: slot and deadline, or the first refusal
-abbrev pub planned : PushPlan → Reply (ℕ × ℕ) (Unit {0})
-planned (Place slot deadline) = accept (slot, deadline)
-planned (Refused e) = refuse (errorNumber e) tt
-
-unfoldable pub planPush : SegmentCacheBuilder → ℕ → List ℕ → Lifetime → List ℕ → ℕ → List ℕ → Reply (ℕ × ℕ) (Unit {0})
-planPush b h key ttl index filter arena =
-    decided (firstNo (askPush b h key ttl index filter arena)) (accept (slotIn (slotFor b h key index arena), deadlineFor (b .config) ttl .value)) (λ n. refuse n tt)
-
-unfoldable pub planDeadline : SegmentCacheConfig → ℕ → Lifetime → Reply (ℕ × ℕ) (Unit {0})
-planDeadline c slot ttl = decided (deadlineFor c ttl .number) (accept (slot, deadlineFor c ttl .value)) (λ n. refuse n tt)
 
 -- ---- finish
 
--- questions 1 and 5, but for the number of segments; all areas but the index by their lengths
+-- the starts of its segments, at most 257
+abbrev pub segmentStarts : SegmentCacheBuilder → ℕ → List ℕ → List ℕ
+segmentStarts b target index = startsOf (take (8 * b .«bucket_count») index) (b .filled) target
+
+-- questions 1 and 5; all areas but the index by their lengths
 unfoldable pub askFinish : SegmentCacheBuilder → ℕ → List ℕ → ℕ → ℕ → ℕ → ℕ → List (Bool × ℕ)
 askFinish b target index starts lengths scratch arena =
     (areasHoldBuilder b (length index) arena, 11)
@@ -200,6 +169,7 @@ askFinish b target index starts lengths scratch arena =
     ∷ (targetFits target, 8)
     ∷ (scratchHolds (b .config) (b .«bucket_count») scratch, 10)
     ∷ (locationsInside index (b .«bucket_count») (b .filled), 11)
+    ∷ (leb (length (segmentStarts b target index)) 256, 7)
     ∷ []
 
 -- the set of a builder, with so many segments
@@ -230,21 +200,31 @@ abbrev pub finishResult : FinishAnswer → List ℕ → List ℕ → List ℕ �
 finishResult r index starts lengths scratch =
     record { answer = finishReply r; index = index; starts = starts; lengths = lengths; scratch = scratch }
 
--- after the split, which asks "At most 256 segments? 7; the starts area then holds the first 256 starts, and the builder stays open"
-abbrev pub finishSplit : SegmentCacheBuilder → List ℕ → Split → Finished
-finishSplit b scratch s =
-    pick (eqb (s .answer .number) 0)
-    (record {
-      answer = accept (setOf b (s .answer .value));
-      index = pick (b .config .«packed_bucket_index») (packedIndex (b .«bucket_count») (s .index) scratch) (s .index);
-      starts = s .starts;
-      lengths = s .lengths;
-      scratch = pick (b .config .«packed_bucket_index») (packedScratch (b .«bucket_count») (s .index) scratch) scratch;
-    })
-    (record { answer = refuse (s .answer .number) b; index = s .index; starts = s .starts; lengths = s .lengths; scratch = scratch })
+-- the starts area with the starts, and 0 in the rest of its 256 words; of more than 256 the first 256
+abbrev pub startsWritten : SegmentCacheBuilder → ℕ → List ℕ → List ℕ → List ℕ
+startsWritten b target index starts = replaced (padded (segmentStarts b target index)) starts
+
+-- the index with every location split
+abbrev pub indexSplit : SegmentCacheBuilder → ℕ → List ℕ → List ℕ
+indexSplit b target index = splitWords index (b .«bucket_count») (segmentStarts b target index) (b .filled) target
+
+abbrev pub finishMade : SegmentCacheBuilder → ℕ → List ℕ → List ℕ → List ℕ → List ℕ → Finished
+finishMade b target index starts lengths scratch =
+    record {
+      answer = accept (setOf b (length (segmentStarts b target index)));
+      index = pick (b .config .«packed_bucket_index») (packedIndex (b .«bucket_count») (indexSplit b target index) scratch) (indexSplit b target index);
+      starts = startsWritten b target index starts;
+      lengths = replaced (padded (lengthsOf (b .filled) (segmentStarts b target index))) lengths;
+      scratch = pick (b .config .«packed_bucket_index») (packedScratch (b .«bucket_count») (indexSplit b target index) scratch) scratch;
+    }
+
+-- the one refusal that writes: "7; the starts area then holds the first 256 starts, and the builder stays open"
+abbrev pub finishRefused : SegmentCacheBuilder → ℕ → List ℕ → List ℕ → List ℕ → List ℕ → ℕ → Finished
+finishRefused b target index starts lengths scratch n =
+    record { answer = refuse n b; index = index; starts = pick (eqb n 7) (startsWritten b target index starts) starts; lengths = lengths; scratch = scratch }
 
 unfoldable pub afterFinish : SegmentCacheBuilder → ℕ → List ℕ → List ℕ → List ℕ → List ℕ → List ℕ → Finished
 afterFinish b target index starts lengths scratch arena =
     decided (firstNo (askFinish b target index (length starts) (length lengths) (length scratch) (length arena)))
-    (finishSplit b scratch (split index (b .«bucket_count») (b .filled) target starts lengths))
-    (λ n. record { answer = refuse n b; index = index; starts = starts; lengths = lengths; scratch = scratch })
+    (finishMade b target index starts lengths scratch)
+    (finishRefused b target index starts lengths scratch)

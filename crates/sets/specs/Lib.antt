@@ -1,6 +1,7 @@
 pub mod Answers
 pub mod Areas
 pub mod Build
+pub mod BuildPlans
 pub mod Kept
 pub mod Lookup
 pub mod Questions

@@ -24,7 +24,6 @@ use Rattle.index.specs.View.{recordIn}
 use Rattle.index.specs.Word.{wordOf}
 use Rattle.index.specs.declared.view.SegmentView.{SegmentView}
 use Rattle.sets.specs.Answers.{Reply, accept, refuse, RebuildPlaced, rebuildOpenReply, rebuildPushReply, rebuildFinishReply}
-use Rattle.sets.specs.Build.{isFound, slotIn}
 use Rattle.sets.specs.Kept.{chosen, isKept, keptCount, keptOf, newNumber, retained}
 use Rattle.sets.specs.Lookup.{setFits}
 use Rattle.sets.specs.Questions.{all, arenaHolds, bucketsIn, bytesFit, countsFit, decided, filterWordsIn, firstNo, lifetimeFits, openAreasHold, scratchHolds, segmentAreasHold}
@@ -165,7 +164,7 @@ askReused r h key value source index filter starts lengths arena =
     ∷ (ltb (r .«inserted_entries») (r .«expected_entries»), 3)
     ∷ (isKept (r .kept) (source .location / 2 ^ 32), 3)
     ∷ (holdsRecord key value (source .«header_bytes») arena (recordIn (keptView r) arena starts lengths (movedLocation r (source .location) + 1)), 12)
-    ∷ (isFound (emptySlot index (r .«bucket_count») h), 3)
+    ∷ (eqb (emptySlot index (r .«bucket_count») h .number) 0, emptySlot index (r .«bucket_count») h .number)
     ∷ []
 
 -- one record more: its header, key and value bytes, and then the copied bytes and the totals of reused records
@@ -219,7 +218,7 @@ reusedMade slot r h key value source index filter =
 unfoldable pub afterReused : SharedSegmentCacheBuilder → ℕ → List ℕ → List ℕ → SegmentRecordLocation → List ℕ → List ℕ → List ℕ → List ℕ → List ℕ → Reused
 afterReused r h key value source index filter starts lengths arena =
     decided (firstNo (askReused r h key value source index (length filter) starts lengths arena))
-    (reusedMade (slotIn (emptySlot index (r .«bucket_count») h)) r h (length key) (length value) source index filter)
+    (reusedMade (emptySlot index (r .«bucket_count») h .value) r h (length key) (length value) source index filter)
     (λ n. record { answer = refuse n r; index = index; filter = filter })
 
 -- ---- copied push
@@ -248,7 +247,7 @@ askCopied r h key value ttl index filter starts lengths arena =
     ∷ (eqb (copiedDeadline r ttl .number) 0, copiedDeadline r ttl .number)
     ∷ (leb (filledIn r + copiedSize r key value) arena, 10)
     ∷ (ltb (retained (r .kept)) 256, 7)
-    ∷ (isFound (emptySlot index (r .«bucket_count») h), 3)
+    ∷ (eqb (emptySlot index (r .«bucket_count») h .number) 0, emptySlot index (r .«bucket_count») h .number)
     ∷ []
 
 -- what a copied push leaves: its answer, and the index, filter and arena
@@ -279,7 +278,7 @@ copiedMade slot deadline r h key value index filter arena =
 unfoldable pub afterCopied : SharedSegmentCacheBuilder → ℕ → List ℕ → List ℕ → Lifetime → List ℕ → List ℕ → List ℕ → List ℕ → List ℕ → Copied
 afterCopied r h key value ttl index filter starts lengths arena =
     decided (firstNo (askCopied r h (length key) (length value) ttl index (length filter) starts lengths (length arena)))
-    (copiedMade (slotIn (emptySlot index (r .«bucket_count») h)) (copiedDeadline r ttl .value) r h key value index filter arena)
+    (copiedMade (emptySlot index (r .«bucket_count») h .value) (copiedDeadline r ttl .value) r h key value index filter arena)
     (λ n. record { answer = refuse n r; index = index; filter = filter; arena = arena })
 
 -- ---- rebuild finish

@@ -1,13 +1,12 @@
--- What the plans of a rebuild's pushes come to: the slot of a new record, and the deadline of a copied one, or the first refusal. Assumes nothing.
+-- What the plans of a rebuild's pushes come to: the slot of a new record, and the deadline of a copied one, or the first refusal. For private functions alone. Assumes nothing.
 use mathlib.Core.Bool.{Bool}
 use mathlib.Core.List.{List, [], _∷_}
 use Prim.Native.Nat.{ℕ, _+_}
-use lib.Dec.{leb, ltb}
+use lib.Dec.{eqb, leb, ltb}
 use Rattle.hash_parts.specs.Error.{errorNumber}
 use Rattle.hash_parts.specs.declared.duration.Lifetime.{Lifetime}
 use Rattle.index.specs.Build.{emptySlot}
 use Rattle.sets.specs.Answers.{Reply, accept, refuse}
-use Rattle.sets.specs.Build.{isFound, slotIn}
 use Rattle.sets.specs.Kept.{retained}
 use Rattle.sets.specs.Questions.{decided, firstNo}
 use Rattle.sets.specs.Rebuild.{askCopied, askReused, copiedDeadline, copiedSize, filledIn}
@@ -24,7 +23,7 @@ slotPlanned (Refused e) = refuse (errorNumber e) tt
 
 unfoldable pub planReused : SharedSegmentCacheBuilder → ℕ → List ℕ → List ℕ → SegmentRecordLocation → List ℕ → ℕ → List ℕ → List ℕ → List ℕ → Reply ℕ (Unit {0})
 planReused r h key value source index filter starts lengths arena =
-    decided (firstNo (askReused r h key value source index filter starts lengths arena)) (accept (slotIn (emptySlot index (r .«bucket_count») h))) (λ n. refuse n tt)
+    decided (firstNo (askReused r h key value source index filter starts lengths arena)) (accept (emptySlot index (r .«bucket_count») h .value)) (λ n. refuse n tt)
 
 -- ---- copied push
 
@@ -33,15 +32,15 @@ unfoldable pub askRoom : SharedSegmentCacheBuilder → ℕ → ℕ → ℕ → L
 askRoom r h key value index arena =
     (leb (filledIn r + copiedSize r key value) arena, 10)
     ∷ (ltb (retained (r .kept)) 256, 7)
-    ∷ (isFound (emptySlot index (r .«bucket_count») h), 3)
+    ∷ (eqb (emptySlot index (r .«bucket_count») h .number) 0, emptySlot index (r .«bucket_count») h .number)
     ∷ []
 
 unfoldable pub planRoom : SharedSegmentCacheBuilder → ℕ → ℕ → ℕ → ℕ → List ℕ → ℕ → Reply (ℕ × ℕ) (Unit {0})
 planRoom r deadline h key value index arena =
-    decided (firstNo (askRoom r h key value index arena)) (accept (slotIn (emptySlot index (r .«bucket_count») h), deadline)) (λ n. refuse n tt)
+    decided (firstNo (askRoom r h key value index arena)) (accept (emptySlot index (r .«bucket_count») h .value, deadline)) (λ n. refuse n tt)
 
 unfoldable pub planCopied : SharedSegmentCacheBuilder → ℕ → ℕ → ℕ → Lifetime → List ℕ → ℕ → List ℕ → List ℕ → ℕ → Reply (ℕ × ℕ) (Unit {0})
 planCopied r h key value ttl index filter starts lengths arena =
     decided (firstNo (askCopied r h key value ttl index filter starts lengths arena))
-    (accept (slotIn (emptySlot index (r .«bucket_count») h), copiedDeadline r ttl .value))
+    (accept (emptySlot index (r .«bucket_count») h .value, copiedDeadline r ttl .value))
     (λ n. refuse n tt)

@@ -9,6 +9,7 @@ use crate::questions::counts_fit;
 use crate::questions::deadline_refusal;
 use crate::questions::filter_words_for;
 use crate::questions::lifetime_fits;
+use crate::questions::record_fits;
 use crate::questions::scratch_holds;
 use crate::questions::segment_areas_hold;
 use crate::questions::target_fits;
@@ -31,15 +32,15 @@ use index::word::BUCKET_SLOTS;
 use index::word::encode_index_word;
 use records::record::SizeAnswer;
 use records::record::append_record;
-use records::varint::WriteAnswer;
 ghost use mathlib.Core.Path.{_≡_};
 ghost use Prim.Native.Nat.{_+_, _*_, _<_, _≤_, _^_};
-ghost use lib.ListN.{length};
+ghost use lib.ListN.{length, take};
 ghost use Rattle.index.specs.Packed.{packedIndex, packedScratch};
 ghost use Rattle.records.specs.Record.{encodedSize, sizeOutcome};
 ghost use Rattle.hash_parts.specs.Choice.{pick};
 ghost use Rattle.sets.specs.Questions.{checkNumber, firstNo};
-ghost use Rattle.sets.specs.Build.{afterFinish, afterOpen, afterPush, areasHoldBuilder, askFinish, builderFits, builderGrown, builderOpened, finishResult, openResult, planDeadline, planPush, planned, pushAt, pushResult, setOf};
+ghost use Rattle.sets.specs.Build.{afterFinish, afterOpen, afterPush, areasHoldBuilder, askFinish, builderFits, builderGrown, builderOpened, finishResult, openResult, pushEnd, pushMade, pushResult, setOf};
+ghost use Rattle.sets.specs.BuildPlans.{planPush, planRecord, planned};
 
 pub struct SegmentCacheBuilder {
     pub config: SegmentCacheConfig,
@@ -139,7 +140,15 @@ impl SegmentCacheBuilder {
     ) -> PushAnswer
         ensures { λ r. ⌜ pushResult r (now (index .exit)) (now (filter .exit)) (now (arena .exit)) ≡ afterPush self hash (now (key .entry)) (now (value .entry)) ttl (now (index .entry)) (now (filter .entry)) (now (arena .entry)) ⌝ }
     {
-        match self.plan_push(hash, key, ttl, &index[..], filter.len(), &arena[..]) {
+        match self.plan_push(
+            hash,
+            key,
+            value.len(),
+            ttl,
+            &index[..],
+            filter.len(),
+            &arena[..],
+        ) {
             PushPlan::Refused(refusal) => PushAnswer::Refused {
                 refusal,
                 builder: self,
@@ -239,17 +248,18 @@ impl SegmentCacheBuilder {
         arena_holds(self.filled, arena_len)
     }
 
-    // The questions of a push but the last, the room in the arena.
+    // The questions of a push.
     fn plan_push(
         self,
         hash: u64,
         key: &[u8],
+        value_bytes: usize,
         ttl: Lifetime,
         index: &[u64],
         filter_len: usize,
         arena: &[u8],
     ) -> PushPlan
-        ensures { λ r. ⌜ planned r ≡ planPush self hash (now (key .entry)) ttl (now (index .entry)) «filter_len» (now (arena .entry)) ⌝ }
+        ensures { λ r. ⌜ planned r ≡ planPush self hash (now (key .entry)) «value_bytes» ttl (now (index .entry)) «filter_len» (now (arena .entry)) ⌝ }
     {
         if !self.areas_hold(index.len(), arena.len()) {
             return PushPlan::Refused(SegmentCacheBuildError::InvalidState);
@@ -276,11 +286,37 @@ impl SegmentCacheBuilder {
         ) {
             BuildSlot::Duplicate => PushPlan::Refused(SegmentCacheBuildError::DuplicateKey),
             BuildSlot::Full => PushPlan::Refused(SegmentCacheBuildError::CapacityOverflow),
-            BuildSlot::Empty(slot) => plan_deadline(config, slot, ttl),
+            BuildSlot::Empty(slot) => {
+                self.plan_record(slot, key.len(), value_bytes, ttl, arena.len())
+            }
         }
     }
 
-    // Writes the record where it fits, then its word and its filter mark.
+    // The last of them: the deadline, and room in the arena.
+    fn plan_record(
+        self,
+        slot: usize,
+        key_bytes: usize,
+        value_bytes: usize,
+        ttl: Lifetime,
+        arena_len: usize,
+    ) -> PushPlan
+        requires { ⌜ self .filled ≤ «arena_len» ⌝ }
+        ensures { λ r. ⌜ planned r ≡ planRecord self slot «key_bytes» «value_bytes» ttl «arena_len» ⌝ }
+    {
+        let config = self.config;
+        let expiry = config.expiry;
+        let deadline = encode_expiry_at_tick(expiry, ttl, 0);
+        let EncodedExpiry::At(expires_at) = deadline else {
+            return PushPlan::Refused(deadline_refusal(deadline));
+        };
+        if !record_fits(expiry, key_bytes, value_bytes, arena_len - self.filled) {
+            return PushPlan::Refused(SegmentCacheBuildError::AreaTooShort);
+        }
+        PushPlan::Place(slot, expires_at)
+    }
+
+    // Writes the record, then its word and its filter mark.
     fn push_at(
         self,
         slot: usize,
@@ -292,19 +328,13 @@ impl SegmentCacheBuilder {
         filter: &mut [u64],
         arena: &mut [u8],
     ) -> PushAnswer
-        requires { ⌜ (self .filled ≤ length (now arena)) × (length (now arena) ≤ 2 ^ 30) × (slot < length (now index)) × (self .«inserted_entries» < self .«expected_entries») × (self .«logical_key_bytes» ≤ 2 ^ 50) × (self .«logical_value_bytes» ≤ 2 ^ 50) ⌝ }
-        ensures { λ r. ⌜ pushResult r (now (index .exit)) (now (filter .exit)) (now (arena .exit)) ≡ pushAt slot «expires_at» self hash (now (key .entry)) (now (value .entry)) (now (index .entry)) (now (filter .entry)) (now (arena .entry)) ⌝ }
+        requires { ⌜ (pushEnd self (length (now key)) (length (now value)) ≤ length (now arena)) × (length (now arena) ≤ 2 ^ 30) × (slot < length (now index)) × (self .«inserted_entries» < self .«expected_entries») × (self .«logical_key_bytes» ≤ 2 ^ 50) × (self .«logical_value_bytes» ≤ 2 ^ 50) ⌝ }
+        ensures { λ r. ⌜ pushResult r (now (index .exit)) (now (filter .exit)) (now (arena .exit)) ≡ pushMade slot «expires_at» self hash (now (key .entry)) (now (value .entry)) (now (index .entry)) (now (filter .entry)) (now (arena .entry)) ⌝ }
     {
         let filled = self.filled;
         let config = self.config;
         let expiry = config.expiry;
-        let written = append_record(&mut arena[filled..], expiry, key, value, expires_at);
-        let WriteAnswer::Written(size) = written else {
-            return PushAnswer::Refused {
-                refusal: SegmentCacheBuildError::AreaTooShort,
-                builder: self,
-            };
-        };
+        let size = append_record(&mut arena[filled..], expiry, key, value, expires_at);
         index[slot] = encode_index_word(hash_tag(hash), filled as u64);
         mark_displaced(filter, self.filter_words, hash, slot, self.bucket_count);
         PushAnswer::Pushed {
@@ -315,17 +345,15 @@ impl SegmentCacheBuilder {
     }
 
     // The state with one record more.
-    fn grown(self, size: usize, key_bytes: usize, value_bytes: usize) -> Self
+    fn grown(mut self, size: usize, key_bytes: usize, value_bytes: usize) -> Self
         requires { ⌜ (self .«inserted_entries» < self .«expected_entries») × (self .filled + size ≤ 2 ^ 30) × (self .«logical_key_bytes» ≤ 2 ^ 50) × (self .«logical_value_bytes» ≤ 2 ^ 50) × («key_bytes» + «value_bytes» ≤ size) ⌝ }
         ensures { λ r. ⌜ r ≡ builderGrown self size «key_bytes» «value_bytes» ⌝ }
     {
-        SegmentCacheBuilder {
-            inserted_entries: self.inserted_entries + 1,
-            filled: self.filled + size,
-            logical_key_bytes: self.logical_key_bytes + key_bytes,
-            logical_value_bytes: self.logical_value_bytes + value_bytes,
-            ..self
-        }
+        self.inserted_entries += 1;
+        self.filled += size;
+        self.logical_key_bytes += key_bytes;
+        self.logical_value_bytes += value_bytes;
+        self
     }
 
     // The questions of finish but the last, the number of segments.
@@ -338,7 +366,7 @@ impl SegmentCacheBuilder {
         scratch_len: usize,
         arena_len: usize,
     ) -> Check
-        ensures { λ r. ⌜ checkNumber r ≡ firstNo (askFinish self target (now (index .entry)) «starts_len» «lengths_len» «scratch_len» «arena_len») ⌝ }
+        ensures { λ r. ⌜ checkNumber r ≡ firstNo (take 6 (askFinish self target (now (index .entry)) «starts_len» «lengths_len» «scratch_len» «arena_len»)) ⌝ }
     {
         if !self.areas_hold(index.len(), arena_len) {
             return Check::Refused(SegmentCacheBuildError::InvalidState);
@@ -396,18 +424,6 @@ fn opened_builder(config: SegmentCacheConfig, entry_count: usize) -> SegmentCach
         logical_key_bytes: 0,
         logical_value_bytes: 0,
     }
-}
-
-// The deadline of a record that is to go into a slot.
-fn plan_deadline(config: SegmentCacheConfig, slot: usize, ttl: Lifetime) -> PushPlan
-    ensures { λ r. ⌜ planned r ≡ planDeadline config slot ttl ⌝ }
-{
-    let expiry = config.expiry;
-    let deadline = encode_expiry_at_tick(expiry, ttl, 0);
-    let EncodedExpiry::At(expires_at) = deadline else {
-        return PushPlan::Refused(deadline_refusal(deadline));
-    };
-    PushPlan::Place(slot, expires_at)
 }
 
 // The packed layout, where the setting asks for it.

@@ -9,10 +9,13 @@ use index::build::bucket_count;
 use index::filter::negative_filter_words;
 use index::segments::MAX_RECORD_SEGMENTS;
 use index::word::BUCKET_SLOTS;
+use records::record::SizeAnswer;
+use records::record::encoded_record_bytes;
 ghost use mathlib.Core.Path.{_≡_};
 ghost use Prim.Native.Nat.{_*_, _^_, _≤_};
 ghost use lib.Dec.{leb};
 ghost use Rattle.hash_parts.specs.Duration.{ceilDiv};
+ghost use Rattle.records.specs.Record.{recordSize};
 ghost use Rattle.sets.specs.Questions.{arenaHolds, askOpen, checkNumber, countsFit, deadlineRefusal, firstNo, lifetimeFits, nanosecondsFit, occupancyFits, openAreasHold, scratchHolds, segmentAreasHold, settingFits, targetFits, tickRuns};
 
 pub(crate) const MAX_RECORDS: usize = 1_048_576;
@@ -213,4 +216,19 @@ pub(crate) fn open_areas_hold(
         return false;
     }
     filter_len >= filter_words_for(entry_count, config.negative_filter_bits_per_entry)
+}
+
+// Whether a record of these lengths fits so many bytes; one whose size passes 64 bits fits nowhere.
+pub(crate) fn record_fits(
+    expiry: SegmentExpiry,
+    key_bytes: usize,
+    value_bytes: usize,
+    rest: usize,
+) -> bool
+    ensures { λ r. ⌜ r ≡ leb (recordSize expiry «key_bytes» «value_bytes») rest ⌝ }
+{
+    let SizeAnswer::Bytes(size) = encoded_record_bytes(expiry, key_bytes, value_bytes) else {
+        return false;
+    };
+    size <= rest
 }

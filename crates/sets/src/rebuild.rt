@@ -22,7 +22,6 @@ use index::segments::MAX_RECORD_SEGMENTS;
 use index::word::BUCKET_SLOTS;
 use index::word::encode_index_word;
 use records::record::append_record;
-use records::varint::WriteAnswer;
 ghost use mathlib.Core.Path.{_≡_};
 ghost use mathlib.Core.Bool.{true};
 ghost use Prim.Native.Nat.{_+_, _*_, _/_, _<_, _≤_, _^_};
@@ -282,13 +281,7 @@ impl SharedSegmentCacheBuilder {
         let filled = self.source_filled + self.copied_bytes;
         let config = self.config;
         let expiry = config.expiry;
-        let written = append_record(&mut arena[filled..], expiry, key, value, expires_at);
-        let WriteAnswer::Written(size) = written else {
-            return RebuildPushAnswer::Refused {
-                refusal: SegmentCacheBuildError::AreaTooShort,
-                builder: self,
-            };
-        };
+        let size = append_record(&mut arena[filled..], expiry, key, value, expires_at);
         let kept = self.kept;
         let location = kept.retained() * SEGMENT_BYTES + self.copied_bytes;
         self.push_index(slot, hash, location, index, filter);
@@ -317,36 +310,32 @@ impl SharedSegmentCacheBuilder {
 
     // The state with one reused record more. The totals of reused records are free numbers: they
     // wrap at 64 bits.
-    fn reused_grown(self, header_bytes: usize, key_bytes: usize, value_bytes: usize) -> Self
+    fn reused_grown(mut self, header_bytes: usize, key_bytes: usize, value_bytes: usize) -> Self
         requires { ⌜ (self .«inserted_entries» < self .«expected_entries») × (self .«logical_key_bytes» + «key_bytes» < 2 ^ 64) × (self .«logical_value_bytes» + «value_bytes» < 2 ^ 64) × (self .«record_header_bytes» + «header_bytes» < 2 ^ 64) ⌝ }
         ensures { λ r. ⌜ r ≡ reusedGrown self «header_bytes» «key_bytes» «value_bytes» ⌝ }
     {
         let with_header = wrapping_sum(self.reused_record_bytes, header_bytes);
         let with_key = wrapping_sum(with_header, key_bytes);
-        SharedSegmentCacheBuilder {
-            inserted_entries: self.inserted_entries + 1,
-            logical_key_bytes: self.logical_key_bytes + key_bytes,
-            logical_value_bytes: self.logical_value_bytes + value_bytes,
-            record_header_bytes: self.record_header_bytes + header_bytes,
-            reused_entries: wrapping_sum(self.reused_entries, 1),
-            reused_record_bytes: wrapping_sum(with_key, value_bytes),
-            ..self
-        }
+        self.inserted_entries += 1;
+        self.logical_key_bytes += key_bytes;
+        self.logical_value_bytes += value_bytes;
+        self.record_header_bytes += header_bytes;
+        self.reused_entries = wrapping_sum(self.reused_entries, 1);
+        self.reused_record_bytes = wrapping_sum(with_key, value_bytes);
+        self
     }
 
     // The state with one copied record more.
-    fn copied_grown(self, size: usize, key_bytes: usize, value_bytes: usize) -> Self
+    fn copied_grown(mut self, size: usize, key_bytes: usize, value_bytes: usize) -> Self
         requires { ⌜ (self .«inserted_entries» < self .«expected_entries») × (self .«copied_bytes» + size ≤ 2 ^ 30) × («key_bytes» + «value_bytes» ≤ size) × (self .«logical_key_bytes» ≤ 2 ^ 50) × (self .«logical_value_bytes» ≤ 2 ^ 50) × (self .«record_header_bytes» ≤ 2 ^ 50) ⌝ }
         ensures { λ r. ⌜ r ≡ copiedGrown self size «key_bytes» «value_bytes» ⌝ }
     {
-        SharedSegmentCacheBuilder {
-            inserted_entries: self.inserted_entries + 1,
-            copied_bytes: self.copied_bytes + size,
-            logical_key_bytes: self.logical_key_bytes + key_bytes,
-            logical_value_bytes: self.logical_value_bytes + value_bytes,
-            record_header_bytes: self.record_header_bytes + (size - key_bytes - value_bytes),
-            ..self
-        }
+        self.inserted_entries += 1;
+        self.copied_bytes += size;
+        self.logical_key_bytes += key_bytes;
+        self.logical_value_bytes += value_bytes;
+        self.record_header_bytes += size - key_bytes - value_bytes;
+        self
     }
 }
 

@@ -11,6 +11,7 @@ use crate::questions::counts_fit;
 use crate::questions::deadline_refusal;
 use crate::questions::lifetime_fits;
 use crate::questions::open_areas_hold;
+use crate::questions::record_fits;
 use crate::questions::segment_areas_hold;
 use crate::rebuild::SegmentRecordLocation;
 use crate::rebuild::SharedSegmentCacheBuilder;
@@ -18,7 +19,6 @@ use hash_parts::duration::EncodedExpiry;
 use hash_parts::duration::Lifetime;
 use hash_parts::duration::encode_expiry_at_tick;
 use hash_parts::error::SegmentCacheBuildError;
-use hash_parts::setting::SegmentExpiry;
 use index::build::BuildSlot;
 use index::build::find_empty_build_slot;
 use index::segments::MAX_RECORD_SEGMENTS;
@@ -27,19 +27,15 @@ use index::view::record_at_location;
 use index::word::BUCKET_SLOTS;
 use records::record::RecordAnswer;
 use records::record::RecordRef;
-use records::record::SizeAnswer;
-use records::record::encoded_record_bytes;
 use records::record::same_bytes;
 use records::record::value_slice;
 ghost use mathlib.Core.Path.{_≡_};
 ghost use mathlib.Core.Bool.{true};
 ghost use Prim.Native.Nat.{_+_, _*_, _/_, _^_, _<_, _≤_};
-ghost use lib.Dec.{leb};
 ghost use lib.ListN.{length};
-ghost use Rattle.records.specs.Record.{recordSize};
 ghost use Rattle.records.specs.declared.record.RecordAnswer.the-variants as readings;
 ghost use Rattle.index.specs.View.{recordIn};
-ghost use Rattle.sets.specs.Build.{planned};
+ghost use Rattle.sets.specs.BuildPlans.{planned};
 ghost use Rattle.sets.specs.Kept.{isKept};
 ghost use Rattle.sets.specs.Questions.{arenaHolds, checkNumber, firstNo};
 ghost use Rattle.sets.specs.Rebuild.{areasHoldRebuild, areasHoldSource, askRebuildOpen, filledIn, holdsRecord, keptView, movedLocation, rebuildFits, segmentFor, segmentsInside};
@@ -144,7 +140,7 @@ impl SharedSegmentCacheBuilder {
             return SlotPlan::Refused(SegmentCacheBuildError::RecordMismatch);
         }
         match find_empty_build_slot(index, self.bucket_count, hash) {
-            BuildSlot::Duplicate => SlotPlan::Refused(SegmentCacheBuildError::CapacityOverflow),
+            BuildSlot::Duplicate => SlotPlan::Refused(SegmentCacheBuildError::DuplicateKey),
             BuildSlot::Full => SlotPlan::Refused(SegmentCacheBuildError::CapacityOverflow),
             BuildSlot::Empty(slot) => SlotPlan::Slot(slot),
         }
@@ -256,7 +252,7 @@ impl SharedSegmentCacheBuilder {
             return PushPlan::Refused(SegmentCacheBuildError::ArenaTooLarge);
         }
         match find_empty_build_slot(index, self.bucket_count, hash) {
-            BuildSlot::Duplicate => PushPlan::Refused(SegmentCacheBuildError::CapacityOverflow),
+            BuildSlot::Duplicate => PushPlan::Refused(SegmentCacheBuildError::DuplicateKey),
             BuildSlot::Full => PushPlan::Refused(SegmentCacheBuildError::CapacityOverflow),
             BuildSlot::Empty(slot) => PushPlan::Place(slot, expires_at),
         }
@@ -383,14 +379,4 @@ fn same_record(
     }
     let value_span = record.value;
     same_bytes(value_slice(arena, value_span), value)
-}
-
-// Whether a record of these lengths fits so many bytes; one whose size passes 64 bits fits nowhere.
-fn record_fits(expiry: SegmentExpiry, key_bytes: usize, value_bytes: usize, rest: usize) -> bool
-    ensures { λ r. ⌜ r ≡ leb (recordSize expiry «key_bytes» «value_bytes») rest ⌝ }
-{
-    let SizeAnswer::Bytes(size) = encoded_record_bytes(expiry, key_bytes, value_bytes) else {
-        return false;
-    };
-    size <= rest
 }

@@ -1,16 +1,18 @@
 -- `finish` meets its contract. Assumes nothing.
-use mathlib.Core.Path.{sym, ap, _∙_}
+use mathlib.Core.Path.{_≡_, sym, ap, _∙_}
 use lib.ListN.{length}
 use Rattle.index.specs.Segments.{splitResult}
 use Rattle.index.specs.declared.segments.SplitAnswer.{SplitAnswer}
-use Rattle.sets.specs.Build.{afterFinish}
 use Rattle.sets.specs.Questions.{checkNumber}
-use Rattle.sets.proofs.Decides.{decided-refused}
 use Rattle.sets.proofs.Asked.{finish-asked}
-use Rattle.sets.proofs.Splitting.{split-made, split-refused}
+use Rattle.sets.proofs.Splitting.{checked, finish-stopped, split-made, split-refused}
 use borrow.Author.Needs.{needs}
 use Rattle.sets.proofs.builder.SegmentCacheBuilder.finish.Statement.{statement}
 use Rattle.sets.proofs.builder.SegmentCacheBuilder.finish.Tie as tie
+
+-- the start, from where all questions but the last are answered yes
+abbrev from : tie.After-enum-told → tie.Start
+from c = c .before .before .before .before .before .before .before .before .before
 
 check-finish-requires : tie.Need-check-finish-requires
 check-finish-requires c κs = search needs
@@ -21,9 +23,16 @@ enum-known-refusal c = search needs
 same-length : tie.Need-same-length
 same-length c = search needs
 
+-- all questions but the last are answered yes
+yes : (c : tie.After-enum-told) → checked (from c .args .self) (from c .args .target) (from c .args .index .now) (from c .args .starts .now) (from c .args .lengths .now) (from c .args .scratch .now) (from c .args .arena .now) ≡ 0
+yes c = sym (c .before .before .check-finish .ensures) ∙ ap checkNumber (c .enum-told .given .1)
+
 returns : tie.Need-returns
-unfolding afterFinish
-returns c = rw (sym (c .before .before .before .check-finish .ensures) ∙ ap checkNumber (c .before .refusal .given .1)) (sym (decided-refused (c .before .refusal .given .0 .0) _ _))
+returns c =
+    let a = c .before .before .before .before .before .before .before .before .before .before .args in
+    let told = c .before .refusal .given in
+    finish-stopped (a .self) (a .target) (a .index .now) (a .starts .now) (a .lengths .now) (a .scratch .now) (a .arena .now) (told .0 .0)
+    (sym (ap checkNumber (told .1)) ∙ c .before .before .before .check-finish .ensures)
 
 enum-told : tie.Need-enum-told
 enum-told c = search needs
@@ -42,10 +51,9 @@ pack-index-requires c κs = search needs
 
 into-cache-requires : tie.Need-into-cache-requires
 into-cache-requires c κs =
-    let a = c .before .before .before .before .before .before .before .before .before .before .before .before .before .before .before .before .before .before .before .before .before .before .before .before .before .before .before .before .before .args in
-    let check-finish = c .before .before .before .before .before .before .before .before .before .before .before .before .before .before .before .before .before .before .before .before .before .before .check-finish in
-    let enum-told = c .before .before .before .before .before .before .before .before .before .before .before .before .before .before .before .before .before .before .before .before .enum-told in
-    finish-asked (a .self) (a .target) (a .index .now) (length (a .starts .now)) (length (a .lengths .now)) (length (a .scratch .now)) (length (a .arena .now)) (sym (check-finish .ensures) ∙ ap checkNumber (enum-told .given .1)) .areas .numbers .inside
+    let t = c .before .before .before .before .before .before .before .before .before .before .before .before .before .before .before .before .before .before .before .before in
+    let a = from t .args in
+    finish-asked (a .self) (a .target) (a .index .now) (length (a .starts .now)) (length (a .lengths .now)) (length (a .scratch .now)) (length (a .arena .now)) (yes t) .areas .numbers .inside
 
 same-length-2 : tie.Need-same-length-2
 same-length-2 c = search needs
@@ -57,15 +65,14 @@ same-length-4 : tie.Need-same-length-4
 same-length-4 c = search needs
 
 returns-2 : tie.Need-returns-2
-unfolding afterFinish
 returns-2 c =
-    let a = c .before .before .before .before .before .before .before .before .before .before .before .before .before .before .before .before .before .before .before .before .before .before .args in
+    let t = c .before .before .before .before .before .before .before .before .before .before .before .before .before in
+    let a = from t .args in
     let w = c .before .before .before .before .before .before .before .before .before .split-record-segments in
     let told = c .before .refusal2 .given in
-    let q = ap (λ (r : SplitAnswer). splitResult r (w .last .0) (w .last .1 .1 .1 .1 .0) (w .last .1 .1 .1 .1 .1 .0)) (sym (told .1)) ∙ w .ensures in
-    let check-finish = c .before .before .before .before .before .before .before .before .before .before .before .before .before .before .before .check-finish in
-    let enum-told = c .before .before .before .before .before .before .before .before .before .before .before .before .before .enum-told in
-    rw (sym (check-finish .ensures) ∙ ap checkNumber (enum-told .given .1)) (split-refused (a .self) (a .scratch .now) (w .last .0) (w .last .1 .1 .1 .1 .0) (w .last .1 .1 .1 .1 .1 .0) _ (told .0 .0) q)
+    let split-it = ap (λ (r : SplitAnswer). splitResult r (w .last .0) (w .last .1 .1 .1 .1 .0) (w .last .1 .1 .1 .1 .1 .0)) (sym (told .1)) ∙ w .ensures in
+    split-refused (a .self) (a .target) (a .index .now) (a .starts .now) (a .lengths .now) (a .scratch .now) (a .arena .now) (w .last .0) (w .last .1 .1 .1 .1 .0) (w .last .1 .1 .1 .1 .1 .0)
+    (told .0 .0) (yes t) split-it
 
 same-length-5 : tie.Need-same-length-5
 same-length-5 c = search needs
@@ -80,16 +87,15 @@ same-length-8 : tie.Need-same-length-8
 same-length-8 c = search needs
 
 returns-3 : tie.Need-returns-3
-unfolding afterFinish
 returns-3 c =
-    let a = c .before .before .before .before .before .before .before .before .before .before .before .before .before .before .before .before .before .before .before .before .before .before .before .before .before .before .before .before .before .before .args in
+    let t = c .before .before .before .before .before .before .before .before .before .before .before .before .before .before .before .before .before .before .before .before .before in
+    let a = from t .args in
     let w = c .before .before .before .before .before .before .before .before .before .before .before .before .before .before .before .before .before .split-record-segments in
     let told = c .before .before .before .before .before .before .before .before .before .segments .given in
-    let q = ap (λ (r : SplitAnswer). splitResult r (w .last .0) (w .last .1 .1 .1 .1 .0) (w .last .1 .1 .1 .1 .1 .0)) (sym (told .1)) ∙ w .ensures in
-    let p = c .before .before .before .before .before .pack-index in
-    let check-finish = c .before .before .before .before .before .before .before .before .before .before .before .before .before .before .before .before .before .before .before .before .before .before .before .check-finish in
-    let enum-told = c .before .before .before .before .before .before .before .before .before .before .before .before .before .before .before .before .before .before .before .before .before .enum-told in
-    rw (sym (check-finish .ensures) ∙ ap checkNumber (enum-told .given .1)) (split-made (a .self) (a .scratch .now) (w .last .0) (w .last .1 .1 .1 .1 .0) (w .last .1 .1 .1 .1 .1 .0) _ (told .0 .0) (c .into-cache .result) _ _ q (c .into-cache .ensures) (p .ensures .0) (p .ensures .1))
+    let split-it = ap (λ (r : SplitAnswer). splitResult r (w .last .0) (w .last .1 .1 .1 .1 .0) (w .last .1 .1 .1 .1 .1 .0)) (sym (told .1)) ∙ w .ensures in
+    let p = c .before .before .before .before .before .pack-index .ensures in
+    split-made (a .self) (a .target) (a .index .now) (a .starts .now) (a .lengths .now) (a .scratch .now) (a .arena .now) (w .last .0) (w .last .1 .1 .1 .1 .0) (w .last .1 .1 .1 .1 .1 .0)
+    (told .0 .0) (c .into-cache .result) _ _ (yes t) split-it (c .into-cache .ensures) (p .0) (p .1)
 
 pub finish-spec : {M : Type 1} → statement M
 finish-spec =

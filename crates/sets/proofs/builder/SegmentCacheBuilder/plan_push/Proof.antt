@@ -1,12 +1,12 @@
 -- `plan_push` meets its contract. Assumes nothing.
-use Rattle.sets.specs.Build.{planPush, askPush, planDeadline, deadlineFor}
+use Rattle.index.specs.Build.{slotOutcome}
+use Rattle.sets.specs.Build.{askPush}
+use Rattle.sets.specs.BuildPlans.{askRecord, planPush, planRecord}
 use lib.Seq.{length-take-le}
 use lib.ListN.{length}
-use mathlib.Core.Path.{sym, _∙_}
+use mathlib.Core.Path.{sym, ap, _∙_}
 use borrow.Author.Tests.{lt-ltb, le-ltb, le-leb, lt-leb}
 use Rattle.sets.proofs.Said.{said-no, said-yes}
-use Rattle.sets.specs.Build.{planPush, askPush, planDeadline}
-use Rattle.sets.proofs.Decides.{decided-own}
 use Rattle.sets.proofs.Counts.{builder-areas-asked}
 use borrow.Author.Needs.{needs}
 use Rattle.sets.proofs.builder.SegmentCacheBuilder.plan_push.Statement.{statement}
@@ -16,18 +16,18 @@ areas-hold-requires : tie.Need-areas-hold-requires
 areas-hold-requires c κs = search needs
 
 returns : tie.Need-returns
-unfolding planPush askPush planDeadline
+unfolding planPush askPush planRecord askRecord
 returns c = rw (said-no (c .before .areas-hold .ensures) (c .if1 .taken))
 
 returns-2 : tie.Need-returns-2
-unfolding planPush askPush planDeadline
+unfolding planPush askPush planRecord askRecord
 returns-2 c = rw (said-yes (c .before .before .before .areas-hold .ensures) (c .before .before .if1 .left), lt-leb _ _ (c .if2 .taken))
 
 lifetime-fits-requires : tie.Need-lifetime-fits-requires
 lifetime-fits-requires c κs = search needs
 
 returns-3 : tie.Need-returns-3
-unfolding planPush askPush planDeadline
+unfolding planPush askPush planRecord askRecord
 returns-3 c =
     let areas-hold = c .before .before .before .before .before .areas-hold in
     let if1 = c .before .before .before .before .if1 in
@@ -35,7 +35,7 @@ returns-3 c =
     rw (said-yes (areas-hold .ensures) (if1 .left), le-leb _ _ (if2 .left), said-no (c .before .lifetime-fits .ensures) (c .if3 .taken))
 
 returns-4 : tie.Need-returns-4
-unfolding planPush askPush planDeadline
+unfolding planPush askPush planRecord askRecord
 returns-4 c =
     let areas-hold = c .before .before .before .before .before .before .before .areas-hold in
     let if1 = c .before .before .before .before .before .before .if1 in
@@ -64,11 +64,14 @@ enum-told-2 c = search needs
 enum-known-slot : tie.Need-enum-known-slot
 enum-known-slot c = search needs
 
-plan-deadline-requires : tie.Need-plan-deadline-requires
-plan-deadline-requires c κs = search needs
+plan-record-requires : tie.Need-plan-record-requires
+plan-record-requires c κs =
+    let a = c .before .before .before .before .before .before .before .before .before .before .before .before .before .before .before .before .before .args in
+    let holds = said-yes (c .before .before .before .before .before .before .before .before .before .before .before .before .before .areas-hold .ensures) (c .before .before .before .before .before .before .before .before .before .before .before .before .if1 .left) in
+    builder-areas-asked (a .self) (length (a .index .now)) (length (a .arena .now)) holds .filled-held
 
 returns-5 : tie.Need-returns-5
-unfolding planPush askPush planDeadline
+unfolding planPush askPush planRecord askRecord
 returns-5 c =
     let areas-hold = c .before .before .before .before .before .before .before .before .before .before .before .before .areas-hold in
     let if1 = c .before .before .before .before .before .before .before .before .before .before .before .if1 in
@@ -77,10 +80,10 @@ returns-5 c =
     let if3 = c .before .before .before .before .before .before .before .if3 in
     let if4 = c .before .before .before .before .before .if4 in
     let find-build-slot = c .before .before .find-build-slot in
-    rw (said-yes (areas-hold .ensures) (if1 .left), le-leb _ _ (if2 .left), said-yes (lifetime-fits .ensures) (if3 .left), lt-ltb _ _ (if4 .left), sym (find-build-slot .ensures) ∙ c .enum-told .given .1)
+    rw (said-yes (areas-hold .ensures) (if1 .left), le-leb _ _ (if2 .left), said-yes (lifetime-fits .ensures) (if3 .left), lt-ltb _ _ (if4 .left), sym (find-build-slot .ensures) ∙ ap slotOutcome (c .enum-told .given .1))
 
 returns-6 : tie.Need-returns-6
-unfolding planPush askPush planDeadline
+unfolding planPush askPush planRecord askRecord
 returns-6 c =
     let areas-hold = c .before .before .before .before .before .before .before .before .before .before .before .before .areas-hold in
     let if1 = c .before .before .before .before .before .before .before .before .before .before .before .if1 in
@@ -89,10 +92,10 @@ returns-6 c =
     let if3 = c .before .before .before .before .before .before .before .if3 in
     let if4 = c .before .before .before .before .before .if4 in
     let find-build-slot = c .before .before .find-build-slot in
-    rw (said-yes (areas-hold .ensures) (if1 .left), le-leb _ _ (if2 .left), said-yes (lifetime-fits .ensures) (if3 .left), lt-ltb _ _ (if4 .left), sym (find-build-slot .ensures) ∙ c .enum-told2 .given .1)
+    rw (said-yes (areas-hold .ensures) (if1 .left), le-leb _ _ (if2 .left), said-yes (lifetime-fits .ensures) (if3 .left), lt-ltb _ _ (if4 .left), sym (find-build-slot .ensures) ∙ ap slotOutcome (c .enum-told2 .given .1))
 
 returns-7 : tie.Need-returns-7
-unfolding planPush askPush planDeadline
+unfolding planPush askPush planRecord askRecord
 returns-7 c =
     let a = c .before .before .before .before .before .before .before .before .before .before .before .before .before .before .before .before .before .before .args in
     let areas-hold = c .before .before .before .before .before .before .before .before .before .before .before .before .before .before .areas-hold in
@@ -103,8 +106,7 @@ returns-7 c =
     let if4 = c .before .before .before .before .before .before .before .if4 in
     let find-build-slot = c .before .before .before .before .find-build-slot in
     let slot = c .before .before .slot in
-    rw (said-yes (areas-hold .ensures) (if1 .left), le-leb _ _ (if2 .left), said-yes (lifetime-fits .ensures) (if3 .left), lt-ltb _ _ (if4 .left), sym (find-build-slot .ensures) ∙ slot .given .1)
-    (c .plan-deadline .ensures ∙ sym (decided-own (deadlineFor (a .self .config) (a .ttl) .number) _ _))
+    rw (said-yes (areas-hold .ensures) (if1 .left), le-leb _ _ (if2 .left), said-yes (lifetime-fits .ensures) (if3 .left), lt-ltb _ _ (if4 .left), sym (find-build-slot .ensures) ∙ ap slotOutcome (slot .given .1)) (c .plan-record .ensures)
 
 pub plan-push-spec : {M : Type 1} → statement M
 plan-push-spec =
@@ -121,7 +123,7 @@ plan-push-spec =
     enum-told
     enum-told-2
     enum-known-slot
-    plan-deadline-requires
+    plan-record-requires
     returns-5
     returns-6
     returns-7)

@@ -5,7 +5,8 @@ use native.Mathlib.Omega.{arith}
 use lib.ListN.{length}
 use Rattle.hash_parts.specs.Error.{errorNumber}
 use Rattle.index.specs.declared.build.BuildSlot.the-variants.{Empty}
-use Rattle.sets.specs.Build.{afterPush, planned}
+use Rattle.sets.specs.Build.{afterPush}
+use Rattle.sets.specs.BuildPlans.{planned}
 use Rattle.sets.proofs.Decides.{decided-refused, plan-placed, plan-refused}
 use Rattle.sets.proofs.Counts.{counts-records}
 use Rattle.sets.proofs.EmptySlots.{found-below}
@@ -28,12 +29,12 @@ push-at-requires c κs =
     let a = c .before .before .before .before .before .before .before .before .before .before .before .before .before .before .args in
     let plan = c .before .before .before .before .before .before .plan-push in
     let told = c .before .before .before .before .slot .given in
-    let p = plan-placed (a .self) (a .hash) (a .key .now) (a .ttl) (a .index .now) (length (a .filter .now)) (a .arena .now) (told .0 .0) (told .0 .1 .0) (sym (plan .ensures) ∙ ap planned (told .1)) in
-    let q = push-asked (a .self) (a .hash) (a .key .now) (a .ttl) (a .index .now) (length (a .filter .now)) (a .arena .now) (p .0) in
+    let p = plan-placed (a .self) (a .hash) (a .key .now) (length (a .value .now)) (a .ttl) (a .index .now) (length (a .filter .now)) (a .arena .now) (told .0 .0) (told .0 .1 .0) (sym (plan .ensures) ∙ ap planned (told .1)) in
+    let q = push-asked (a .self) (a .hash) (a .key .now) (length (a .value .now)) (a .ttl) (a .index .now) (length (a .filter .now)) (a .arena .now) (p .0) in
     let n = q .areas .numbers in
     let r = counts-records _ _ _ _ (n .counts) in
     let s = found-below _ (a .index .now) (a .self .«bucket_count») (a .hash) (told .0 .0) (c .before .before .before .before .before .before .before .before .before .before .before .before .before .before .fits .hash .fits) (q .place ∙ ap Empty (p .1)) in
-    (q .areas .filled-held, q .areas .arena-short, omega (arith, q .areas .index-holds, s), q .announced, omega (arith, n .key-bytes, n .announced, r), omega (arith, n .value-bytes, n .announced, r))
+    (q .fits, q .areas .arena-short, omega (arith, q .areas .index-holds, s), q .announced, omega (arith, n .key-bytes, n .announced, r), omega (arith, n .value-bytes, n .announced, r))
 
 same-length : tie.Need-same-length
 same-length c = search needs
@@ -47,7 +48,7 @@ returns c =
     let a = c .before .before .before .before .before .before .before .before .before .before .before .args in
     let plan = c .before .before .before .plan-push in
     let told = c .before .refusal .given in
-    let p = plan-refused (a .self) (a .hash) (a .key .now) (a .ttl) (a .index .now) (length (a .filter .now)) (a .arena .now) (errorNumber (told .0 .0)) (sym (plan .ensures) ∙ ap planned (told .1)) in
+    let p = plan-refused (a .self) (a .hash) (a .key .now) (length (a .value .now)) (a .ttl) (a .index .now) (length (a .filter .now)) (a .arena .now) (errorNumber (told .0 .0)) (sym (plan .ensures) ∙ ap planned (told .1)) in
     rw p (sym (decided-refused (told .0 .0) _ _))
 
 same-length-3 : tie.Need-same-length-3
@@ -65,7 +66,7 @@ returns-2 c =
     let a = c .before .before .before .before .before .before .before .before .before .before .before .before .before .before .before .before .before .before .before .before .before .args in
     let plan = c .before .before .before .before .before .before .before .before .before .before .before .before .before .plan-push in
     let told = c .before .before .before .before .before .before .before .before .before .before .before .slot .given in
-    let p = plan-placed (a .self) (a .hash) (a .key .now) (a .ttl) (a .index .now) (length (a .filter .now)) (a .arena .now) (told .0 .0) (told .0 .1 .0) (sym (plan .ensures) ∙ ap planned (told .1)) in
+    let p = plan-placed (a .self) (a .hash) (a .key .now) (length (a .value .now)) (a .ttl) (a .index .now) (length (a .filter .now)) (a .arena .now) (told .0 .0) (told .0 .1 .0) (sym (plan .ensures) ∙ ap planned (told .1)) in
     rw (p .0, p .1, p .2) (c .before .before .before .before .before .before .push-at .ensures)
 
 pub push-spec : {M : Type 1} → statement M

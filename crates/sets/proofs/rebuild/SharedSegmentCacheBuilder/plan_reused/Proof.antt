@@ -1,5 +1,6 @@
 -- `plan_reused` meets its contract. Assumes nothing.
-use mathlib.Core.Path.{sym, _∙_}
+use mathlib.Core.Path.{sym, ap, _∙_}
+use Rattle.index.specs.Build.{slotOutcome}
 use borrow.Author.Tests.{lt-ltb, le-ltb, le-leb, lt-leb}
 use Rattle.sets.proofs.Said.{said-no, said-yes}
 use native.Mathlib.Omega.{arith}
@@ -88,7 +89,7 @@ returns-6 c =
     let holds-record = c .before .before .before .before .holds-record in
     let if5 = c .before .before .before .if5 in
     let find-empty-build-slot = c .before .before .find-empty-build-slot in
-    rw (said-yes (areas-hold .ensures) (if1 .left), le-leb _ _ (if2 .left), lt-ltb _ _ (if3 .left), said-yes (is-kept .ensures) (if4 .left), said-yes (holds-record .ensures) (if5 .left), sym (find-empty-build-slot .ensures) ∙ c .enum-told .given .1)
+    rw (said-yes (areas-hold .ensures) (if1 .left), le-leb _ _ (if2 .left), lt-ltb _ _ (if3 .left), said-yes (is-kept .ensures) (if4 .left), said-yes (holds-record .ensures) (if5 .left), sym (find-empty-build-slot .ensures) ∙ ap slotOutcome (c .enum-told .given .1))
 
 returns-7 : tie.Need-returns-7
 unfolding planReused askReused
@@ -102,7 +103,7 @@ returns-7 c =
     let holds-record = c .before .before .before .before .holds-record in
     let if5 = c .before .before .before .if5 in
     let find-empty-build-slot = c .before .before .find-empty-build-slot in
-    rw (said-yes (areas-hold .ensures) (if1 .left), le-leb _ _ (if2 .left), lt-ltb _ _ (if3 .left), said-yes (is-kept .ensures) (if4 .left), said-yes (holds-record .ensures) (if5 .left), sym (find-empty-build-slot .ensures) ∙ c .enum-told2 .given .1)
+    rw (said-yes (areas-hold .ensures) (if1 .left), le-leb _ _ (if2 .left), lt-ltb _ _ (if3 .left), said-yes (is-kept .ensures) (if4 .left), said-yes (holds-record .ensures) (if5 .left), sym (find-empty-build-slot .ensures) ∙ ap slotOutcome (c .enum-told2 .given .1))
 
 returns-8 : tie.Need-returns-8
 unfolding planReused askReused
@@ -116,7 +117,7 @@ returns-8 c =
     let holds-record = c .before .before .before .before .before .holds-record in
     let if5 = c .before .before .before .before .if5 in
     let find-empty-build-slot = c .before .before .before .find-empty-build-slot in
-    rw (said-yes (areas-hold .ensures) (if1 .left), le-leb _ _ (if2 .left), lt-ltb _ _ (if3 .left), said-yes (is-kept .ensures) (if4 .left), said-yes (holds-record .ensures) (if5 .left), sym (find-empty-build-slot .ensures) ∙ c .before .slot .given .1)
+    rw (said-yes (areas-hold .ensures) (if1 .left), le-leb _ _ (if2 .left), lt-ltb _ _ (if3 .left), said-yes (is-kept .ensures) (if4 .left), said-yes (holds-record .ensures) (if5 .left), sym (find-empty-build-slot .ensures) ∙ ap slotOutcome (c .before .slot .given .1))
 
 pub plan-reused-spec : {M : Type 1} → statement M
 plan-reused-spec =

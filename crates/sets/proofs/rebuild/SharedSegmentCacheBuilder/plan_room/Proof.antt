@@ -1,5 +1,5 @@
 -- `plan_room` meets its contract. Assumes nothing.
-use mathlib.Core.Path.{sym, _∙_}
+use mathlib.Core.Path.{sym, ap, _∙_}
 use borrow.Author.Tests.{lt-ltb, le-ltb}
 use Rattle.sets.proofs.Said.{said-no, said-yes}
 use Prim.Native.Nat.{_≤_, _<_}
@@ -7,7 +7,8 @@ use native.Mathlib.Omega.{arith}
 use Rattle.sets.specs.Kept.{retained}
 use Rattle.sets.specs.Rebuild.{copiedSize, filledIn}
 use Rattle.sets.specs.RebuildPlans.{askRoom, planRoom}
-use Rattle.sets.proofs.RebuildSteps.{room}
+use Rattle.index.specs.Build.{slotOutcome}
+use Rattle.sets.proofs.Appends.{room}
 use borrow.Author.Needs.{needs}
 use Rattle.sets.proofs.rebuild.SharedSegmentCacheBuilder.plan_room.Statement.{statement}
 use Rattle.sets.proofs.rebuild.SharedSegmentCacheBuilder.plan_room.Tie as tie
@@ -61,7 +62,7 @@ returns-3 c =
     let if2 = c .before .before .before .if2 in
     let find-empty-build-slot = c .before .before .find-empty-build-slot in
     let n : retained (a .self .kept) < 256 = omega (arith, if2 .left, counted .ensures) in
-    rw (room (filledIn (a .self)) (copiedSize (a .self) (a .key-bytes) (a .value-bytes)) (a .arena-len) (c .before .before .before .before .before .before .before .before .before .before .before .pre) ∙ said-yes (record-fits .ensures) (if1 .left), lt-ltb _ _ n, sym (find-empty-build-slot .ensures) ∙ c .enum-told .given .1)
+    rw (room (filledIn (a .self)) (copiedSize (a .self) (a .key-bytes) (a .value-bytes)) (a .arena-len) (c .before .before .before .before .before .before .before .before .before .before .before .pre) ∙ said-yes (record-fits .ensures) (if1 .left), lt-ltb _ _ n, sym (find-empty-build-slot .ensures) ∙ ap slotOutcome (c .enum-told .given .1))
 
 returns-4 : tie.Need-returns-4
 unfolding planRoom askRoom
@@ -73,7 +74,7 @@ returns-4 c =
     let if2 = c .before .before .before .if2 in
     let find-empty-build-slot = c .before .before .find-empty-build-slot in
     let n : retained (a .self .kept) < 256 = omega (arith, if2 .left, counted .ensures) in
-    rw (room (filledIn (a .self)) (copiedSize (a .self) (a .key-bytes) (a .value-bytes)) (a .arena-len) (c .before .before .before .before .before .before .before .before .before .before .before .pre) ∙ said-yes (record-fits .ensures) (if1 .left), lt-ltb _ _ n, sym (find-empty-build-slot .ensures) ∙ c .enum-told2 .given .1)
+    rw (room (filledIn (a .self)) (copiedSize (a .self) (a .key-bytes) (a .value-bytes)) (a .arena-len) (c .before .before .before .before .before .before .before .before .before .before .before .pre) ∙ said-yes (record-fits .ensures) (if1 .left), lt-ltb _ _ n, sym (find-empty-build-slot .ensures) ∙ ap slotOutcome (c .enum-told2 .given .1))
 
 returns-5 : tie.Need-returns-5
 unfolding planRoom askRoom
@@ -85,7 +86,7 @@ returns-5 c =
     let if2 = c .before .before .before .before .if2 in
     let find-empty-build-slot = c .before .before .before .find-empty-build-slot in
     let n : retained (a .self .kept) < 256 = omega (arith, if2 .left, counted .ensures) in
-    rw (room (filledIn (a .self)) (copiedSize (a .self) (a .key-bytes) (a .value-bytes)) (a .arena-len) (c .before .before .before .before .before .before .before .before .before .before .before .before .pre) ∙ said-yes (record-fits .ensures) (if1 .left), lt-ltb _ _ n, sym (find-empty-build-slot .ensures) ∙ c .before .slot .given .1)
+    rw (room (filledIn (a .self)) (copiedSize (a .self) (a .key-bytes) (a .value-bytes)) (a .arena-len) (c .before .before .before .before .before .before .before .before .before .before .before .before .pre) ∙ said-yes (record-fits .ensures) (if1 .left), lt-ltb _ _ n, sym (find-empty-build-slot .ensures) ∙ ap slotOutcome (c .before .slot .given .1))
 
 pub plan-room-spec : {M : Type 1} → statement M
 plan-room-spec =

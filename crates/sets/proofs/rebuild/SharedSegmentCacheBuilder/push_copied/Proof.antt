@@ -4,7 +4,7 @@ use native.Mathlib.Omega.{arith}
 use lib.ListN.{length}
 use Rattle.hash_parts.specs.Error.{errorNumber}
 use Rattle.index.specs.declared.build.BuildSlot.the-variants.{Empty}
-use Rattle.sets.specs.Build.{planned}
+use Rattle.sets.specs.BuildPlans.{planned}
 use Rattle.sets.specs.Rebuild.{afterCopied}
 use Rattle.sets.proofs.Counts.{counts-records}
 use Rattle.sets.proofs.Decides.{decided-refused}

@@ -12,17 +12,17 @@ wrapping-sum-requires c κs = search needs
 wrapping-sum-requires-2 : tie.Need-wrapping-sum-requires-2
 wrapping-sum-requires-2 c κs = search needs
 
-add-t7 : tie.Need-add-t7
-add-t7 c = search needs
+add-self : tie.Need-add-self
+add-self c = search needs
 
-add-t8 : tie.Need-add-t8
-add-t8 c = search needs
+add-self-2 : tie.Need-add-self-2
+add-self-2 c = search needs
 
-add-t9 : tie.Need-add-t9
-add-t9 c = search needs
+add-self-3 : tie.Need-add-self-3
+add-self-3 c = search needs
 
-add-t10 : tie.Need-add-t10
-add-t10 c = search needs
+add-self-4 : tie.Need-add-self-4
+add-self-4 c = search needs
 
 wrapping-sum-requires-3 : tie.Need-wrapping-sum-requires-3
 wrapping-sum-requires-3 c κs = search needs
@@ -32,13 +32,11 @@ wrapping-sum-requires-4 c κs = search needs
 
 returns : tie.Need-returns
 returns c =
-    let a = c .before .before .before .before .before .before .before .before .before .before .args in
-    let wrapping-sum = c .before .before .before .before .before .before .before .before .before .wrapping-sum in
-    let wrapping-sum2 = c .before .before .before .before .before .before .before .before .wrapping-sum2 in
-    let wrapping-sum3 = c .before .before .before .wrapping-sum3 in
-    let wrapping-sum4 = c .before .before .wrapping-sum4 in
-    let e = wrapping-sum4 .ensures ∙ ap (λ (n : ℕ). (n + a .value-bytes) % 2 ^ 64) (wrapping-sum2 .ensures ∙ ap (λ (n : ℕ). (n + a .key-bytes) % 2 ^ 64) (wrapping-sum .ensures)) ∙ wraps (a .self .«reused_record_bytes») (a .header-bytes) (a .key-bytes) (a .value-bytes) in
-    rw (wrapping-sum3 .ensures, e)
+    let a = c .before .before .before .before .before .before .before .before .args in
+    let headed = c .before .before .before .before .before .before .before .wrapping-sum .ensures in
+    let keyed = c .before .before .before .before .before .before .wrapping-sum2 .ensures ∙ ap (λ (n : ℕ). (n + a .key-bytes) % 2 ^ 64) headed in
+    let summed = c .wrapping-sum4 .ensures ∙ ap (λ (n : ℕ). (n + a .value-bytes) % 2 ^ 64) keyed in
+    rw (c .before .wrapping-sum3 .ensures, summed ∙ wraps (a .self .«reused_record_bytes») (a .header-bytes) (a .key-bytes) (a .value-bytes))
 
 pub reused-grown-spec : {M : Type 1} → statement M
 reused-grown-spec =
@@ -46,10 +44,10 @@ reused-grown-spec =
     (tie.spec
     wrapping-sum-requires
     wrapping-sum-requires-2
-    add-t7
-    add-t8
-    add-t9
-    add-t10
+    add-self
+    add-self-2
+    add-self-3
+    add-self-4
     wrapping-sum-requires-3
     wrapping-sum-requires-4
     returns)

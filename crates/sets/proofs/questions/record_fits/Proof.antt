@@ -5,10 +5,10 @@ use Prim.Native.Nat.{ℕ, _<_}
 use native.Mathlib.Omega.{arith}
 use lib.Dec.{leb}
 use Rattle.records.specs.Record.{recordSize, sizeOutcome}
-use Rattle.sets.proofs.RebuildSteps.{size-large, size-told}
+use Rattle.sets.proofs.Appends.{size-large, size-told}
 use borrow.Author.Needs.{needs}
-use Rattle.sets.proofs.rebuild_questions.record_fits.Statement.{statement}
-use Rattle.sets.proofs.rebuild_questions.record_fits.Tie as tie
+use Rattle.sets.proofs.questions.record_fits.Statement.{statement}
+use Rattle.sets.proofs.questions.record_fits.Tie as tie
 
 encoded-record-bytes-requires : tie.Need-encoded-record-bytes-requires
 encoded-record-bytes-requires c κs = search needs

@@ -1,0 +1,79 @@
+-- `plan_record` meets its contract. Assumes nothing.
+use mathlib.Core.Path.{_≡_, sym, ap, _∙_}
+use mathlib.Core.Bool.{Bool}
+use Prim.Native.Nat.{_-_}
+use native.Mathlib.Omega.{arith}
+use lib.Dec.{leb}
+use borrow.Author.Needs.{needs}
+use borrow.Author.Tests.{ne-eqb}
+use Rattle.hash_parts.specs.Duration.{expiryOutcome}
+use Rattle.hash_parts.specs.Error.{errorNumber}
+use Rattle.hash_parts.proofs.Refusals.{refusal-pos}
+use Rattle.records.specs.Record.{recordSize}
+use Rattle.sets.specs.Build.{pushEnd}
+use Rattle.sets.specs.BuildPlans.{askRecord, planRecord}
+use Rattle.sets.specs.Questions.{deadlineRefusal}
+use Rattle.sets.proofs.Appends.{room}
+use Rattle.sets.proofs.Decides.{decided-refused}
+use Rattle.sets.proofs.Said.{said-no, said-yes}
+use Rattle.sets.proofs.builder.SegmentCacheBuilder.plan_record.Statement.{statement}
+use Rattle.sets.proofs.builder.SegmentCacheBuilder.plan_record.Tie as tie
+
+encode-expiry-at-tick-requires : tie.Need-encode-expiry-at-tick-requires
+encode-expiry-at-tick-requires c κs = search needs
+
+enum-known-deadline : tie.Need-enum-known-deadline
+enum-known-deadline c = search needs
+
+enum-told : tie.Need-enum-told
+enum-told c = search needs
+
+deadline-refusal-requires : tie.Need-deadline-refusal-requires
+deadline-refusal-requires c κs = search needs
+
+returns : tie.Need-returns
+unfolding planRecord askRecord
+returns c =
+    let told = c .before .enum-told in
+    let e = told .given .0 .0 in
+    let why = c .deadline-refusal .ensures ∙ ap deadlineRefusal (told .given .1) in
+    let none = sym (c .before .before .before .encode-expiry-at-tick .ensures) ∙ ap expiryOutcome (told .given .1) in
+    rw (why, none, ne-eqb (errorNumber e) 0 (λ (z : errorNumber e ≡ 0). omega (arith, refusal-pos e))) (sym (decided-refused e _ _))
+
+sub-record-fits : tie.Need-sub-record-fits
+sub-record-fits c = search needs
+
+record-fits-requires : tie.Need-record-fits-requires
+record-fits-requires c κs = search needs
+
+-- the room, as the plan asks for it and as the definition does
+asks : (s : tie.Start) → let a = s .args in
+    leb (pushEnd (a .self) (a .key-bytes) (a .value-bytes)) (a .arena-len)
+    ≡ leb (recordSize (a .self .config .expiry) (a .key-bytes) (a .value-bytes)) (a .arena-len - a .self .filled)
+asks s = let a = s .args in room (a .self .filled) (recordSize (a .self .config .expiry) (a .key-bytes) (a .value-bytes)) (a .arena-len) (s .pre)
+
+returns-2 : tie.Need-returns-2
+unfolding planRecord askRecord
+returns-2 c =
+    let at = sym (c .before .before .before .before .before .before .encode-expiry-at-tick .ensures) ∙ ap expiryOutcome (c .before .before .before .before .deadline .given .1) in
+    rw (at, asks (c .before .before .before .before .before .before .before .before) ∙ said-no (c .before .record-fits .ensures) (c .if1 .taken))
+
+returns-3 : tie.Need-returns-3
+unfolding planRecord askRecord
+returns-3 c =
+    let at = sym (c .before .before .before .before .before .before .encode-expiry-at-tick .ensures) ∙ ap expiryOutcome (c .before .before .before .before .deadline .given .1) in
+    rw (at, asks (c .before .before .before .before .before .before .before .before) ∙ said-yes (c .before .record-fits .ensures) (c .if1 .left))
+
+pub plan-record-spec : {M : Type 1} → statement M
+plan-record-spec =
+    tie.close
+    (tie.spec
+    encode-expiry-at-tick-requires
+    enum-known-deadline
+    enum-told
+    deadline-refusal-requires
+    returns
+    sub-record-fits
+    record-fits-requires
+    returns-2
+    returns-3)
