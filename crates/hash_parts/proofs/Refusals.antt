@@ -1,6 +1,9 @@
--- The numbers of the refusals. Assumes nothing.
-use Prim.Native.Nat.{_<_}
+-- The numbers of the refusals: none is that of an acceptance, and each is that of one refusal. Assumes nothing.
+use mathlib.Core.Path.{_≡_, refl, sym, ap, _∙_}
+use Prim.Native.Nat.{ℕ, _<_}
 use native.Mathlib.Omega.{arith}
+use lib.Dec.{eqb}
+use Rattle.hash_parts.specs.Choice.{pick}
 use Rattle.hash_parts.specs.Error.{errorNumber}
 use Rattle.hash_parts.specs.declared.error.SegmentCacheBuildError.{SegmentCacheBuildError}
 use Rattle.hash_parts.specs.declared.error.SegmentCacheBuildError.the-variants.{InvalidBucketOccupancy, ZeroExpiryTick, CapacityOverflow, DuplicateKey, ExpiryDisabled, ExpiryOutOfRange, ArenaTooLarge, InvalidSegmentTarget, InvalidNanoseconds, AreaTooShort, InvalidState, RecordMismatch}
@@ -19,3 +22,37 @@ refusal-pos InvalidNanoseconds = omega arith
 refusal-pos AreaTooShort = omega arith
 refusal-pos InvalidState = omega arith
 refusal-pos RecordMismatch = omega arith
+
+-- the refusal of a number; past the last, the last
+abbrev refusalOf : ℕ → SegmentCacheBuildError
+refusalOf n =
+    pick (eqb n 1) InvalidBucketOccupancy
+    (pick (eqb n 2) ZeroExpiryTick
+    (pick (eqb n 3) CapacityOverflow
+    (pick (eqb n 4) DuplicateKey
+    (pick (eqb n 5) ExpiryDisabled
+    (pick (eqb n 6) ExpiryOutOfRange
+    (pick (eqb n 7) ArenaTooLarge
+    (pick (eqb n 8) InvalidSegmentTarget
+    (pick (eqb n 9) InvalidNanoseconds
+    (pick (eqb n 10) AreaTooShort
+    (pick (eqb n 11) InvalidState
+    RecordMismatch))))))))))
+
+number-back : (e : SegmentCacheBuildError) → refusalOf (errorNumber e) ≡ e
+number-back InvalidBucketOccupancy = refl
+number-back ZeroExpiryTick = refl
+number-back CapacityOverflow = refl
+number-back DuplicateKey = refl
+number-back ExpiryDisabled = refl
+number-back ExpiryOutOfRange = refl
+number-back ArenaTooLarge = refl
+number-back InvalidSegmentTarget = refl
+number-back InvalidNanoseconds = refl
+number-back AreaTooShort = refl
+number-back InvalidState = refl
+number-back RecordMismatch = refl
+
+-- the numbers of two refusals differ
+pub one-refusal : (d e : SegmentCacheBuildError) → errorNumber d ≡ errorNumber e → d ≡ e
+one-refusal d e p = sym (number-back d) ∙ ap refusalOf p ∙ number-back e
