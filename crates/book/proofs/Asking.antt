@@ -16,7 +16,7 @@ use Rattle.records.specs.Area.{part, spanned}
 use Rattle.records.specs.Record.{Stored, contents}
 use Rattle.records.specs.declared.record.RecordAnswer.the-variants.{Read}
 use Rattle.index.specs.Find.{findIn}
-use Rattle.index.specs.View.{storedIn}
+use Rattle.index.proofs.Contents.{storedIn}
 use Rattle.index.specs.declared.find.FindAnswer.{FindAnswer}
 use Rattle.index.specs.declared.find.FindAnswer.the-variants as find
 use Rattle.index.specs.declared.find.FoundRecord.{FoundRecord}

@@ -8,7 +8,7 @@ use native.Mathlib.Omega.{arith}
 use lib.ListN.{length, take}
 use Rattle.hash_parts.specs.declared.setting.SegmentExpiry.{SegmentExpiry}
 use Rattle.index.specs.Segments as cuts
-use Rattle.index.specs.View.{storedIn}
+use Rattle.index.proofs.Contents.{storedIn}
 use Rattle.index.proofs.Filling.{filled-back}
 use Rattle.index.proofs.Kept.{one-start, split-indexed}
 use Rattle.sets.specs.Build.{setOf}

@@ -14,7 +14,8 @@ use borrow.Author.Tests.{eq-eqb, eqb-true, eqb-false, ne-eqb, lt-ltb, le-ltb}
 use Rattle.hash_parts.specs.Choice.{pick}
 use Rattle.records.specs.Area.{part}
 use Rattle.records.specs.Record.{storedAt}
-use Rattle.index.specs.View.{isSegment, storedIn}
+use Rattle.index.specs.View.{isSegment}
+use Rattle.index.proofs.Contents.{storedIn}
 use Rattle.index.specs.declared.view.SegmentView.{SegmentView}
 use Rattle.index.proofs.Entries.{reheld}
 use Rattle.index.proofs.Table.{true≢false}

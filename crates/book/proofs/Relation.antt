@@ -8,8 +8,7 @@ use lib.ListN.{length, take, getD}
 use Rattle.hash_parts.specs.declared.setting.SegmentExpiry.{SegmentExpiry}
 use Rattle.records.specs.Area.{part}
 use Rattle.records.specs.Record.{storedAt}
-use Rattle.index.specs.Slot.{wordSlots}
-use Rattle.index.specs.View.{storedIn}
+use Rattle.index.proofs.Contents.{wordSlots, storedIn}
 use Rattle.index.proofs.Entries.{Indexed}
 use Rattle.index.proofs.Flat.{indexSlots}
 use Rattle.sets.specs.Kept.{isKept, newNumber, retained}

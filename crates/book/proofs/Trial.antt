@@ -192,7 +192,7 @@ trials : (run false ≡ expected)
 unfolding run by-book accepted ofFirst rebuildRun rebuildBook rebuildAccepted rebuildStarts example exampleAnswers
     duration.deadlineAt duration.encodedExpiry duration.livesAt
     hash.firstBucket hash.rotated hash.mixedHash
-    bytes.bytesOf
+    bytes.bytesOf bytes.numberOf
     area.spanned area.sameBytes
     stored.recordBytes stored.recordSize stored.recordOf stored.recordAt stored.storedAt
     uleb.ulebIn uleb.uleb128 uleb.decode
@@ -200,7 +200,7 @@ unfolding run by-book accepted ofFirst rebuildRun rebuildBook rebuildAccepted re
     slots.bucketsFor slots.cleared slots.buildRecord slots.holdsKey slots.looks slots.searched slots.searchedAll slots.slotFor
     filters.bitPast filters.filterWord filters.filterMask filters.filterMarked filters.displaced filters.displacedMarked filters.filterHas
     find.looksFrom find.scan find.sweep find.hasEmpty find.found find.findIn
-    packing.numberOf packing.wordsOf packing.wordBytes packing.concatMap packing.controlWord packing.referenceWords packing.packed packing.packedIndex packing.packedScratch packing.packedSlot packing.packedSlotsOf packing.packedBucket packing.withByte
+    packing.wordsOf packing.wordBytes packing.concatMap packing.controlWord packing.referenceWords packing.packed packing.packedIndex packing.packedScratch packing.packedSlot packing.packedSlotsOf packing.packedBucket packing.withByte
     cuts.nextStart cuts.startAfter cuts.startsAfter cuts.startsOf cuts.lengthsOf cuts.segmentOf cuts.splitWord cuts.padded cuts.split cuts.allInside cuts.locationsInside
     slot.wordSlot
     view.inSegment view.recordIn

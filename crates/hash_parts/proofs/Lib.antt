@@ -1,4 +1,6 @@
+pub mod Bytes
 pub mod Deadlines
+pub mod LowestSet
 pub mod Products
 pub mod Refusals
 pub mod Table

@@ -1,59 +1,78 @@
--- The lowest mark of a word of marks: its slot by the trailing zeros, and the word without it. Assumes nothing.
-use mathlib.Core.Path.{_≡_, refl, ap, ap₂, _∙_}
+-- Marks are visited from the lowest up: the lowest set bit of a word of marks is its first mark, and the word without it holds the others.
+-- Assumes nothing.
+use mathlib.Core.Path.{_≡_, refl, sym, ap, _∙_}
 use mathlib.Core.Bool.{Bool, true, false}
-use mathlib.Core.List.{List, [], _∷_}
-use Prim.Native.Nat.{ℕ, zero, suc, _+_, _*_, _-_, _/_, _%_, _<_}
-use native.Mathlib.Nat.{mul-suc, mul-mod-left, mul-div-cancel, zero-lt-suc, add-zero}
-use native.Mathlib.Numerals.{add-eight}
+use mathlib.Core.List.{List, [], _∷_, map}
+use Prim.Native.Nat.{ℕ, suc, _+_, _*_, _/_, _%_, _<_}
+use native.Mathlib.Nat.{add-zero}
 use native.Mathlib.Omega.{arith}
-use lib.Dec.{lit<}
+use lib.Count.{trailingZeros}
 use lib.ListN.{length}
-use lib.Bits.{bitAnd, and-block, and-self}
-use lib.Count.{trailingZeros, under}
-use Rattle.hash_parts.specs.ZeroBytes.{marks, firstMark, restMarks, visited, zeroBytes, bytesOf}
+use Rattle.hash_parts.specs.ZeroBytes.{bytesOf, numberOf, marks, isSet, firstMark, lowestSet, lowestCleared, withoutLowest}
 
-even : (k n : ℕ) → trailingZeros (suc k) (n * 2) ≡ suc (trailingZeros k n)
-unfolding trailingZeros
-even k n = ap₂ (λ (x y : ℕ). under x (trailingZeros k y)) (mul-mod-left n 2) (mul-div-cancel n (zero-lt-suc 1))
+-- the marks without the first
+unfoldable pub restMarks : List Bool → List Bool
+restMarks [] = []
+restMarks (true ∷ bs) = false ∷ bs
+restMarks (false ∷ bs) = false ∷ restMarks bs
 
-odd : (k n : ℕ) → trailingZeros (suc k) (n * 2 + 1) ≡ zero
-unfolding trailingZeros
-odd k n =
-    let e : (n * 2 + 1) % 2 ≡ 1 = omega arith in
-    ap (λ (x : ℕ). under x (trailingZeros k ((n * 2 + 1) / 2))) e
+-- The marked places, counted from i, one after the other: f gives a place's answer, where the answer of the places after it is known, and c is the
+-- answer after the last.
+module _ {A : Type 0} where
+  unfoldable pub visited : (ℕ → A → A) → List Bool → ℕ → A → A
+  visited f [] i c = c
+  visited f (true ∷ bs) i c = f i (visited f bs (suc i) c)
+  visited f (false ∷ bs) i c = visited f bs (suc i) c
 
-eight : (k n : ℕ) → trailingZeros (k + 8) (n * 256) ≡ trailingZeros k n + 8
-eight k n =
-    let e : n * 256 ≡ n * 2 * 2 * 2 * 2 * 2 * 2 * 2 * 2 = omega arith in
-    rw (add-eight k, e, even, even, even, even, even, even, even, even, add-eight)
+-- ---- the bytes of a word of marks
 
-seven : (k n : ℕ) → trailingZeros (k + 8) (n * 256 + 128) ≡ 7
-seven k n =
-    let e : n * 256 + 128 ≡ (n * 2 + 1) * 2 * 2 * 2 * 2 * 2 * 2 * 2 = omega arith in
-    rw (add-eight k, e, even, even, even, even, even, even, even, odd)
+lowest-byte : (m b : ℕ) → b < 256 → (m * 256 + b) % 256 ≡ b
+lowest-byte m b h = omega arith
 
-pub first-right : (bs : List Bool) → 0 < marks bs → trailingZeros (8 * length bs) (marks bs) / 8 ≡ firstMark bs
-unfolding marks firstMark
-first-right [] h = omega arith
-first-right (true ∷ bs) h = rw (mul-suc 8 (length bs), seven)
-first-right (false ∷ bs) h =
-    let g : marks bs * 256 + 0 ≡ marks bs * 256 = omega arith in
-    let e : (trailingZeros (8 * length bs) (marks bs) + 8) / 8 ≡ suc (trailingZeros (8 * length bs) (marks bs) / 8) = omega arith in
-    rw (mul-suc 8 (length bs), g, eight, e) (ap suc (first-right bs (omega arith)))
+other-bytes : (m b : ℕ) → b < 256 → (m * 256 + b) / 256 ≡ m
+other-bytes m b h = omega arith
 
-pub rest-right : (bs : List Bool) → 0 < marks bs → bitAnd (marks bs) (marks bs - 1) ≡ marks (restMarks bs)
-unfolding marks restMarks
-rest-right [] h = omega arith
-rest-right (true ∷ bs) h =
-    let e : marks bs * 256 + 128 - 1 ≡ marks bs * 256 + 127 = omega arith in
-    ap (bitAnd (marks bs * 256 + 128)) e
-    ∙ and-block 8 (marks bs) (marks bs) 128 127 (lit< tt) (lit< tt)
-    ∙ ap (λ (x : ℕ). x * 256 + 0) (and-self (marks bs))
-rest-right (false ∷ bs) h =
-    let e : marks bs * 256 + 0 - 1 ≡ (marks bs - 1) * 256 + 255 = omega arith in
-    ap (bitAnd (marks bs * 256 + 0)) e
-    ∙ and-block 8 (marks bs) (marks bs - 1) 0 255 (lit< tt) (lit< tt)
-    ∙ ap (λ (x : ℕ). x * 256 + 0) (rest-right bs (omega arith))
+set-marks : (bs : List Bool) → map isSet (bytesOf (length bs) (marks bs)) ≡ bs
+unfolding bytesOf marks
+set-marks [] = refl
+set-marks (true ∷ bs) = rw (lowest-byte (marks bs) 128 (omega arith), other-bytes (marks bs) 128 (omega arith), set-marks bs)
+set-marks (false ∷ bs) = rw (lowest-byte (marks bs) 0 (omega arith), other-bytes (marks bs) 0 (omega arith), set-marks bs)
+
+number-marks : (bs : List Bool) → numberOf (bytesOf (length bs) (marks bs)) ≡ marks bs
+unfolding bytesOf numberOf marks
+number-marks [] = refl
+number-marks (true ∷ bs) = rw (lowest-byte (marks bs) 128 (omega arith), other-bytes (marks bs) 128 (omega arith), number-marks bs) (omega arith)
+number-marks (false ∷ bs) = rw (lowest-byte (marks bs) 0 (omega arith), other-bytes (marks bs) 0 (omega arith), number-marks bs) (omega arith)
+
+one-cleared : (l : List ℕ) → lowestCleared (128 ∷ l) ≡ 0 ∷ l
+unfolding lowestCleared trailingZeros
+one-cleared l = refl
+
+no-bytes-cleared : lowestCleared [] ≡ []
+unfolding lowestCleared
+no-bytes-cleared = refl
+
+none-cleared : (l : List ℕ) → lowestCleared (0 ∷ l) ≡ 0 ∷ lowestCleared l
+unfolding lowestCleared
+none-cleared l = refl
+
+cleared-marks : (bs : List Bool) → numberOf (lowestCleared (bytesOf (length bs) (marks bs))) ≡ marks (restMarks bs)
+unfolding bytesOf numberOf marks restMarks
+cleared-marks [] = ap numberOf no-bytes-cleared
+cleared-marks (true ∷ bs) =
+    rw (lowest-byte (marks bs) 128 (omega arith), other-bytes (marks bs) 128 (omega arith), one-cleared (bytesOf (length bs) (marks bs)), number-marks bs) (omega arith)
+cleared-marks (false ∷ bs) =
+    rw (lowest-byte (marks bs) 0 (omega arith), other-bytes (marks bs) 0 (omega arith), none-cleared (bytesOf (length bs) (marks bs)), cleared-marks bs) (omega arith)
+
+-- ---- the first mark, and the others
+
+pub first-right : (bs : List Bool) → length bs ≡ 8 → lowestSet (marks bs) ≡ firstMark bs
+unfolding lowestSet
+first-right bs e = ap (λ (k : ℕ). firstMark (map isSet (bytesOf k (marks bs)))) (sym e) ∙ ap firstMark (set-marks bs)
+
+pub rest-right : (bs : List Bool) → length bs ≡ 8 → withoutLowest (marks bs) ≡ marks (restMarks bs)
+unfolding withoutLowest
+rest-right bs e = ap (λ (k : ℕ). numberOf (lowestCleared (bytesOf k (marks bs)))) (sym e) ∙ cleared-marks bs
 
 pub first-lt : (bs : List Bool) → 0 < marks bs → firstMark bs < length bs
 unfolding marks firstMark
@@ -66,6 +85,12 @@ unfolding restMarks
 rest-length [] = refl
 rest-length (true ∷ bs) = refl
 rest-length (false ∷ bs) = ap suc (rest-length bs)
+
+pub rest-less : (bs : List Bool) → 0 < marks bs → marks (restMarks bs) < marks bs
+unfolding marks restMarks
+rest-less [] h = absurd (omega arith)
+rest-less (true ∷ bs) h = omega arith
+rest-less (false ∷ bs) h = omega (arith, rest-less bs (omega arith))
 
 -- ---- a visit from the lowest mark up
 module _ {A : Type 0} where
@@ -82,7 +107,3 @@ module _ {A : Type 0} where
   visit-none f [] i c h = refl
   visit-none f (true ∷ bs) i c h = absurd (omega arith)
   visit-none f (false ∷ bs) i c h = visit-none f bs (suc i) c (omega arith)
-
-pub eight-bytes : (w : ℕ) → length (zeroBytes w) ≡ 8
-unfolding zeroBytes bytesOf
-eight-bytes w = refl

@@ -1,9 +1,7 @@
 // Marks on the bytes of a word: 0x80 in each byte that is marked, 0 in the others.
 ghost use mathlib.Core.Path.{_≡_};
-ghost use Prim.Native.Nat.{_-_, _/_, _≤_};
-ghost use lib.Bits.{bitAnd};
-ghost use lib.Count.{trailingZeros};
-ghost use Rattle.hash_parts.specs.ZeroBytes.{zeroMarks};
+ghost use Prim.Native.Nat.{_≤_};
+ghost use Rattle.hash_parts.specs.ZeroBytes.{lowestSet, withoutLowest, zeroMarks};
 
 const BYTE_HIGH_BITS: u64 = 0x8080_8080_8080_8080;
 
@@ -17,19 +15,19 @@ pub fn zero_byte_high_bits(value: u64) -> u64
     !(sums | value | BYTE_LOW_SEVEN_BITS) & BYTE_HIGH_BITS
 }
 
-// The byte of the lowest mark; 8 where there is none.
-pub fn lowest_marked_byte(marks: u64) -> usize
-    ensures { λ r. ⌜ (r ≡ trailingZeros 64 marks / 8) × (r ≤ 8) ⌝ }
+// The byte of the lowest set bit of a word, so of marks the lowest marked byte; 8 where there is none.
+pub fn lowest_marked_byte(word: u64) -> usize
+    ensures { λ r. ⌜ (r ≡ lowestSet word) × (r ≤ 8) ⌝ }
 {
-    (u64::trailing_zeros(marks) / 8) as usize
+    (u64::trailing_zeros(word) / 8) as usize
 }
 
-// The marks without the lowest.
-pub fn without_lowest_mark(marks: u64) -> u64
-    ensures { λ r. ⌜ r ≡ bitAnd marks (marks - 1) ⌝ }
+// A word without its lowest set bit, so marks without the lowest.
+pub fn without_lowest_mark(word: u64) -> u64
+    ensures { λ r. ⌜ r ≡ withoutLowest word ⌝ }
 {
-    if marks == 0 {
+    if word == 0 {
         return 0;
     }
-    marks & (marks - 1)
+    word & (word - 1)
 }

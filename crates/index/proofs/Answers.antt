@@ -13,12 +13,12 @@ use Rattle.hash_parts.specs.Hash.{tagOf, firstBucket}
 use Rattle.hash_parts.specs.declared.setting.SegmentExpiry.{SegmentExpiry}
 use Rattle.records.specs.Record.{Stored}
 use Rattle.records.proofs.Area.{same-true}
-use Rattle.index.specs.Build.{Look, buildRecord, hasKey, holdsKey, looks, searched, slotFor, slotOutcome, never}
-use Rattle.index.specs.Slot.{wordSlots}
+use Rattle.index.specs.Build.{Look, buildRecord, hasKey, holdsKey, looks, searched, slotFor, never}
 use Rattle.index.specs.Walk.{rot}
 use Rattle.index.specs.Word.{wordTag, wordStored}
 use Rattle.index.specs.declared.build.BuildSlot.{BuildSlot}
 use Rattle.index.specs.declared.build.BuildSlot.the-variants.{Empty, Duplicate, Full}
+use Rattle.index.proofs.Contents.{wordSlots}
 use Rattle.index.proofs.Entries.{keyed, Indexed, words-long}
 use Rattle.index.proofs.Searches.{Says, never-full, duplicate-taken, empty-hits, duplicate-hits, walk-says, slot-search}
 use Rattle.index.proofs.Table.{not-true, true≢false, length-rot, only, only-has, walk-gap, hits, past}

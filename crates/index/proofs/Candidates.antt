@@ -13,13 +13,15 @@ use lib.Bits.{bitAnd, bitXor, and-comm, and-block, and-mask, and-le-r, xor-block
 use borrow.Author.Tests.{eqb-true, eqb-false, eq-eqb, ne-eqb, lt-ltb, le-ltb}
 use native.Mathlib.Decide.{ℕ-discrete, decLt}
 use Rattle.hash_parts.specs.Choice.{pick}
-use Rattle.hash_parts.specs.ZeroBytes.{bytesOf, isZero, marks, zeroBytes, zeroMarks, visited}
+use Rattle.hash_parts.specs.ZeroBytes.{bytesOf, isZero, marks, zeroBytes, zeroMarks, numberOf}
+use Rattle.hash_parts.proofs.Visit.{visited}
 use Rattle.hash_parts.proofs.ZeroBytes.{lo}
 use Rattle.records.specs.Area.{sameBytes, spanned}
 use Rattle.records.specs.declared.record.RecordAnswer.{RecordAnswer}
 use Rattle.records.specs.declared.record.RecordAnswer.the-variants.{Read, Unreadable}
-use Rattle.index.specs.Find.{Look, empty, other, broken, match, seen, look, looksFrom, stepOf, scan, sweep, hasEmpty, hasTag, tagged, passedOver, fromOn}
-use Rattle.index.specs.Packed.{packedSlot, packedSlotsOf, numberOf}
+use Rattle.index.specs.Find.{Look, empty, other, broken, match, seen, look, looksFrom, scan, sweep, hasEmpty}
+use Rattle.index.specs.FindSteps.{stepOf, hasTag, tagged, passedOver, fromOn}
+use Rattle.index.specs.Packed.{packedSlot, packedSlotsOf}
 use Rattle.index.specs.Slot.{wordSlot}
 use Rattle.index.specs.Word.{wordTag}
 use Rattle.index.specs.declared.find.FindStep.{FindStep}

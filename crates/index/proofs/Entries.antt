@@ -12,10 +12,11 @@ use Rattle.hash_parts.specs.Hash.{tagOf, firstBucket}
 use Rattle.records.specs.Area.{sameBytes}
 use Rattle.records.specs.Record.{Stored}
 use Rattle.index.specs.Filter.{filterHas}
-use Rattle.index.specs.Slot.{wordSlot, keptTag, wordSlots}
+use Rattle.index.specs.Slot.{wordSlot, keptTag}
 use Rattle.index.specs.Word.{wordOf}
 use Rattle.index.specs.declared.slot.IndexSlot.{IndexSlot}
 use Rattle.index.specs.declared.slot.IndexSlot.the-variants.{Empty, Used}
+use Rattle.index.proofs.Contents.{wordSlots}
 use Rattle.index.proofs.Pairs.{pairs-replicate, pairs-length}
 use Rattle.index.proofs.Placed.{Placed, placed-none}
 use Rattle.index.proofs.Words.{tag-back, location-back, word-taken}

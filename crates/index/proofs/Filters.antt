@@ -115,10 +115,6 @@ module _ (f : List ℕ) (n h : ℕ) where
           ap length (marked-is (λ (e : n ≡ 0). omega arith) q) ∙ length-set f (filterWord n h) (bitOr (getD f (filterWord n h) 0) (filterMask h))
       go (no p) (no q) = ap length (marked-short (omega arith))
 
--- without words every hash may be there
-pub has-any : (f : List ℕ) (h : ℕ) → filterHas f 0 h ≡ true
-has-any f h = has-none f 0 h refl
-
 -- ---- no false negatives
 
 -- a marked hash may be there

@@ -14,7 +14,8 @@ use Rattle.records.specs.declared.record.RecordAnswer.{RecordAnswer}
 use Rattle.records.specs.declared.record.RecordAnswer.the-variants.{Read, Unreadable}
 use Rattle.records.specs.declared.record.RecordRef.{RecordRef}
 use Rattle.index.specs.Build.{nextBucket}
-use Rattle.index.specs.Find.{Look, empty, other, broken, match, look, looksFrom, stepOf, scan, inBucket, followed, endsAt, found, findIn, slotsOf}
+use Rattle.index.specs.Find.{Look, empty, other, broken, match, look, looksFrom, scan, inBucket, followed, endsAt, found, findIn, slotsOf}
+use Rattle.index.specs.FindSteps.{stepOf}
 use Rattle.index.specs.Filter.{filterHas}
 use Rattle.index.specs.Slot.{keptTag}
 use Rattle.index.specs.View.{recordIn}

@@ -9,10 +9,11 @@ use lib.ListN.{length, take, drop, length-drop}
 use lib.Seq.{take-at, take-take, drop-at, drop-drop, length-take-le}
 use Rattle.hash_parts.specs.Choice.{pick}
 use Rattle.index.specs.Find.{slotsOf}
-use Rattle.index.specs.Packed.{packedBucket, packedBuckets}
-use Rattle.index.specs.Slot.{wordSlot, wordSlots}
+use Rattle.index.specs.Packed.{packedBucket}
+use Rattle.index.specs.Slot.{wordSlot}
 use Rattle.index.specs.Walk.{bucketsOf, rot, upFrom}
 use Rattle.index.specs.declared.slot.IndexSlot.{IndexSlot}
+use Rattle.index.proofs.Contents.{packedBuckets, wordSlots}
 use Rattle.index.proofs.Around.{around, walk-around}
 use Rattle.index.proofs.PackedReads.{bucket-length}
 use Rattle.index.proofs.Views.{part-front}

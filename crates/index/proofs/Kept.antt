@@ -16,11 +16,12 @@ use Rattle.records.specs.Record.{Stored}
 use Rattle.index.specs.Build.{cleared}
 use Rattle.index.specs.Packed.{packed, withByte, markedByte, unmarkedByte}
 use Rattle.index.specs.Segments.{noStart, startAfter, startsAfter, startsOf, segmentOf, segmented, splitWord, splitWords}
-use Rattle.index.specs.Slot.{wordSlot, packedTag, repacked, wordSlots}
+use Rattle.index.specs.Slot.{wordSlot, packedTag}
 use Rattle.index.specs.Walk.{bucketsOf}
 use Rattle.index.specs.Word.{wordTag, wordStored, marked, unmarked}
 use Rattle.index.specs.declared.slot.IndexSlot.{IndexSlot}
 use Rattle.index.specs.declared.slot.IndexSlot.the-variants.{Empty, Used}
+use Rattle.index.proofs.Contents.{repacked, wordSlots}
 use Rattle.index.proofs.Entries.{new-slot, Cell, cell-empty, cell-used, Indexed, none-indexed, slots-mapped, reheld, words-long}
 use Rattle.index.proofs.Flat.{indexSlots}
 use Rattle.index.proofs.Walks.{flatten-buckets}

@@ -1,7 +1,9 @@
 pub mod Answers
 pub mod Around
+pub mod Buckets
 pub mod Bytes
 pub mod Candidates
+pub mod Contents
 pub mod Entries
 pub mod Filling
 pub mod Filters

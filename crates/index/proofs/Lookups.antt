@@ -22,13 +22,14 @@ use Rattle.records.proofs.Stored.{record-inside}
 use Rattle.index.specs.Filter.{filterHas}
 use Rattle.index.specs.Find.{other, match, seen, look, looksFrom, slotsOf, findIn}
 use Rattle.index.specs.Slot.{keptTag}
-use Rattle.index.specs.View.{refMoved, answerMoved, inSegment, isSegment, recordIn, storedIn}
+use Rattle.index.specs.View.{refMoved, answerMoved, inSegment, isSegment, recordIn}
 use Rattle.index.specs.Walk.{rot, bucketWalk}
 use Rattle.index.specs.declared.find.FindAnswer.{FindAnswer}
 use Rattle.index.specs.declared.find.FindAnswer.the-variants.{Found, Nothing}
 use Rattle.index.specs.declared.find.FoundRecord.{FoundRecord}
 use Rattle.index.specs.declared.slot.IndexSlot.{IndexSlot}
 use Rattle.index.specs.declared.view.SegmentView.{SegmentView}
+use Rattle.index.proofs.Contents.{storedIn}
 use Rattle.index.proofs.Entries.{keyed, Cell, cell-empty, cell-used, Indexed}
 use Rattle.index.proofs.Flat.{bucketAt, walked, walk-slots, indexSlots, index-bucket, walk-below}
 use Rattle.index.proofs.Found.{foundStored, Sees, sees-empty, sees-other, sees-match, Denied, walk-first}

@@ -7,10 +7,10 @@ use lib.Bits.{bitAnd, bitOr, and-block, or-block, and-mask, or-zero-r}
 use lib.Dec.{eqb, eqb→eq, lit<}
 use lib.ListN.{getD, set}
 use lib.Pow.{pow-add, shl-exact}
-use Rattle.hash_parts.specs.ZeroBytes.{bytesOf}
+use Rattle.hash_parts.specs.ZeroBytes.{bytesOf, numberOf}
 use Rattle.hash_parts.proofs.Table.{at}
-use Rattle.index.specs.Packed.{numberOf, withByte, markedByte, unmarkedByte}
-use Rattle.index.proofs.Bytes.{number-bytes}
+use Rattle.hash_parts.proofs.Bytes.{number-all}
+use Rattle.index.specs.Packed.{withByte, markedByte, unmarkedByte}
 
 pow-bytes : (n : ℕ) → 2 ^ (n * 8) ≡ 256 ^ n
 pow-bytes zero = refl
@@ -19,10 +19,6 @@ pow-bytes (suc n) = ap (λ (x : ℕ). 2 ^ x) (suc-mul n 8) ∙ pow-add 2 (n * 8)
 -- the mark's bit, as the program shifts it
 bit-at : (j : ℕ) → j < 8 → 128 * 2 ^ (j * 8) % 2 ^ 64 ≡ 128 * 256 ^ j
 bit-at j h = shl-exact {a = 128} 8 (j * 8) 64 (lit< tt) (omega arith) ∙ ap (λ (x : ℕ). 128 * x) (pow-bytes j)
-
--- a number that fits its bytes
-number-all : (n w : ℕ) → w < 256 ^ n → numberOf (bytesOf n w) ≡ w
-number-all n w h = number-bytes n w ∙ mod-eq-of-lt h
 
 -- ---- setting
 

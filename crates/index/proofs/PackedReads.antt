@@ -12,13 +12,15 @@ use lib.ListN.{length, getD, take, drop, set, length-append, length-drop, length
 use lib.Seq.{take-at, drop-at, drop-drop, drop-set-lt, getD-take, getD-drop, getD-set-same, getD-set-other, set-out, length-take-le}
 use Rattle.hash_parts.specs.Choice.{pick}
 use Rattle.hash_parts.specs.Hash.{controlTag, secondaryTag}
-use Rattle.hash_parts.specs.ZeroBytes.{bytesOf}
-use Rattle.index.specs.Packed.{numberOf, wordsOf, wordBytes, concatMap, controlByte, referenceBytes, controlWord, controlWords, referenceWords, packed, referenceIn, packedSlot, packedSlotsOf, packedBucket, packedBuckets, withByte, markedByte, unmarkedByte}
-use Rattle.index.specs.Slot.{wordSlot, repacked}
+use Rattle.hash_parts.specs.ZeroBytes.{bytesOf, numberOf}
+use Rattle.hash_parts.proofs.Bytes.{Bytes, no-bytes, one-byte, bytes-append, bytes-take, bytes-drop, bytes-set, bytes-of, length-bytes, bytes-number, number-bytes}
+use Rattle.index.specs.Packed.{wordsOf, wordBytes, concatMap, controlByte, referenceBytes, controlWord, controlWords, referenceWords, packed, referenceIn, packedSlot, packedSlotsOf, packedBucket, withByte, markedByte, unmarkedByte}
+use Rattle.index.specs.Slot.{wordSlot}
 use Rattle.index.specs.Walk.{bucketsOf}
 use Rattle.index.specs.Word.{wordOf, wordTag, wordStored}
 use Rattle.index.specs.declared.slot.IndexSlot.the-variants.{Empty, Used}
-use Rattle.index.proofs.Bytes.{Bytes, no-bytes, one-byte, bytes-append, bytes-take, bytes-drop, bytes-set, bytes-of, length-bytes, bytes-number, number-bytes, below-eight}
+use Rattle.index.proofs.Contents.{packedBuckets, repacked}
+use Rattle.index.proofs.Bytes.{below-eight}
 use Rattle.index.proofs.Packing.{control-small, reference-bytes, length-reference}
 use Rattle.index.proofs.Walks.{length-buckets}
 use Rattle.index.proofs.PackingLoop.{length-references, wordsFrom, words-from}
@@ -109,12 +111,6 @@ packed-length B index h =
     ap length (sym (append-assoc (controlWords B index) (concatMap referenceWords (bucketsOf B index)) (drop (8 * B) index)))
     ∙ length-append (controlWords B index ++ concatMap referenceWords (bucketsOf B index)) (drop (8 * B) index)
     ∙ omega (arith, length-packed-words B index, length-drop (8 * B) index)
-
-pub packed-rest : (B : ℕ) (index : List ℕ) → drop (8 * B) (packed B index) ≡ drop (8 * B) index
-unfolding packed
-packed-rest B index =
-    ap (drop (8 * B)) (sym (append-assoc (controlWords B index) (concatMap referenceWords (bucketsOf B index)) (drop (8 * B) index)))
-    ∙ drop-at (controlWords B index ++ concatMap referenceWords (bucketsOf B index)) (drop (8 * B) index) (8 * B) (length-packed-words B index)
 
 -- buckets of eight
 data Eights : List (List ℕ) → Type 0 where

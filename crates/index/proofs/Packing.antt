@@ -11,12 +11,13 @@ use lib.ListN.{length, take, drop, set, length-append}
 use lib.Seq.{sets-eq, drop-drop}
 use Rattle.hash_parts.specs.Choice.{pick}
 use Rattle.hash_parts.specs.Hash.{controlTag, secondaryTag}
-use Rattle.hash_parts.specs.ZeroBytes.{bytesOf}
+use Rattle.hash_parts.specs.ZeroBytes.{bytesOf, numberOf}
+use Rattle.hash_parts.proofs.Bytes.{Bytes, bytes-append, bytes-of, length-bytes, bytes-number, number-small, number-bytes, number-two}
 use Rattle.records.specs.Area.{pasted}
-use Rattle.index.specs.Packed.{numberOf, wordsOf, concatMap, controlByte, controlWord, referenceBytes, referenceWords, packedSlot}
+use Rattle.index.specs.Packed.{wordsOf, concatMap, controlByte, controlWord, referenceBytes, referenceWords, packedSlot}
 use Rattle.index.specs.declared.slot.IndexSlot.the-variants.{Empty, Used}
 use Rattle.index.specs.Word.{wordTag, wordStored}
-use Rattle.index.proofs.Bytes.{Bytes, bytes-append, bytes-of, length-bytes, bytes-number, number-small, number-bytes, number-front, number-two, seven-words}
+use Rattle.index.proofs.Bytes.{number-front, seven-words}
 
 -- ---- a slot's control byte and reference
 

@@ -16,12 +16,13 @@ use Rattle.records.specs.Record.{Stored}
 use Rattle.records.proofs.Area.{same-true}
 use Rattle.index.specs.Build.{Look, vacant, passed, looks, slotFor}
 use Rattle.index.specs.Filter.{displaced, filterHas, filterMarked}
-use Rattle.index.specs.Slot.{wordSlot, wordSlots}
+use Rattle.index.specs.Slot.{wordSlot}
 use Rattle.index.specs.Walk.{rot}
 use Rattle.index.specs.Word.{wordOf}
 use Rattle.index.specs.declared.build.BuildSlot.the-variants as build
 use Rattle.index.specs.declared.slot.IndexSlot.{IndexSlot}
 use Rattle.index.specs.declared.slot.IndexSlot.the-variants.{Used}
+use Rattle.index.proofs.Contents.{wordSlots}
 use Rattle.index.proofs.Entries.{new-slot, keyed, cell-used, Indexed, words-long}
 use Rattle.index.proofs.Filters.{own-mark, mark-grows}
 use Rattle.index.proofs.Pairs.{pairs-set}

@@ -14,12 +14,13 @@ use Rattle.hash_parts.specs.Choice.{pick}
 use Rattle.hash_parts.specs.Hash.{tagOf, firstBucket}
 use Rattle.records.specs.Record.{Stored}
 use Rattle.index.specs.Build.{Look, vacant, same, passed, look, looks, searched, searchedAll, slotFor}
-use Rattle.index.specs.Slot.{wordSlot, wordSlots}
+use Rattle.index.specs.Slot.{wordSlot}
 use Rattle.index.specs.Walk.{rot, bucketWalk}
 use Rattle.index.specs.Word.{wordTag, wordStored}
 use Rattle.index.specs.declared.build.BuildSlot.{BuildSlot}
 use Rattle.index.specs.declared.build.BuildSlot.the-variants as build
 use Rattle.index.specs.declared.slot.IndexSlot.the-variants as slot
+use Rattle.index.proofs.Contents.{wordSlots}
 use Rattle.index.proofs.Entries.{Cell, cell-empty, cell-used, Indexed}
 use Rattle.index.proofs.Flat.{bucketAt, walk-slots}
 use Rattle.index.proofs.Pairs.{pairs-rot}

@@ -12,11 +12,11 @@ use lib.Seq.{drop-cons, getD-take, length-take-le}
 use borrow.Author.Tests.{le-leb, lt-leb, eq-eqb, ne-eqb}
 use Rattle.hash_parts.specs.declared.error.SegmentCacheBuildError.the-variants.{ArenaTooLarge, AreaTooShort}
 use Rattle.index.specs.Word.{wordOf, wordTag, wordStored}
-use Rattle.index.specs.Segments.{Ascends, StartsIn, startsOf, lengthsOf, segmentOf, segmented, splitWord, padded, replaced, split, splitBy, splitResult}
+use Rattle.index.specs.Segments.{startsOf, lengthsOf, segmentOf, segmented, splitWord, padded, replaced, split, splitBy, splitResult}
+use Rattle.index.specs.SegmentStarts.{Ascends, StartsIn}
 use Rattle.index.specs.declared.segments.SplitAnswer.the-variants.{Segments, Refused}
 use Rattle.index.proofs.Filling.{replaced-length, filled-back}
 use Rattle.index.proofs.Starts.{starts-ascend, starts-first}
-use Rattle.index.proofs.Words.{tag-back, location-back}
 
 -- ---- the segment of a location
 
@@ -66,21 +66,10 @@ pub split-none : (ss : List ℕ) (w : ℕ) → wordStored w ≡ 0 → splitWord 
 unfolding splitWord
 split-none ss w e = simp (eq-eqb (wordStored w) 0 e)
 
-pub split-zero : (ss : List ℕ) → splitWord ss 0 ≡ 0
-split-zero ss = split-none ss 0 refl
-
 module _ (ss : List ℕ) (w : ℕ) (named : wordStored w ≡ 0 → ⊥) where
   pub split-named : splitWord ss w ≡ wordOf (wordTag w) (segmented ss (wordStored w - 1))
   unfolding splitWord
   split-named = simp (ne-eqb (wordStored w) 0 named)
-
-  pub split-stored : segmented ss (wordStored w - 1) + 1 < 2 ^ 40
-      → (wordTag (splitWord ss w) ≡ wordTag w) × (wordStored (splitWord ss w) ≡ segmented ss (wordStored w - 1) + 1)
-  split-stored h =
-      let tag-fits : wordTag w < 2 ^ 23 = omega arith in (
-        ap wordTag split-named ∙ tag-back (wordTag w) (segmented ss (wordStored w - 1)) tag-fits h,
-        ap wordStored split-named ∙ location-back (wordTag w) (segmented ss (wordStored w - 1)) tag-fits h,
-      )
 
 -- with the segment that a search found
 pub split-found : (area : List ℕ) (count w segment : ℕ) → (wordStored w ≡ 0 → ⊥) → segment ≡ segmentOf (take count area) (wordStored w - 1) → segment < count

@@ -13,7 +13,8 @@ use lib.Seq.{drop-cons}
 use borrow.Author.Tests.{ltb-true, eqb-false, lt-ltb, le-ltb, le-leb, lt-leb, eq-eqb, ne-eqb}
 use Rattle.hash_parts.specs.Choice.{pick}
 use Rattle.index.specs.Word.{wordStored}
-use Rattle.index.specs.Segments.{noStart, startsAt, nextStart, startIn, startAfter, startsAfter, startsOf, Ascends, inside, allInside, locationsInside}
+use Rattle.index.specs.Segments.{noStart, startsAt, nextStart, startIn, startAfter, startsAfter, startsOf, inside, allInside, locationsInside}
+use Rattle.index.specs.SegmentStarts.{Ascends}
 
 -- ---- the next start is the location of a word, and not below the bound
 

@@ -2,27 +2,26 @@
 use mathlib.Core.Path.{_≡_, refl, sym, ap, _∙_}
 use mathlib.Core.Bool.{Bool, true, false}
 use mathlib.Core.List.{List}
-use Prim.Native.Nat.{ℕ, _+_, _*_, _-_, _/_, _≤_, _<_}
+use Prim.Native.Nat.{ℕ, _+_, _*_, _≤_, _<_}
 use native.Mathlib.Nat.{zero-add}
 use native.Mathlib.Omega.{arith}
 use lib.Dec.{ltb}
-use lib.Bits.{bitAnd}
-use lib.Count.{trailingZeros}
 use lib.ListN.{length, take, drop, getD, length-map, length-drop}
 use lib.Seq.{length-take-le}
 use Rattle.hash_parts.specs.Choice.{pick}
 use Rattle.hash_parts.specs.Hash.{controlTag, secondaryTag}
-use Rattle.hash_parts.specs.ZeroBytes.{bytesOf, firstMark, marks, restMarks, visited}
-use Rattle.hash_parts.proofs.Visit.{first-right, first-lt, rest-right, rest-length, visit-first, visit-none}
+use Rattle.hash_parts.specs.ZeroBytes.{bytesOf, firstMark, lowestSet, marks, withoutLowest}
+use Rattle.hash_parts.proofs.Visit.{restMarks, visited, first-right, first-lt, rest-right, rest-length, rest-less, visit-first, visit-none}
+use Rattle.hash_parts.proofs.Bytes.{length-bytes}
 use Rattle.records.specs.declared.record.RecordAnswer.{RecordAnswer}
-use Rattle.index.specs.Find.{Look, look, looksFrom, stepOf, scan, sweep, hasEmpty, inBucket, slotsOf, hasTag, tagged, passedOver, fromOn, candidates}
+use Rattle.index.specs.Find.{Look, look, looksFrom, scan, sweep, hasEmpty, inBucket, slotsOf}
+use Rattle.index.specs.FindSteps.{stepOf, hasTag, tagged, passedOver, fromOn, candidates}
 use Rattle.index.specs.Packed.{packedBucket, wordBytes}
 use Rattle.index.specs.Slot.{packedTag, keptTag, wordSlot}
 use Rattle.index.specs.declared.find.FindStep.{FindStep}
 use Rattle.index.specs.declared.find.FindStep.the-variants.{Hit, Stop, Next}
 use Rattle.index.specs.declared.slot.IndexSlot.{IndexSlot}
 use Rattle.index.specs.declared.slot.IndexSlot.the-variants.{Empty}
-use Rattle.index.proofs.Bytes.{length-bytes}
 use Rattle.index.proofs.Candidates.{sweep-visits, scan-visits, empty-marked, from-length}
 use Rattle.index.proofs.Finds.{andThen, then-ends}
 
@@ -41,29 +40,32 @@ module _ {answer : FindStep} {says : ℕ → FindStep} {m : ℕ} (v : Visiting a
     positive : 0 < marks (v .places)
     positive = omega (arith, v .marked)
 
-    lowest-is : trailingZeros 64 m / 8 ≡ firstMark (v .places)
-    lowest-is =
-        ap (λ (x : ℕ). trailingZeros 64 x / 8) (v .marked)
-        ∙ ap (λ (n : ℕ). trailingZeros (8 * n) (marks (v .places)) / 8) (sym (v .eight))
-        ∙ first-right (v .places) positive
+    lowest-is : lowestSet m ≡ firstMark (v .places)
+    lowest-is = ap lowestSet (v .marked) ∙ first-right (v .places) (v .eight)
 
-    pub visiting-below : trailingZeros 64 m / 8 < 8
+    others-are : withoutLowest m ≡ marks (restMarks (v .places))
+    others-are = ap withoutLowest (v .marked) ∙ rest-right (v .places) (v .eight)
+
+    pub visiting-less : withoutLowest m < m
+    visiting-less = omega (arith, others-are, rest-less (v .places) positive, v .marked)
+
+    pub visiting-below : lowestSet m < 8
     visiting-below = omega (arith, lowest-is, first-lt (v .places) positive, v .eight)
 
-    step : answer ≡ andThen (says (trailingZeros 64 m / 8)) (visited (λ j after. andThen (says j) after) (restMarks (v .places)) 0 Next)
+    step : answer ≡ andThen (says (lowestSet m)) (visited (λ j after. andThen (says j) after) (restMarks (v .places)) 0 Next)
     step =
         v .same
         ∙ visit-first (λ j after. andThen (says j) after) (v .places) 0 Next positive
         ∙ ap (λ (j : ℕ). andThen (says j) (visited (λ j after. andThen (says j) after) (restMarks (v .places)) 0 Next)) (zero-add (firstMark (v .places)) ∙ sym lowest-is)
 
-    pub visiting-hit : (says (trailingZeros 64 m / 8) ≡ Next → ⊥) → answer ≡ says (trailingZeros 64 m / 8)
-    visiting-hit n = step ∙ then-ends (says (trailingZeros 64 m / 8)) _ n
+    pub visiting-hit : (says (lowestSet m) ≡ Next → ⊥) → answer ≡ says (lowestSet m)
+    visiting-hit n = step ∙ then-ends (says (lowestSet m)) _ n
 
-    pub visiting-on : says (trailingZeros 64 m / 8) ≡ Next → Visiting answer says (bitAnd m (m - 1))
+    pub visiting-on : says (lowestSet m) ≡ Next → Visiting answer says (withoutLowest m)
     visiting-on e =
         record {
           places = restMarks (v .places);
-          marked = ap (λ (x : ℕ). bitAnd x (x - 1)) (v .marked) ∙ rest-right (v .places) positive;
+          marked = others-are;
           eight = rest-length (v .places) ∙ v .eight;
           same = step ∙ ap (λ (s : FindStep). andThen s (visited (λ j after. andThen (says j) after) (restMarks (v .places)) 0 Next)) e;
         }

@@ -11,10 +11,6 @@ module _ (tag location : ℕ) (tag-fits : tag < 2 ^ 23) (location-fits : locatio
   pub location-back : wordStored (wordOf tag location) ≡ location + 1
   location-back = omega arith
 
-  -- a new word has no mark
-  pub word-unmarked : wordOf tag location < 2 ^ 63
-  word-unmarked = omega arith
-
   pub word-taken : wordOf tag location ≡ 0 → ⊥
   word-taken e = omega arith
 

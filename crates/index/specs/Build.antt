@@ -21,8 +21,9 @@ use Rattle.index.specs.Word.{wordTag, wordStored}
 use Rattle.index.specs.declared.build.BuildSlot.{BuildSlot}
 use Rattle.index.specs.declared.build.BuildSlot.the-variants.{Empty, Duplicate, Full}
 
+-- buckets for so many records at this occupancy; one for occupancy 0, which question 3 refuses
 unfoldable pub bucketsFor : ℕ → ℕ → ℕ
-bucketsFor records occupied = max 1 (ceilDiv records occupied)
+bucketsFor records occupied = pick (eqb occupied 0) 1 (max 1 (ceilDiv records occupied))
 
 -- an area with its first words set to 0; a shorter one as it is
 unfoldable pub cleared : List ℕ → ℕ → List ℕ

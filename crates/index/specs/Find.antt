@@ -4,12 +4,11 @@
 -- Assumes nothing.
 use mathlib.Core.Bool.{Bool, true, false, not}
 use mathlib.Core.List.{List, [], _∷_, map}
-use Prim.Native.Nat.{ℕ, zero, suc, _*_, _/_, _%_}
+use Prim.Native.Nat.{ℕ, suc, _*_, _/_, _%_}
 use lib.Dec.{eqb, leb, ltb}
 use lib.ListN.{length, take, drop, getD}
 use Rattle.hash_parts.specs.Choice.{pick}
-use Rattle.hash_parts.specs.Hash.{controlTag, tagOf}
-use Rattle.hash_parts.specs.ZeroBytes.{bytesOf}
+use Rattle.hash_parts.specs.Hash.{tagOf}
 use Rattle.records.specs.Area.{spanned, sameBytes}
 use Rattle.records.specs.declared.record.RecordAnswer.{RecordAnswer}
 use Rattle.records.specs.declared.record.RecordAnswer.the-variants.{Read, Unreadable}
@@ -51,14 +50,6 @@ unfoldable pub looksFrom : (ℕ → RecordAnswer) → List ℕ → List ℕ → 
 looksFrom read arena key tag i [] = []
 looksFrom read arena key tag i (s ∷ l) = look read arena key tag i s ∷ looksFrom read arena key tag (suc i) l
 
--- ---- one slot: a hit, the end of the walk with nothing, or on to the next
-
-abbrev pub stepOf : Look → FindStep
-stepOf empty = Stop
-stepOf other = Next
-stepOf broken = Stop
-stepOf (match r) = Hit r
-
 -- ---- one bucket: a hit, the end of the walk with nothing, or on to the next
 
 -- words: slot after slot; an empty one ends the walk at once
@@ -96,32 +87,6 @@ sweptOut l = ended (hasEmpty l) (sweep l)
 -- a bucket in either layout
 abbrev pub inBucket : Bool → List Look → FindStep
 inBucket packed l = pick packed (sweptOut l) (scan l)
-
--- ---- which slots of a bucket are looked at; the others say nothing of the key
-
--- a control byte has the tag t
-abbrev pub hasTag : ℕ → ℕ → Bool
-hasTag t c = eqb (c % 128) t
-
--- packed: the slots whose control byte has the tag
-abbrev pub tagged : ℕ → ℕ → List Bool
-tagged t control = map (hasTag t) (bytesOf 8 control)
-
--- words: how many slots come before the first that is empty or has the tag
-unfoldable pub passedOver : ℕ → List IndexSlot → ℕ
-passedOver tag [] = 0
-passedOver tag (Empty ∷ l) = 0
-passedOver tag (Used t stored ∷ l) = pick (eqb t tag) 0 (suc (passedOver tag l))
-
--- of n slots, those from the s-th on
-unfoldable pub fromOn : ℕ → ℕ → List Bool
-fromOn s zero = []
-fromOn zero (suc n) = true ∷ fromOn zero n
-fromOn (suc s) (suc n) = false ∷ fromOn s n
-
-abbrev pub candidates : Bool → ℕ → List ℕ → ℕ → List Bool
-candidates packed tag index b =
-    pick packed (tagged (controlTag tag) (getD index b 0)) (fromOn (passedOver tag (map wordSlot (take 8 (drop (8 * b) index)))) 8)
 
 -- ---- the walk
 

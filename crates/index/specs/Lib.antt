@@ -1,7 +1,9 @@
 pub mod Build
 pub mod Filter
 pub mod Find
+pub mod FindSteps
 pub mod Packed
+pub mod SegmentStarts
 pub mod Segments
 pub mod Slot
 pub mod View

@@ -8,18 +8,13 @@ use lib.Dec.{eqb, leb}
 use lib.ListN.{length, take, drop, set, getD}
 use Rattle.hash_parts.specs.Choice.{pick}
 use Rattle.hash_parts.specs.Hash.{controlTag, secondaryTag}
-use Rattle.hash_parts.specs.ZeroBytes.{bytesOf}
+use Rattle.hash_parts.specs.ZeroBytes.{bytesOf, numberOf}
 use Rattle.index.specs.Walk.{bucketsOf}
 use Rattle.index.specs.Word.{wordTag, wordStored}
 use Rattle.index.specs.declared.slot.IndexSlot.{IndexSlot}
 use Rattle.index.specs.declared.slot.IndexSlot.the-variants.{Empty, Used}
 
 -- ---- bytes of words, lowest first
-
--- the number of some bytes
-unfoldable pub numberOf : List ℕ → ℕ
-numberOf [] = 0
-numberOf (b ∷ l) = b + 256 * numberOf l
 
 -- so many words of bytes
 unfoldable pub wordsOf : ℕ → List ℕ → List ℕ
@@ -86,11 +81,6 @@ packedSlotsOf (c ∷ l) bytes = packedSlot c (take 7 bytes) ∷ packedSlotsOf l 
 -- bucket b of so many
 unfoldable pub packedBucket : ℕ → List ℕ → ℕ → List IndexSlot
 packedBucket buckets index b = packedSlotsOf (bytesOf 8 (getD index b 0)) (wordBytes (take 7 (drop (buckets + 7 * b) index)))
-
--- the buckets from b on, so many
-unfoldable pub packedBuckets : ℕ → List ℕ → ℕ → ℕ → List (List IndexSlot)
-packedBuckets buckets index b zero = []
-packedBuckets buckets index b (suc n) = packedBucket buckets index b ∷ packedBuckets buckets index (suc b) n
 
 -- ---- marks: the top bit of a control byte
 

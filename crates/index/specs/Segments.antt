@@ -1,10 +1,9 @@
 -- Segments. Document 01: "Up to the target: one. Else each next segment starts at the lowest record location not below the last start plus target; with
 -- none, no more. Location becomes segment × 2^32 + offset. Start and length stand in two 256-word areas, unused words 0."
 -- Assumes nothing.
-use mathlib.Core.Path.{_≡_}
 use mathlib.Core.Bool.{Bool, true, false}
 use mathlib.Core.List.{List, [], _∷_, _++_, map}
-use Prim.Native.Nat.{ℕ, zero, suc, _+_, _-_, _*_, _^_, _≤_, _<_, min}
+use Prim.Native.Nat.{ℕ, zero, suc, _+_, _-_, _*_, _^_, min}
 use lib.Dec.{eqb, leb, ltb}
 use lib.ListN.{length, take, drop, getD, replicate}
 use Rattle.hash_parts.specs.Choice.{pick}
@@ -47,17 +46,6 @@ startsAfter (suc n) words filled target last =
 -- the starts, at most 257: one more than a set can have
 unfoldable pub startsOf : List ℕ → ℕ → ℕ → List ℕ
 startsOf words filled target = 0 ∷ startsAfter 256 words filled target 0
-
--- each start above the one before it
-abbrev pub Ascends : List ℕ → Type 0
-Ascends ss = (i : ℕ) → suc i < length ss → getD ss i 0 < getD ss (suc i) 0
-
--- the first words of an area are starts: some, the first 0, each above the one before it
-pub record StartsIn (area : List ℕ) (count : ℕ) : Type 0 where
-  pub some : 0 < count
-  pub within : count ≤ length area
-  pub first : getD area 0 0 ≡ 0
-  pub ascend : Ascends (take count area)
 
 -- ---- lengths, and a location's segment
 

@@ -1,10 +1,8 @@
 -- A slot of a finished index, as either layout shows it.
 -- Assumes nothing.
 use mathlib.Core.Bool.{Bool}
-use mathlib.Core.List.{List, map}
 use Prim.Native.Nat.{ℕ, _+_, _*_}
 use lib.Dec.{eqb}
-use lib.ListN.{take}
 use Rattle.hash_parts.specs.Choice.{pick}
 use Rattle.hash_parts.specs.Hash.{controlTag, secondaryTag}
 use Rattle.index.specs.Word.{wordTag, wordStored}
@@ -22,12 +20,3 @@ packedTag tag = controlTag tag + 128 * secondaryTag tag
 -- what a layout keeps of a tag
 abbrev pub keptTag : Bool → ℕ → ℕ
 keptTag packed tag = pick packed (packedTag tag) tag
-
--- a slot of the word layout as the packed layout keeps it
-abbrev pub repacked : IndexSlot → IndexSlot
-repacked Empty = Empty
-repacked (Used tag stored) = Used (packedTag tag) stored
-
--- the slots of so many buckets of words
-abbrev pub wordSlots : ℕ → List ℕ → List IndexSlot
-wordSlots buckets index = map wordSlot (take (8 * buckets) index)

@@ -3,14 +3,13 @@
 -- Assumes nothing.
 use mathlib.Core.Bool.{Bool, false}
 use mathlib.Core.List.{List}
-use mathlib.Core.Option.{Option}
 use Prim.Native.Nat.{ℕ, zero, suc, _+_, _/_, _%_, _^_}
 use lib.Dec.{leb, ltb}
 use lib.ListN.{length, take, getD}
 use Rattle.hash_parts.specs.Choice.{pick}
 use Rattle.hash_parts.specs.declared.setting.SegmentExpiry.{SegmentExpiry}
 use Rattle.records.specs.Area.{part}
-use Rattle.records.specs.Record.{Stored, recordAt, contents}
+use Rattle.records.specs.Record.{recordAt}
 use Rattle.records.specs.declared.record.RecordAnswer.{RecordAnswer}
 use Rattle.records.specs.declared.record.RecordAnswer.the-variants.{Read, Unreadable}
 use Rattle.records.specs.declared.record.RecordRef.{RecordRef}
@@ -47,7 +46,3 @@ recordIn view arena starts lengths (suc location) =
     pick (isSegment view starts lengths (location / 2 ^ 32))
     (inSegment (view .expiry) (take (view .filled) arena) (getD starts (location / 2 ^ 32) 0) (getD lengths (location / 2 ^ 32) 0) location)
     Unreadable
-
--- key, value and deadline of that record
-unfoldable pub storedIn : SegmentView → List ℕ → List ℕ → List ℕ → ℕ → Option Stored
-storedIn view arena starts lengths stored = contents arena (recordIn view arena starts lengths stored)

@@ -27,12 +27,12 @@ ghost use lib.Dec.{ltb};
 ghost use lib.ListN.{drop, getD, length, take};
 ghost use Rattle.hash_parts.specs.Choice.{pick};
 ghost use Rattle.hash_parts.specs.ZeroBytes.{marks};
-ghost use Rattle.index.specs.Find.{candidates, endsAt, findIn, fromOn, inBucket, look, looksFrom, passedOver, slotAt, slotsOf, stepOf, tagged};
+ghost use Rattle.index.specs.Find.{endsAt, findIn, inBucket, look, looksFrom, slotAt, slotsOf};
+ghost use Rattle.index.specs.FindSteps.{candidates, fromOn, passedOver, stepOf, tagged};
 ghost use Rattle.index.specs.Filter.{filterHas};
 ghost use Rattle.index.specs.Packed.{packedBucket};
 ghost use Rattle.index.specs.Slot.{keptTag, wordSlot};
 ghost use Rattle.index.specs.View.{recordIn};
-ghost use Rattle.hash_parts.specs.Hash.{tagOf};
 ghost use Rattle.index.specs.declared.slot.IndexSlot.the-variants as slot;
 
 const PACKED_CONTROL_TAG_BITS: u64 = 0x7f7f_7f7f_7f7f_7f7f;
@@ -53,7 +53,7 @@ pub enum FindAnswer {
 }
 
 // What a slot or a bucket says: a hit, the end of the walk with nothing, or on.
-pub enum FindStep {
+pub(crate) enum FindStep {
     Hit(FoundRecord),
     Stop,
     Next,

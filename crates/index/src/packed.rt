@@ -10,9 +10,9 @@ ghost use mathlib.Core.Path.{_≡_};
 ghost use mathlib.Core.List.{[], _∷_, _++_};
 ghost use Prim.Native.Nat.{_+_, _-_, _*_, _/_, _%_, _^_, _<_, _≤_};
 ghost use lib.ListN.{drop, getD, length, take};
-ghost use Rattle.hash_parts.specs.ZeroBytes.{bytesOf};
+ghost use Rattle.hash_parts.specs.ZeroBytes.{bytesOf, numberOf};
 ghost use Rattle.records.specs.Area.{pasted};
-ghost use Rattle.index.specs.Packed.{controlByte, controlWord, markedByte, numberOf, packedIndex, packedScratch, packedSlot, referenceBytes, referenceIn, referenceWords, unmarkedByte, withByte};
+ghost use Rattle.index.specs.Packed.{controlByte, controlWord, markedByte, packedIndex, packedScratch, packedSlot, referenceBytes, referenceIn, referenceWords, unmarkedByte, withByte};
 
 // Packs an index of words in place, with one scratch word a bucket, which then holds the bucket's
 // control word. Where an area is too short nothing is written. The last bucket goes first: its
@@ -150,7 +150,7 @@ fn reference_front(before: u64, bits: u64) -> u64
 }
 
 // A slot of the packed layout, by its bucket's control word and the words of its reference.
-pub fn packed_slot(control: u64, before: u64, word: u64, slot: usize) -> IndexSlot
+pub(crate) fn packed_slot(control: u64, before: u64, word: u64, slot: usize) -> IndexSlot
     ensures { λ r. ⌜ r ≡ packedSlot (getD (bytesOf 8 control) (slot % 8) 0) (referenceIn before word (slot % 8)) ⌝ }
 {
     let tag = (control >> (((slot % 8) * 8) as u64)) % 128;

@@ -11,12 +11,13 @@ ghost use Prim.Native.Nat.{_+_, _-_, _*_, _<_, _≤_, min};
 ghost use lib.ListN.{length, take, drop, getD};
 ghost use Rattle.hash_parts.specs.Choice.{pick};
 ghost use Rattle.index.specs.Word.{wordStored};
-ghost use Rattle.index.specs.Segments.{StartsIn, inside, lengthsOf, locationsInside, padded, replaced, segmentOf, split, splitResult, splitWord, startAfter, startIn, startsAt, startsOf};
+ghost use Rattle.index.specs.Segments.{inside, lengthsOf, locationsInside, padded, replaced, segmentOf, split, splitResult, splitWord, startAfter, startIn, startsAt, startsOf};
+ghost use Rattle.index.specs.SegmentStarts.{StartsIn};
 
 pub const MAX_RECORD_SEGMENTS: usize = 256;
 
 // Above every location.
-pub const NO_START: u64 = 0x100_0000_0000;
+const NO_START: u64 = 0x100_0000_0000;
 
 const OFFSETS: u64 = 0x1_0000_0000;
 

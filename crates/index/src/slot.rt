@@ -1,7 +1,5 @@
 // A slot of a finished index, read from words by value, in either layout.
 ghost use mathlib.Core.Path.{_≡_};
-ghost use Prim.Native.Nat.{_*_, _/_, _%_, _^_};
-ghost use lib.ListN.{drop, take};
 ghost use Rattle.index.specs.Slot.{wordSlot};
 
 pub enum IndexSlot {
@@ -11,7 +9,7 @@ pub enum IndexSlot {
 }
 
 // A slot of the word layout.
-pub fn word_slot(word: u64) -> IndexSlot
+pub(crate) fn word_slot(word: u64) -> IndexSlot
     ensures { λ r. ⌜ r ≡ wordSlot word ⌝ }
 {
     if word == 0 {

@@ -5,7 +5,7 @@ use records::record::RecordRef;
 use records::record::Span;
 use records::record::record_at;
 ghost use mathlib.Core.Path.{_≡_};
-ghost use Prim.Native.Nat.{_+_, _^_, _<_, _≤_, min};
+ghost use Prim.Native.Nat.{_+_, _^_, _<_, min};
 ghost use lib.ListN.{length, take};
 ghost use Rattle.index.specs.View.{inSegment, recordIn, refMoved};
 

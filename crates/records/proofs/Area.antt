@@ -14,7 +14,8 @@ use lib.Seq.{take-all, take-at, drop-at, drop-drop, set-at, drop-cons, getD-drop
 use Rattle.hash_parts.specs.Choice.{pick}
 use Rattle.hash_parts.specs.Outcome.{accepted, refused}
 use Rattle.hash_parts.specs.declared.error.SegmentCacheBuildError.the-variants.{AreaTooShort}
-use Rattle.records.specs.Area.{wordIn, over, pasted, written, spanned, sameBytes}
+use Rattle.records.specs.Area.{over, pasted, written, spanned, sameBytes}
+use Rattle.records.specs.Compare.{wordIn}
 use Rattle.records.specs.declared.record.Span.{Span}
 
 -- ---- writing over an area's front

@@ -1,10 +1,10 @@
 -- Writing to the front of a lent area, parts of an area, and comparing bytes.
 -- Assumes nothing.
-use Prim.Native.Nat.{ℕ, _+_, _*_}
+use Prim.Native.Nat.{ℕ, _+_}
 use mathlib.Core.Bool.{Bool, true, false}
 use mathlib.Core.List.{List, [], _∷_, _++_}
 use lib.Dec.{eqb, leb}
-use lib.ListN.{length, take, drop, getD}
+use lib.ListN.{length, take, drop}
 use Rattle.hash_parts.specs.Choice.{pick}
 use Rattle.hash_parts.specs.Outcome.{Outcome, accepted, refused}
 use Rattle.hash_parts.specs.declared.error.SegmentCacheBuildError.the-variants.{AreaTooShort}
@@ -53,13 +53,3 @@ sameBytes [] [] = true
 sameBytes [] (y ∷ b) = false
 sameBytes (x ∷ a) [] = false
 sameBytes (x ∷ a) (y ∷ b) = pick (eqb x y) (sameBytes a b) false
-
--- the eight bytes at a position as one number, lowest first
-abbrev pub wordIn : List ℕ → ℕ → ℕ
-wordIn s at =
-    getD s at 0
-    + 256
-    * (getD s (at + 1) 0
-    + 256
-    * (getD s (at + 2) 0
-    + 256 * (getD s (at + 3) 0 + 256 * (getD s (at + 4) 0 + 256 * (getD s (at + 5) 0 + 256 * (getD s (at + 6) 0 + 256 * getD s (at + 7) 0))))))

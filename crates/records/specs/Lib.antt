@@ -1,4 +1,5 @@
 pub mod Area
+pub mod Compare
 pub mod Record
 pub mod Uleb128
 pub mod Varint

@@ -10,7 +10,8 @@ ghost use mathlib.Core.Bool.{true};
 ghost use Prim.Native.Nat.{_+_, _<_, _≤_};
 ghost use lib.ListN.{drop, getD, length};
 ghost use Rattle.hash_parts.specs.Setting.{bytesPerRecord};
-ghost use Rattle.records.specs.Area.{over, pasted, sameBytes, spanned, wordIn, written};
+ghost use Rattle.records.specs.Area.{over, pasted, sameBytes, spanned, written};
+ghost use Rattle.records.specs.Compare.{wordIn};
 ghost use Rattle.records.specs.Record.{deadlineBytes, deadlineIn, encodedSize, recordAt, recordBytes, recordOf, sizeOutcome};
 ghost use Rattle.records.specs.Uleb128.{uleb128};
 

@@ -3,15 +3,15 @@ use mathlib.Core.Path.{_≡_}
 use mathlib.Core.Bool.{Bool, true}
 use mathlib.Core.List.{List}
 use mathlib.Core.Option.{Option}
-use Prim.Native.Nat.{ℕ, _+_, _-_, _*_, _^_, _≤_, _<_}
-use native.Mathlib.Nat.{div-le-self, mul-le-mul-left}
+use Prim.Native.Nat.{ℕ, _+_, _*_, _^_, _≤_, _<_}
+use native.Mathlib.Nat.{mul-le-mul-left}
 use native.Mathlib.Omega.{arith}
 use lib.ListN.{length}
 use Rattle.hash_parts.specs.declared.setting.SegmentCacheConfig.{SegmentCacheConfig}
 use Rattle.records.specs.declared.record.Span.{Span}
-use Rattle.index.specs.Build.{bucketsFor}
 use Rattle.index.specs.declared.find.FindAnswer.the-variants as find
 use Rattle.index.specs.declared.find.FoundRecord.{FoundRecord}
+use Rattle.index.proofs.Buckets.{buckets-few}
 use Rattle.index.proofs.FoundSlots.{find-slot}
 use Rattle.sets.specs.Answers.{Reply}
 use Rattle.sets.specs.Lookup.{Got, Taken, areasHoldLookup, areasHoldSet, findOf, viewOf}
@@ -24,11 +24,9 @@ use Rattle.sets.proofs.Counts.{both, counts-buckets, counts-records, co
 -- buckets and filter words are few
 module _ (c : SegmentCacheConfig) (records buckets words : ℕ) (fits : countsFit c records buckets words ≡ true) where
   pub few-buckets : buckets ≤ 1048582
-  unfolding bucketsFor
   few-buckets =
       let o = setting-occupied c (counts-setting c records buckets words fits) in
-      let n : ℕ = records + (c .«target_occupied_slots» - 1) in
-      omega (arith, o .1, counts-buckets c records buckets words fits, counts-records c records buckets words fits, div-le-self n (c .«target_occupied_slots»))
+      omega (arith, o .1, counts-buckets c records buckets words fits, counts-records c records buckets words fits, buckets-few records (c .«target_occupied_slots»))
 
   pub few-words : c .«negative_filter_bits_per_entry» < 256 → words ≤ 4194304
   few-words small =

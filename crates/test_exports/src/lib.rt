@@ -13,13 +13,11 @@ use records::record::Span;
 use records::varint::Varint;
 use records::varint::WriteAnswer;
 ghost use mathlib.Core.Path.{_≡_};
-ghost use Prim.Native.Nat.{_*_, _-_, _/_, _%_, _^_};
-ghost use lib.Bits.{bitAnd};
-ghost use lib.Count.{trailingZeros};
+ghost use Prim.Native.Nat.{_*_, _%_, _^_};
 ghost use lib.ListN.{length};
 ghost use Rattle.hash_parts.specs.Duration.{encodedExpiry, livesAt, remaining};
 ghost use Rattle.hash_parts.specs.Hash.{tagOf, firstBucket, controlTag, secondaryTag, rotated, mixedHash};
-ghost use Rattle.hash_parts.specs.ZeroBytes.{zeroMarks};
+ghost use Rattle.hash_parts.specs.ZeroBytes.{lowestSet, withoutLowest, zeroMarks};
 ghost use Rattle.records.specs.Area.{sameBytes, spanned, written};
 ghost use Rattle.records.specs.Record.{encodedSize, recordAt, recordBytes};
 ghost use Rattle.records.specs.Uleb128.{uleb128};
@@ -83,17 +81,17 @@ pub extern "C" fn test_zero_byte_high_bits(value: u64) -> u64
 }
 
 #[no_mangle]
-pub extern "C" fn test_lowest_marked_byte(marks: u64) -> usize
-    ensures { λ r. ⌜ r ≡ trailingZeros 64 marks / 8 ⌝ }
+pub extern "C" fn test_lowest_marked_byte(word: u64) -> usize
+    ensures { λ r. ⌜ r ≡ lowestSet word ⌝ }
 {
-    hash_parts::zero_bytes::lowest_marked_byte(marks)
+    hash_parts::zero_bytes::lowest_marked_byte(word)
 }
 
 #[no_mangle]
-pub extern "C" fn test_without_lowest_mark(marks: u64) -> u64
-    ensures { λ r. ⌜ r ≡ bitAnd marks (marks - 1) ⌝ }
+pub extern "C" fn test_without_lowest_mark(word: u64) -> u64
+    ensures { λ r. ⌜ r ≡ withoutLowest word ⌝ }
 {
-    hash_parts::zero_bytes::without_lowest_mark(marks)
+    hash_parts::zero_bytes::without_lowest_mark(word)
 }
 
 fn expiry_of(on: bool, secs: u64, nanos: u32) -> SegmentExpiry

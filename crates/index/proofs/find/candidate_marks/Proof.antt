@@ -4,7 +4,7 @@ use Prim.Native.Nat.{ℕ}
 use borrow.Author.Needs.{needs}
 use lib.ListN.{getD}
 use Rattle.hash_parts.specs.ZeroBytes.{marks}
-use Rattle.index.specs.Find.{fromOn, tagged}
+use Rattle.index.specs.FindSteps.{fromOn, tagged}
 use Rattle.index.proofs.find.candidate_marks.Statement.{statement}
 use Rattle.index.proofs.find.candidate_marks.Tie as tie
 

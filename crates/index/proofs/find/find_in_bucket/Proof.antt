@@ -1,17 +1,17 @@
 -- `find_in_bucket` meets its contract: the candidates left say what the bucket's slots say. Assumes nothing.
 use mathlib.Core.Path.{_≡_, sym, ap, ap₂, _∙_}
 use mathlib.Core.Logic.{⊎-elim}
-use Prim.Native.Nat.{ℕ, _+_, _*_, _-_, _/_, _<_}
+use Prim.Native.Nat.{ℕ, _+_, _*_, _<_}
 use native.Mathlib.Omega.{arith}
-use lib.Bits.{and-le-r}
-use lib.Count.{trailingZeros}
 use borrow.Author.Needs.{needs}
-use Rattle.index.specs.Find.{look, stepOf}
+use Rattle.hash_parts.specs.ZeroBytes.{lowestSet}
+use Rattle.index.specs.Find.{look}
+use Rattle.index.specs.FindSteps.{stepOf}
 use Rattle.index.specs.Slot.{keptTag}
 use Rattle.index.specs.View.{recordIn}
 use Rattle.index.specs.declared.find.FindStep.the-variants.{Next}
 use Rattle.index.specs.declared.slot.IndexSlot.{IndexSlot}
-use Rattle.index.proofs.Sweeps.{Visiting, says, searched, visiting-begins, visiting-below, visiting-hit, visiting-on, visiting-ends, bucket-step, bucket-ends}
+use Rattle.index.proofs.Sweeps.{Visiting, says, searched, visiting-begins, visiting-below, visiting-less, visiting-hit, visiting-on, visiting-ends, bucket-step, bucket-ends}
 use Rattle.index.proofs.find.find_in_bucket.Statement.{statement}
 use Rattle.index.proofs.find.find_in_bucket.Tie as tie
 
@@ -27,7 +27,7 @@ said : (c : tie.After-find-in-slot Inv-loop μ-loop)
     → let l = c .before .before .before .before in
     let a = l .before .before .before .before .before .before .before .before .args in
     c .find-in-slot .result
-    ≡ says (recordIn (a .view) (a .arena .now) (a .starts .now) (a .lengths .now)) (a .arena .now) (a .key .now) (a .packed) (a .tag) (a .buckets) (a .index .now) (a .bucket) (trailingZeros 64 (l .loop .candidates) / 8)
+    ≡ says (recordIn (a .view) (a .arena .now) (a .starts .now) (a .lengths .now)) (a .arena .now) (a .key .now) (a .packed) (a .tag) (a .buckets) (a .index .now) (a .bucket) (lowestSet (l .loop .candidates))
 said c =
     let l = c .before .before .before .before in
     let a = l .before .before .before .before .before .before .before .before .args in
@@ -89,8 +89,9 @@ without-lowest-mark-requires c κs = tt
 
 loop-less : tie.Need-loop-less Inv-loop μ-loop
 loop-less c =
-    let m : ℕ = c .before .before .before .before .before .before .before .loop .candidates in
-    omega (arith, c .without-lowest-mark .ensures, and-le-r m (m - 1))
+    let l = c .before .before .before .before .before .before .before in
+    let some : 0 < l .loop .candidates = omega arith in
+    omega (arith, c .without-lowest-mark .ensures, visiting-less (l .loop .inv) some)
 
 loop-again : tie.Need-loop-again Inv-loop μ-loop
 loop-again c =

@@ -4,7 +4,7 @@ use mathlib.Core.List.{map}
 use Prim.Native.Nat.{ℕ, _+_, _*_, _-_, _≤_}
 use native.Mathlib.Omega.{arith}
 use lib.ListN.{take, drop}
-use Rattle.index.specs.Find.{passedOver}
+use Rattle.index.specs.FindSteps.{passedOver}
 use Rattle.index.specs.Slot.{wordSlot}
 use Rattle.index.proofs.Candidates.{passedFrom, passed-begins, passed-ends, passed-empty, passed-own, passed-other}
 use Rattle.index.proofs.find.passed_over.Statement.{statement}

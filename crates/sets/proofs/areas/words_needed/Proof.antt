@@ -1,10 +1,9 @@
 -- `words_needed` meets its contract. Assumes nothing.
 use mathlib.Core.Path.{_≡_}
-use Prim.Native.Nat.{_+_, _-_, _*_}
+use Prim.Native.Nat.{_*_}
 use native.Mathlib.Omega.{arith}
-use native.Mathlib.Nat.{div-le-self}
 use borrow.Author.Needs.{needs}
-use Rattle.index.specs.Build.{bucketsFor}
+use Rattle.index.proofs.Buckets.{buckets-few}
 use Rattle.sets.proofs.areas.words_needed.Statement.{statement}
 use Rattle.sets.proofs.areas.words_needed.Tie as tie
 
@@ -12,10 +11,9 @@ bucket-count-requires : tie.Need-bucket-count-requires
 bucket-count-requires c κs = search needs
 
 mul-t4 : tie.Need-mul-t4
-unfolding bucketsFor
 mul-t4 c =
     let a = c .before .args in
-    omega (arith, c .bucket-count .ensures, c .before .pre .1, div-le-self (a .entry-count + (a .config .«target_occupied_slots» - 1)) (a .config .«target_occupied_slots»))
+    omega (arith, c .bucket-count .ensures, c .before .pre .1, buckets-few (a .entry-count) (a .config .«target_occupied_slots»))
 
 filter-words-for-requires : tie.Need-filter-words-for-requires
 filter-words-for-requires c κs = search needs
