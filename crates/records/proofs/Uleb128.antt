@@ -1,6 +1,7 @@
--- Laws of unsigned LEB128: the two equations of the writer, how long it writes, and that the standard's reader reads what it wrote.
+-- Laws of unsigned LEB128: the two equations of the writer, how long it writes, that the standard's reader reads what it wrote, and that nothing else
+-- as short reads as that number.
 -- Assumes nothing.
-use mathlib.Core.Path.{_≡_, refl, sym, ap, _∙_}
+use mathlib.Core.Path.{_≡_, refl, sym, ap, ap₂, _∙_, subst₂}
 use mathlib.Core.Bool.{Bool, true, false}
 use mathlib.Core.List.{List, [], _∷_, _++_}
 use Prim.Native.Nat.{ℕ, zero, suc, _+_, _*_, _/_, _%_, _^_, _≤_, _<_}
@@ -9,8 +10,9 @@ use native.Mathlib.Decide.{le-ind, decLe}
 use native.Mathlib.Omega.{arith}
 use borrow.Author.Tests.{lt-ltb, le-ltb}
 use lib.Dec.{ltb, lit<}
-use lib.ListN.{length}
+use lib.ListN.{length, take}
 use Rattle.hash_parts.specs.Choice.{pick}
+use Rattle.hash_parts.proofs.Bytes.{Bytes, one-byte}
 use Rattle.records.specs.Uleb128.{ulebIn, uleb128, Decoded, decoded, unended, continued, decode}
 
 -- ---- the writer
@@ -104,3 +106,70 @@ decode-inside (b ∷ s) v n e = go (ltb b 128) refl e (decode s) refl (decode-in
         let k : suc m ≡ n = cc in
         let j = i w m r in
         (omega arith, omega arith, λ post. ap (continued b) (j .2 post ∙ sym r) ∙ f)
+
+-- ---- the other direction: of all bytes that the reader takes for a number the writer's are the fewest, and no others are as few
+
+-- what holds of a last byte, and of a byte more, holds of all that the reader takes
+decode-ind : (P : List ℕ → ℕ → ℕ → Type 0)
+    → ((b : ℕ) (s : List ℕ) → b < 128 → P (b ∷ s) b 1)
+    → ((b : ℕ) (s : List ℕ) (v n : ℕ) → 128 ≤ b → decode s ≡ decoded v n → P s v n → P (b ∷ s) (b % 128 + 128 * v) (suc n))
+    → (s : List ℕ) (v n : ℕ) → decode s ≡ decoded v n → P s v n
+unfolding decode
+decode-ind P last next [] v n e = absurd (let z : _≡_ {A = ℕ} 0 1 = cc in omega arith)
+decode-ind P last next (b ∷ s) v n e =
+    elim (decLe 128 b) as (λ _. P (b ∷ s) v n) [
+      | yes l ↦ go l (decode-ind P last next s) (decode s) refl (sym (decode-next b s l) ∙ e)
+      | no k ↦
+          let h : b < 128 = omega arith in
+          let f : decoded b 1 ≡ decoded v n = sym (decode-last b s h) ∙ e in
+          let x : b ≡ v = cc in
+          let y : 1 ≡ n = cc in
+          subst₂ (P (b ∷ s)) x y (last b s h)
+    ]
+  where
+    go : 128 ≤ b → ((w m : ℕ) → decode s ≡ decoded w m → P s w m) → (d : Decoded) → decode s ≡ d → continued b d ≡ decoded v n → P (b ∷ s) v n
+    go l i unended q f = absurd (let z : _≡_ {A = ℕ} 0 1 = cc in omega arith)
+    go l i (decoded w m) q f =
+        let x : b % 128 + 128 * w ≡ v = cc in
+        let y : suc m ≡ n = cc in
+        subst₂ (P (b ∷ s)) x y (next b s w m l q (i w m q))
+
+-- seven bits more take at most one byte more
+leb-longer : (r v : ℕ) → r < 128 → length (uleb128 (r + 128 * v)) ≤ suc (length (uleb128 v))
+leb-longer r v h =
+    elim (decLe 128 (r + 128 * v)) as (λ _. length (uleb128 (r + 128 * v)) ≤ suc (length (uleb128 v))) [
+      | yes l ↦
+          let q : (r + 128 * v) / 128 ≡ v = omega arith in
+          rw (leb-large (r + 128 * v) l, q) (omega arith)
+      | no k ↦ let f : r + 128 * v < 128 = omega arith in rw (leb-small (r + 128 * v) f) (omega arith)
+    ]
+
+pub leb-least : (s : List ℕ) (v n : ℕ) → decode s ≡ decoded v n → length (uleb128 v) ≤ n
+leb-least =
+    decode-ind (λ s v n. length (uleb128 v) ≤ n) (λ b s h. rw (leb-small b h) (omega arith))
+    (λ b s v n l e i. omega (arith, leb-longer (b % 128) v (omega arith)))
+
+-- a number of more than one byte is written by its lowest seven bits, marked, and the rest
+leb-next : (b v : ℕ) → 128 ≤ b → b < 256 → 1 < length (uleb128 (b % 128 + 128 * v)) → uleb128 (b % 128 + 128 * v) ≡ b ∷ uleb128 v
+leb-next b v l h long =
+    elim (decLe 128 (b % 128 + 128 * v)) as (λ _. uleb128 (b % 128 + 128 * v) ≡ b ∷ uleb128 v) [
+      | yes k ↦
+          let low : (b % 128 + 128 * v) % 128 + 128 ≡ b = omega arith in
+          let rest : (b % 128 + 128 * v) / 128 ≡ v = omega arith in
+          leb-large (b % 128 + 128 * v) k ∙ ap₂ (λ (x y : ℕ). x ∷ uleb128 y) low rest
+      | no k ↦
+          let f : b % 128 + 128 * v < 128 = omega arith in
+          let one : length (uleb128 (b % 128 + 128 * v)) ≡ 1 = ap length (leb-small (b % 128 + 128 * v) f) in
+          absurd (omega arith)
+    ]
+
+pub leb-only : (s : List ℕ) (v n : ℕ) → Bytes s → decode s ≡ decoded v n → n ≡ length (uleb128 v) → take n s ≡ uleb128 v
+leb-only s v n bytes e =
+    decode-ind (λ s v n. Bytes s → n ≡ length (uleb128 v) → take n s ≡ uleb128 v) (λ b s h bytes f. sym (leb-small b h)) next s v n e bytes
+  where
+    next : (b : ℕ) (s : List ℕ) (v n : ℕ) → 128 ≤ b → decode s ≡ decoded v n → (Bytes s → n ≡ length (uleb128 v) → take n s ≡ uleb128 v)
+        → Bytes (b ∷ s) → suc n ≡ length (uleb128 (b % 128 + 128 * v)) → take (suc n) (b ∷ s) ≡ uleb128 (b % 128 + 128 * v)
+    next b s v n l e i (one-byte h bytes) f =
+        let w : uleb128 (b % 128 + 128 * v) ≡ b ∷ uleb128 v = leb-next b v l h (omega (arith, f, decode-inside s v n e .0)) in
+        let g : n ≡ length (uleb128 v) = omega (arith, f, ap length w) in
+        ap (_∷_ b) (i bytes g) ∙ sym w
