@@ -19,7 +19,7 @@ ghost use Rattle.passage_lines.specs.Command.{closeForm, commandOf, getF
 ghost use Rattle.passage_lines.specs.Fields.{fieldsAt};
 
 // A longer line is bad.
-pub const MAX_LINE_BYTES: usize = 8_192;
+pub(crate) const MAX_LINE_BYTES: usize = 8_192;
 
 // The spans are the parts of the line that spell key and value, of length 0 for `-`.
 pub enum Command {

@@ -17,27 +17,27 @@ ghost use mathlib.Core.Path.{_≡_};
 ghost use Prim.Native.Nat.{_<_, _≤_};
 ghost use Rattle.passage_lines.specs.Fields.{bytes, fieldAt, gotBytes, gotLayout, gotLifetime, gotNumber, gotTick, layout, lifetime, number, tickLength};
 
-pub enum NumberField {
+pub(crate) enum NumberField {
     Value(u64, usize),
     Bad,
 }
 
-pub enum BytesField {
+pub(crate) enum BytesField {
     Spelled(Span, usize),
     Bad,
 }
 
-pub enum LayoutField {
+pub(crate) enum LayoutField {
     Packed(bool, usize),
     Bad,
 }
 
-pub enum TickField {
+pub(crate) enum TickField {
     Of(SegmentExpiry, usize),
     Bad,
 }
 
-pub enum LifetimeField {
+pub(crate) enum LifetimeField {
     Of(Lifetime, usize),
     Bad,
 }

@@ -17,7 +17,7 @@ pub enum DecodeAnswer {
 }
 
 // Whether a text is an even number of digits.
-pub fn is_hex(text: &[u8]) -> bool
+fn is_hex(text: &[u8]) -> bool
     ensures { λ r. ⌜ r ≡ isHex (now (text .entry)) ⌝ }
 {
     let mut i = 0;

@@ -2,9 +2,9 @@
 // writing the lines of its output.
 mod bytes;
 pub mod command;
-pub mod fields;
+mod fields;
 pub mod hex;
 pub mod input;
 pub mod output;
 pub mod reply;
-pub mod text;
+mod text;

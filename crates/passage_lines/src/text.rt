@@ -7,28 +7,28 @@ ghost use mathlib.Core.Path.{_≡_};
 ghost use Prim.Native.Nat.{_≤_, _<_};
 ghost use Rattle.passage_lines.specs.Text.{digitOf, durationGiven, durationOf, layoutGiven, layoutOf, lifetimeGiven, lifetimeOf, numberGiven, numberIn, tickLengthGiven, tickLengthOf};
 
-pub enum Number {
+pub(crate) enum Number {
     Value(u64),
     Bad,
 }
 
-pub enum DurationText {
+pub(crate) enum DurationText {
     Of(Duration),
     Bad,
 }
 
 // Whether the layout is packed.
-pub enum LayoutText {
+pub(crate) enum LayoutText {
     Packed(bool),
     Bad,
 }
 
-pub enum TickLength {
+pub(crate) enum TickLength {
     Of(SegmentExpiry),
     Bad,
 }
 
-pub enum LifetimeText {
+pub(crate) enum LifetimeText {
     Of(Lifetime),
     Bad,
 }
