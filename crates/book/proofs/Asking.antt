@@ -28,7 +28,7 @@ use Rattle.index.proofs.Kept.{marked-indexed, unmarked-indexed, control-marked-
 use Rattle.index.proofs.Lookups.{find-nothing, find-found}
 use Rattle.index.proofs.Table.{only}
 use Rattle.sets.specs.Answers.{accept}
-use Rattle.sets.specs.Lookup.{areasHoldLookup, viewOf, findOf, lookupOf, slotMarked, slotCleared, liveValue, liveMarked, Got, gotten, afterGet, takenOf, afterTake}
+use Rattle.sets.specs.Lookup.{areasHoldLookup, viewOf, findOf, slotMarked, slotCleared, liveValue, liveMarked, Got, gotten, afterGet, takenOf, afterTake}
 use Rattle.sets.proofs.Closure.{set-index-holds, get-asks, take-asks, get-passes, take-passes}
 use Rattle.sets.proofs.ReadInside.{read-inside}
 use Rattle.book.specs.Book.{Entry, ListedSet, firstOf, ruled}
@@ -79,7 +79,7 @@ module _ (H : List ℕ → ℕ) (x : SegmentExpiry) (arena : List ℕ) (top : �
       ∙ ap (ruled tick) (sym (first-is key (l .list)))
     where
       go : (m : List Entry) → only (keyed storedOf key) (l .list) ≡ m
-          → answerOf arena (gotten tick (s .cache .config .«packed_bucket_index») (s .areas .index) (lookupOf (foundIn arena s key h)) .answer) ≡ ruled tick (head? (only (keyed storedOf key) (l .list)))
+          → answerOf arena (gotten tick (s .cache .config .«packed_bucket_index») (s .areas .index) (foundIn arena s key h) .answer) ≡ ruled tick (head? (only (keyed storedOf key) (l .list)))
       go [] e =
           let f = find-nothing (viewOf (s .cache)) (s .areas .index) (s .cache .buckets) (s .areas .starts) (s .areas .lengths) arena (ok .index) long (λ m d y. y) key h hash bound e in
           rw (f, e)
@@ -139,7 +139,7 @@ module _ (H : List ℕ → ℕ) (x : SegmentExpiry) (arena : List ℕ) (top : �
             (s .cache .config .«packed_bucket_index») f (ok .index)
         live y f false = ok .index
 
-        go : (a : FindAnswer) → foundIn arena s key h ≡ a → Same (gotten tick (s .cache .config .«packed_bucket_index») (s .areas .index) (lookupOf a) .index)
+        go : (a : FindAnswer) → foundIn arena s key h ≡ a → Same (gotten tick (s .cache .config .«packed_bucket_index») (s .areas .index) a .index)
         go find.Nothing f = ok .index
         go (find.Found y) f = live y f (livesAt (y .entry .«expires_at») tick)
 
@@ -148,7 +148,7 @@ module _ (H : List ℕ → ℕ) (x : SegmentExpiry) (arena : List ℕ) (top : �
         reindexed _ (take-passes (s .cache) h key (s .areas .index) (s .areas .filter) (s .areas .starts) (s .areas .lengths) arena ∙ ok .passes)
         (rw (take-asks (s .cache) h key (s .areas .index) (s .areas .filter) (s .areas .starts) (s .areas .lengths) arena (ok .passes)) (go (foundIn arena s key h) refl))
       where
-        go : (a : FindAnswer) → foundIn arena s key h ≡ a → Same (takenOf (s .cache .config .«packed_bucket_index») (s .areas .index) (lookupOf a) .index)
+        go : (a : FindAnswer) → foundIn arena s key h ≡ a → Same (takenOf (s .cache .config .«packed_bucket_index») (s .areas .index) a .index)
         go find.Nothing f = ok .index
         go (find.Found y) f =
             slot-cleared (viewOf (s .cache)) (s .areas .index) (s .cache .buckets) (s .areas .filter) (s .cache .«filter_words») (s .areas .starts) (s .areas .lengths) arena key h y bound

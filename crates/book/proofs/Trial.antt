@@ -206,7 +206,7 @@ unfolding run by-book accepted ofFirst rebuildRun rebuildBook rebuildAccepted re
     view.inSegment view.recordIn
     walk.bucketsOf walk.upFrom
     builds.builderFits builds.areasHoldBuilder builds.afterOpen builds.askPush builds.pushAt builds.afterPush builds.askFinish builds.afterFinish
-    asks.setFits asks.areasHoldSet asks.areasHoldLookup asks.lookupIn asks.slotMarked asks.slotCleared asks.slotAccessed asks.liveValue asks.liveMarked asks.afterGet asks.afterTake
+    asks.setFits asks.areasHoldSet asks.areasHoldLookup asks.askLookup asks.slotMarked asks.slotCleared asks.slotAccessed asks.liveValue asks.liveMarked asks.afterGet asks.afterTake
     kept.bitsOf kept.keptFlags kept.isKept kept.retained kept.newNumber kept.keptCount kept.flagWord kept.chosen
     rebuilds.segmentsInside rebuilds.areasHoldSource rebuilds.rebuildFits rebuilds.areasHoldRebuild rebuilds.askRebuildOpen rebuilds.afterRebuildOpen rebuilds.holdsRecord rebuilds.askReused rebuilds.afterReused rebuilds.askCopied rebuilds.afterCopied rebuilds.askRebuildFinish rebuilds.addsSegment rebuilds.sumOf rebuilds.afterRebuildFinish
     questions.nanosecondsFit questions.lifetimeFits questions.occupancyFits questions.tickRuns questions.settingFits questions.countsFit questions.arenaHolds questions.segmentAreasHold questions.targetFits questions.scratchHolds questions.openAreasHold questions.askOpen

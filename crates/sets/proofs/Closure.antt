@@ -12,7 +12,6 @@ use Rattle.hash_parts.specs.Choice.{pick}
 use Rattle.hash_parts.specs.Duration.{livesAt}
 use Rattle.hash_parts.specs.Hash.{firstBucket}
 use Rattle.hash_parts.specs.declared.duration.Lifetime.{Lifetime}
-use Rattle.hash_parts.specs.declared.error.SegmentCacheBuildError.the-variants.{InvalidState}
 use Rattle.hash_parts.specs.declared.setting.SegmentCacheConfig.{SegmentCacheConfig}
 use Rattle.hash_parts.specs.declared.setting.SegmentExpiry.{SegmentExpiry}
 use Rattle.records.specs.Area.{pasted, over}
@@ -23,6 +22,8 @@ use Rattle.index.specs.Filter.{displaced, displacedMarked, filterMarked}
 use Rattle.index.specs.Packed.{packed, packedIndex, markedByte, unmarkedByte, withByte}
 use Rattle.index.specs.Segments.{splitWord, splitWords}
 use Rattle.index.specs.Word.{marked, unmarked}
+use Rattle.index.specs.declared.find.FindAnswer.{FindAnswer}
+use Rattle.index.specs.declared.find.FindAnswer.the-variants as find
 use Rattle.index.specs.declared.find.FoundRecord.{FoundRecord}
 use Rattle.index.proofs.Filling.{replaced-length}
 use Rattle.index.proofs.Filters.{marked-length}
@@ -30,12 +31,13 @@ use Rattle.index.proofs.PackedReads.{packed-length}
 use Rattle.index.proofs.Starts.{starts-first}
 use Rattle.sets.specs.Answers.{accept, Placed}
 use Rattle.sets.specs.Build.{areasHoldBuilder, builderOpened, builderGrown, deadlineFor, Opened, afterOpen, Pushed, afterPush, setOf, pushSlot, segmentStarts, Finished, afterFinish}
-use Rattle.sets.specs.Lookup.{Lookup, Found, Nothing, Refused, setFits, areasHoldSet, areasHoldLookup, findOf, lookupOf, lookupIn, slotMarked, slotCleared, liveMarked, gotten, afterGet, takenOf, afterTake}
-use Rattle.sets.specs.Questions.{all, arenaHolds, segmentAreasHold}
+use Rattle.sets.specs.Lookup.{Got, Taken, setFits, areasHoldSet, areasHoldLookup, askLookup, findOf, slotMarked, slotCleared, liveMarked, gotten, gotRefused, afterGet, takenOf, takeRefused, afterTake}
+use Rattle.sets.specs.Questions.{all, arenaHolds, decided, firstNo, segmentAreasHold}
 use Rattle.sets.specs.declared.builder.SegmentCacheBuilder.{SegmentCacheBuilder}
 use Rattle.sets.specs.declared.cache.FrozenSegmentCache.{FrozenSegmentCache}
 use Rattle.sets.proofs.Accepted.{OpenCase, open-made, open-refused, open-case, PushCase, push-made, push-refused, push-case, FinishCase, finish-made, finish-many, finish-refused, finish-case}
 use Rattle.sets.proofs.Counts.{both, BuilderFits, builder-areas-pass, set-index}
+use Rattle.sets.proofs.Decides.{decided-either}
 
 -- ---- question 1 with every area, by their lengths: index, filter, starts, lengths, arena
 
@@ -239,25 +241,29 @@ module _ (b : SegmentCacheBuilder) (target : ℕ) (index starts lengths scratch 
 module _ (s : FrozenSegmentCache) (h : ℕ) (key index filter starts lengths arena : List ℕ) where
   pub get-lengths : (tick : ℕ) → length (afterGet s h key tick index filter starts lengths arena .index) ≡ length index
   unfolding afterGet liveMarked
-  get-lengths tick = go (lookupIn s h key index filter starts lengths arena)
+  get-lengths tick =
+      decided-either (λ (g : Got). length (g .index) ≡ length index) (firstNo (askLookup s (length index) (length filter) (length starts) (length lengths) (length arena)))
+      (gotten tick (s .config .«packed_bucket_index») index (findOf s h key index filter starts lengths arena)) (gotRefused index)
+      (go (findOf s h key index filter starts lengths arena)) (λ n. refl)
     where
       live : (b : Bool) (y : FoundRecord) → length (pick b (slotMarked (s .config .«packed_bucket_index») index (y .slot)) index) ≡ length index
       live true y = slot-marked-length (s .config .«packed_bucket_index») index (y .slot)
       live false y = refl
 
-      go : (a : Lookup) → length (gotten tick (s .config .«packed_bucket_index») index a .index) ≡ length index
-      go (Found y) = live (livesAt (y .entry .«expires_at») tick) y
-      go Nothing = refl
-      go (Refused e) = refl
+      go : (a : FindAnswer) → length (gotten tick (s .config .«packed_bucket_index») index a .index) ≡ length index
+      go (find.Found y) = live (livesAt (y .entry .«expires_at») tick) y
+      go find.Nothing = refl
 
   pub take-lengths : length (afterTake s h key index filter starts lengths arena .index) ≡ length index
   unfolding afterTake
-  take-lengths = go (lookupIn s h key index filter starts lengths arena)
+  take-lengths =
+      decided-either (λ (t : Taken). length (t .index) ≡ length index) (firstNo (askLookup s (length index) (length filter) (length starts) (length lengths) (length arena)))
+      (takenOf (s .config .«packed_bucket_index») index (findOf s h key index filter starts lengths arena)) (takeRefused index)
+      (go (findOf s h key index filter starts lengths arena)) (λ n. refl)
     where
-      go : (a : Lookup) → length (takenOf (s .config .«packed_bucket_index») index a .index) ≡ length index
-      go (Found y) = slot-cleared-length (s .config .«packed_bucket_index») index (y .slot)
-      go Nothing = refl
-      go (Refused e) = refl
+      go : (a : FindAnswer) → length (takenOf (s .config .«packed_bucket_index») index a .index) ≡ length index
+      go (find.Found y) = slot-cleared-length (s .config .«packed_bucket_index») index (y .slot)
+      go find.Nothing = refl
 
   -- so a set that passes question 1 passes it after them
   pub get-passes : (tick : ℕ)
@@ -289,16 +295,16 @@ set-index-holds s index filter starts lengths arena e = set-index s index starts
 -- a lookup and a mark clearing go on to the find
 module _ (s : FrozenSegmentCache) (h : ℕ) (key index filter starts lengths arena : List ℕ)
     (passes : areasHoldLookup s (length index) (length filter) (length starts) (length lengths) (length arena) ≡ true) where
-  lookup-asks : lookupIn s h key index filter starts lengths arena ≡ lookupOf (findOf s h key index filter starts lengths arena)
-  unfolding lookupIn
-  lookup-asks = ap (λ (t : Bool). pick t (lookupOf (findOf s h key index filter starts lengths arena)) (Refused InvalidState)) passes
+  lookup-asked : firstNo (askLookup s (length index) (length filter) (length starts) (length lengths) (length arena)) ≡ 0
+  unfolding askLookup
+  lookup-asked = rw passes
 
   pub get-asks : (tick : ℕ) → afterGet s h key tick index filter starts lengths arena
-      ≡ gotten tick (s .config .«packed_bucket_index») index (lookupOf (findOf s h key index filter starts lengths arena))
+      ≡ gotten tick (s .config .«packed_bucket_index») index (findOf s h key index filter starts lengths arena)
   unfolding afterGet
-  get-asks tick = ap (gotten tick (s .config .«packed_bucket_index») index) lookup-asks
+  get-asks tick = ap (λ (n : ℕ). decided n (gotten tick (s .config .«packed_bucket_index») index (findOf s h key index filter starts lengths arena)) (gotRefused index)) lookup-asked
 
   pub take-asks : afterTake s h key index filter starts lengths arena
-      ≡ takenOf (s .config .«packed_bucket_index») index (lookupOf (findOf s h key index filter starts lengths arena))
+      ≡ takenOf (s .config .«packed_bucket_index») index (findOf s h key index filter starts lengths arena)
   unfolding afterTake
-  take-asks = ap (takenOf (s .config .«packed_bucket_index») index) lookup-asks
+  take-asks = ap (λ (n : ℕ). decided n (takenOf (s .config .«packed_bucket_index») index (findOf s h key index filter starts lengths arena)) (takeRefused index)) lookup-asked

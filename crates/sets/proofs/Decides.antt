@@ -33,6 +33,11 @@ module _ {A : Type 0} where
   pub decided-own : (n : ℕ) (x : A) (f : ℕ → A) → decided (pick (eqb n 0) 0 n) x f ≡ decided n x f
   decided-own n x f = ap (λ (m : ℕ). decided m x f) (own-number n)
 
+  -- what holds of an accepted call and of every refusal holds of the call
+  pub decided-either : (P : A → Type 0) (n : ℕ) (x : A) (f : ℕ → A) → P x → ((m : ℕ) → P (f m)) → P (decided n x f)
+  decided-either P zero x f holds refused = holds
+  decided-either P (suc n) x f holds refused = refused (suc n)
+
 -- ---- a plan
 
 module _ {A : Type 0} where

@@ -1,5 +1,5 @@
--- The answers of a finished set: lookup, peek, mark clearing, probe, the step of the walk, statistics.
--- Assumes nothing.
+-- The calls on a finished set: lookup, peek, mark clearing, probe, the step of the walk, statistics. Each by the questions that it asks, in document
+-- 01's order, and by what it leaves. Assumes nothing.
 use mathlib.Core.Bool.{Bool, false}
 use mathlib.Core.List.{List, [], _∷_}
 use mathlib.Core.Option.{Option, none, some}
@@ -8,10 +8,7 @@ use lib.Dec.{leb}
 use lib.ListN.{length, getD, set}
 use Rattle.hash_parts.specs.Choice.{pick}
 use Rattle.hash_parts.specs.Duration.{livesAt, remaining}
-use Rattle.hash_parts.specs.Error.{errorNumber}
 use Rattle.hash_parts.specs.ZeroBytes.{bytesOf}
-use Rattle.hash_parts.specs.declared.error.SegmentCacheBuildError.{SegmentCacheBuildError}
-use Rattle.hash_parts.specs.declared.error.SegmentCacheBuildError.the-variants.{InvalidState}
 use Rattle.hash_parts.specs.declared.setting.SegmentCacheConfig.{SegmentCacheConfig}
 use Rattle.records.specs.declared.record.RecordAnswer.{RecordAnswer}
 use Rattle.records.specs.declared.record.RecordAnswer.the-variants.{Read, Unreadable}
@@ -27,7 +24,7 @@ use Rattle.index.specs.declared.slot.IndexSlot.{IndexSlot}
 use Rattle.index.specs.declared.slot.IndexSlot.the-variants.{Empty, Used}
 use Rattle.index.specs.declared.view.SegmentView.{SegmentView}
 use Rattle.sets.specs.Answers.{Reply, accept, refuse, getReply, takeReply}
-use Rattle.sets.specs.Questions.{all, arenaHolds, bytesFit, countsFit, segmentAreasHold}
+use Rattle.sets.specs.Questions.{all, arenaHolds, bytesFit, countsFit, decided, firstNo, segmentAreasHold}
 use Rattle.sets.specs.Stats.{statsOf}
 use Rattle.sets.specs.declared.cache.FrozenSegmentCache.{FrozenSegmentCache}
 use Rattle.sets.specs.declared.cache.GetAnswer.{GetAnswer}
@@ -54,6 +51,24 @@ unfoldable pub areasHoldSet : FrozenSegmentCache → ℕ → ℕ → ℕ → ℕ
 areasHoldSet s index starts lengths arena =
     all (setFits s ∷ leb (8 * s .buckets) index ∷ segmentAreasHold starts lengths ∷ arenaHolds (s .filled) arena ∷ [])
 
+-- and for a find its filter too
+unfoldable pub areasHoldLookup : FrozenSegmentCache → ℕ → ℕ → ℕ → ℕ → ℕ → Bool
+areasHoldLookup s index filter starts lengths arena = all (areasHoldSet s index starts lengths arena ∷ leb (s .«filter_words») filter ∷ [])
+
+-- ---- what the calls ask: "Any no: 11 (every call but open ..)", and no other question
+
+-- lookup, peek, mark clearing and probe; all areas by their lengths
+unfoldable pub askLookup : FrozenSegmentCache → ℕ → ℕ → ℕ → ℕ → ℕ → List (Bool × ℕ)
+askLookup s index filter starts lengths arena = (areasHoldLookup s index filter starts lengths arena, 11) ∷ []
+
+-- the step of the walk, which has no use for the filter
+unfoldable pub askWalk : FrozenSegmentCache → ℕ → ℕ → ℕ → ℕ → List (Bool × ℕ)
+askWalk s index starts lengths arena = (areasHoldSet s index starts lengths arena, 11) ∷ []
+
+-- statistics, to which no area is lent
+unfoldable pub askStats : FrozenSegmentCache → List (Bool × ℕ)
+askStats s = (setFits s, 11) ∷ []
+
 -- ---- finding
 
 abbrev pub viewOf : FrozenSegmentCache → SegmentView
@@ -63,27 +78,6 @@ viewOf s = record { expiry = s .config .expiry; filled = s .filled; segments = s
 abbrev pub findOf : FrozenSegmentCache → ℕ → List ℕ → List ℕ → List ℕ → List ℕ → List ℕ → List ℕ → FindAnswer
 findOf s h key index filter starts lengths arena =
     findIn (viewOf s) (s .config .«packed_bucket_index») index (s .buckets) filter (s .«filter_words») starts lengths arena key h
-
--- what a call on a key comes to: its record, none, or the refusal of question 1
-pub data Lookup : Type 0 where
-  Found : FoundRecord → Lookup
-  Nothing : Lookup
-  Refused : SegmentCacheBuildError → Lookup
-
-abbrev pub lookupOf : FindAnswer → Lookup
-lookupOf (find.Found y) = Found y
-lookupOf find.Nothing = Nothing
-
--- question 1 with the filter
-unfoldable pub areasHoldLookup : FrozenSegmentCache → ℕ → ℕ → ℕ → ℕ → ℕ → Bool
-areasHoldLookup s index filter starts lengths arena = all (areasHoldSet s index starts lengths arena ∷ leb (s .«filter_words») filter ∷ [])
-
--- and the find
-unfoldable pub lookupIn : FrozenSegmentCache → ℕ → List ℕ → List ℕ → List ℕ → List ℕ → List ℕ → List ℕ → Lookup
-lookupIn s h key index filter starts lengths arena =
-    pick (areasHoldLookup s (length index) (length filter) (length starts) (length lengths) (length arena))
-    (lookupOf (findOf s h key index filter starts lengths arena))
-    (Refused InvalidState)
 
 -- ---- marks: bit 63 of a slot's word, or the top bit of its control byte
 
@@ -114,16 +108,20 @@ pub record Got : Type 0 where
 abbrev pub getResult : GetAnswer → List ℕ → Got
 getResult r index = record { answer = getReply r; index = index }
 
-abbrev pub gotten : ℕ → Bool → List ℕ → Lookup → Got
-gotten tick packed index (Found y) = record { answer = liveValue tick y; index = liveMarked tick packed index y }
-gotten tick packed index Nothing = record { answer = accept none; index = index }
-gotten tick packed index (Refused e) = record { answer = refuse (errorNumber e) tt; index = index }
+abbrev pub gotten : ℕ → Bool → List ℕ → FindAnswer → Got
+gotten tick packed index (find.Found y) = record { answer = liveValue tick y; index = liveMarked tick packed index y }
+gotten tick packed index find.Nothing = record { answer = accept none; index = index }
+
+abbrev pub gotRefused : List ℕ → ℕ → Got
+gotRefused index n = record { answer = refuse n tt; index = index }
 
 unfoldable pub afterGet : FrozenSegmentCache → ℕ → List ℕ → ℕ → List ℕ → List ℕ → List ℕ → List ℕ → List ℕ → Got
 afterGet s h key tick index filter starts lengths arena =
-    gotten tick (s .config .«packed_bucket_index») index (lookupIn s h key index filter starts lengths arena)
+    decided (firstNo (askLookup s (length index) (length filter) (length starts) (length lengths) (length arena)))
+    (gotten tick (s .config .«packed_bucket_index») index (findOf s h key index filter starts lengths arena))
+    (gotRefused index)
 
--- ---- peek: the same answer, and no mark
+-- ---- peek: the same questions and the same answer, and no mark
 
 unfoldable pub afterPeek : FrozenSegmentCache → ℕ → List ℕ → ℕ → List ℕ → List ℕ → List ℕ → List ℕ → List ℕ → Got
 afterPeek s h key tick index filter starts lengths arena =
@@ -138,16 +136,20 @@ pub record Taken : Type 0 where
 abbrev pub takeResult : TakeAnswer → List ℕ → Taken
 takeResult r index = record { answer = takeReply r; index = index }
 
-abbrev pub takenOf : Bool → List ℕ → Lookup → Taken
-takenOf packed index (Found y) = record { answer = accept (slotAccessed packed index (y .slot)); index = slotCleared packed index (y .slot) }
-takenOf packed index Nothing = record { answer = accept false; index = index }
-takenOf packed index (Refused e) = record { answer = refuse (errorNumber e) tt; index = index }
+abbrev pub takenOf : Bool → List ℕ → FindAnswer → Taken
+takenOf packed index (find.Found y) = record { answer = accept (slotAccessed packed index (y .slot)); index = slotCleared packed index (y .slot) }
+takenOf packed index find.Nothing = record { answer = accept false; index = index }
+
+abbrev pub takeRefused : List ℕ → ℕ → Taken
+takeRefused index n = record { answer = refuse n tt; index = index }
 
 unfoldable pub afterTake : FrozenSegmentCache → ℕ → List ℕ → List ℕ → List ℕ → List ℕ → List ℕ → List ℕ → Taken
 afterTake s h key index filter starts lengths arena =
-    takenOf (s .config .«packed_bucket_index») index (lookupIn s h key index filter starts lengths arena)
+    decided (firstNo (askLookup s (length index) (length filter) (length starts) (length lengths) (length arena)))
+    (takenOf (s .config .«packed_bucket_index») index (findOf s h key index filter starts lengths arena))
+    (takeRefused index)
 
--- ---- probe: "Probe and walk (slots ascending) tell the remaining time"
+-- ---- probe and walk: "Probe and walk (slots ascending) tell the remaining time"
 
 abbrev pub baseRecord : SegmentCacheConfig → ℕ → FoundRecord → SegmentBaseRecord
 baseRecord c tick y =
@@ -160,13 +162,16 @@ baseRecord c tick y =
       «remaining_ttl» = remaining (c .expiry) (y .entry .«expires_at») tick;
     }
 
-abbrev pub probed : SegmentCacheConfig → ℕ → Lookup → Reply (Option SegmentBaseRecord) (Unit {0})
-probed c tick (Found y) = accept (some (baseRecord c tick y))
-probed c tick Nothing = accept none
-probed c tick (Refused e) = refuse (errorNumber e) tt
+-- both tell of a find the record that it found
+abbrev pub tellFound : SegmentCacheConfig → ℕ → FindAnswer → Option SegmentBaseRecord
+tellFound c tick (find.Found y) = some (baseRecord c tick y)
+tellFound c tick find.Nothing = none
 
 unfoldable pub probeAnswer : FrozenSegmentCache → ℕ → List ℕ → ℕ → List ℕ → List ℕ → List ℕ → List ℕ → List ℕ → Reply (Option SegmentBaseRecord) (Unit {0})
-probeAnswer s h key tick index filter starts lengths arena = probed (s .config) tick (lookupIn s h key index filter starts lengths arena)
+probeAnswer s h key tick index filter starts lengths arena =
+    decided (firstNo (askLookup s (length index) (length filter) (length starts) (length lengths) (length arena)))
+    (accept (tellFound (s .config) tick (findOf s h key index filter starts lengths arena)))
+    (λ n. refuse n tt)
 
 -- ---- the walk: the first slot from one on that names a readable record; no tag is compared
 
@@ -190,17 +195,13 @@ firstEntry at slot (suc n) = foundOr slot (at slot) (firstEntry at (suc slot) n)
 unfoldable pub nextEntry : (ℕ → RecordAnswer) → Bool → ℕ → List ℕ → ℕ → FindAnswer
 nextEntry read packed buckets index from = firstEntry (entryAt read packed buckets index) from (8 * buckets - from)
 
-abbrev pub walkedTo : SegmentCacheConfig → ℕ → FindAnswer → Reply (Option SegmentBaseRecord) (Unit {0})
-walkedTo c tick (find.Found y) = accept (some (baseRecord c tick y))
-walkedTo c tick find.Nothing = accept none
-
 unfoldable pub walkAnswer : FrozenSegmentCache → ℕ → ℕ → List ℕ → List ℕ → List ℕ → List ℕ → Reply (Option SegmentBaseRecord) (Unit {0})
 walkAnswer s from tick index starts lengths arena =
-    pick (areasHoldSet s (length index) (length starts) (length lengths) (length arena))
-    (walkedTo (s .config) tick (nextEntry (recordIn (viewOf s) arena starts lengths) (s .config .«packed_bucket_index») (s .buckets) index from))
-    (refuse 11 tt)
+    decided (firstNo (askWalk s (length index) (length starts) (length lengths) (length arena)))
+    (accept (tellFound (s .config) tick (nextEntry (recordIn (viewOf s) arena starts lengths) (s .config .«packed_bucket_index») (s .buckets) index from)))
+    (λ n. refuse n tt)
 
 -- ---- statistics
 
 unfoldable pub statsAnswer : FrozenSegmentCache → Reply SegmentCacheStats (Unit {0})
-statsAnswer s = pick (setFits s) (accept (statsOf s)) (refuse 11 tt)
+statsAnswer s = decided (firstNo (askStats s)) (accept (statsOf s)) (λ n. refuse n tt)

@@ -183,7 +183,7 @@ impl FrozenSegmentCache {
         lengths: &[u64],
         arena: &[u8],
     ) -> ProbeAnswer
-        ensures { λ r. ⌜ probeReply r ≡ probeAnswer self hash (now (key .entry)) «now_tick» (now (index .entry)) (now (filter .entry)) (now (starts .entry)) (now (lengths .entry)) (now (arena .entry)) ⌝ }
+        ensures { λ r. ⌜ (probeReply r ≡ probeAnswer self hash (now (key .entry)) «now_tick» (now (index .entry)) (now (filter .entry)) (now (starts .entry)) (now (lengths .entry)) (now (arena .entry))) × (now (index .exit) ≡ now (index .entry)) ⌝ }
     {
         if !self.lookup_areas_hold(
             index.len(),
@@ -202,7 +202,7 @@ impl FrozenSegmentCache {
     }
 
     // A step of the walk over all records: the first from a slot on. The walk goes on from the
-    // slot after the one answered.
+    // slot after the one answered. No mark is set.
     pub fn next_physical_entry_at_tick(
         self,
         from: usize,
@@ -212,7 +212,7 @@ impl FrozenSegmentCache {
         lengths: &[u64],
         arena: &[u8],
     ) -> WalkAnswer
-        ensures { λ r. ⌜ walkReply r ≡ walkAnswer self from «now_tick» (now (index .entry)) (now (starts .entry)) (now (lengths .entry)) (now (arena .entry)) ⌝ }
+        ensures { λ r. ⌜ (walkReply r ≡ walkAnswer self from «now_tick» (now (index .entry)) (now (starts .entry)) (now (lengths .entry)) (now (arena .entry))) × (now (index .exit) ≡ now (index .entry)) ⌝ }
     {
         if !self.areas_hold(index.len(), starts.len(), lengths.len(), arena.len()) {
             return WalkAnswer::Refused(SegmentCacheBuildError::InvalidState);

@@ -34,7 +34,7 @@ same-length c = search needs
 
 returns-3 : tie.Need-returns-3
 unfolding exportedWalk
-returns-3 c = rw (eq-eqb _ _ (c .before .before .before .before .before .before .before .before .before .if1 .left), sym (c .before .before .before .before .before .before .before .before .load-set .ensures) ∙ c .before .before .before .before .before .before .state .given .1, sym (c .before .before .before .before .next-physical-entry-at-tick .ensures), sym (c .before .before .tell-walk .ensures))
+returns-3 c = rw (eq-eqb _ _ (c .before .before .before .before .before .before .before .before .before .if1 .left), sym (c .before .before .before .before .before .before .before .before .load-set .ensures) ∙ c .before .before .before .before .before .before .state .given .1, sym (c .before .before .before .before .next-physical-entry-at-tick .ensures .0), sym (c .before .before .tell-walk .ensures))
 
 pub segment-cache-next-entry-spec : {M : Type 1} → statement M
 segment-cache-next-entry-spec =

@@ -1,7 +1,7 @@
 -- `get_at_tick` meets its contract. Assumes nothing.
 use mathlib.Core.Path.{sym, _∙_}
 use Rattle.sets.proofs.Said.{said-no, said-yes}
-use Rattle.sets.specs.Lookup.{afterGet, lookupIn}
+use Rattle.sets.specs.Lookup.{afterGet, askLookup}
 use Rattle.sets.proofs.Finding.{got, lookup-slot}
 use borrow.Author.Needs.{needs}
 use Rattle.sets.proofs.cache.FrozenSegmentCache.get_at_tick.Statement.{statement}
@@ -11,7 +11,7 @@ lookup-areas-hold-requires : tie.Need-lookup-areas-hold-requires
 lookup-areas-hold-requires c κs = search needs
 
 returns : tie.Need-returns
-unfolding afterGet lookupIn
+unfolding afterGet askLookup
 returns c = rw (said-no (c .before .lookup-areas-hold .ensures) (c .if1 .taken))
 
 find-requires : tie.Need-find-requires
@@ -27,7 +27,7 @@ same-length : tie.Need-same-length
 same-length c = search needs
 
 returns-2 : tie.Need-returns-2
-unfolding afterGet lookupIn
+unfolding afterGet askLookup
 returns-2 c = rw (said-yes (c .before .before .before .before .before .lookup-areas-hold .ensures) (c .before .before .before .before .if1 .left), sym (c .before .before .find .ensures) ∙ c .enum-told .given .1)
 
 mark-live-requires : tie.Need-mark-live-requires
@@ -45,7 +45,7 @@ same-length-2 : tie.Need-same-length-2
 same-length-2 c = search needs
 
 returns-3 : tie.Need-returns-3
-unfolding afterGet lookupIn
+unfolding afterGet askLookup
 returns-3 c = rw (said-yes (c .before .before .before .before .before .before .before .before .before .before .before .lookup-areas-hold .ensures) (c .before .before .before .before .before .before .before .before .before .before .if1 .left), sym (c .before .before .before .before .before .before .before .before .find .ensures) ∙ c .before .before .before .before .before .before .answer .given .1) (got (c .live-value .ensures) (c .before .before .before .mark-live .ensures))
 
 pub get-at-tick-spec : {M : Type 1} → statement M

@@ -1,7 +1,7 @@
 -- `peek_at_tick` meets its contract. Assumes nothing.
 use mathlib.Core.Path.{refl, sym, _∙_}
 use Rattle.sets.proofs.Said.{said-no, said-yes}
-use Rattle.sets.specs.Lookup.{afterGet, afterPeek, lookupIn}
+use Rattle.sets.specs.Lookup.{afterGet, afterPeek, askLookup}
 use Rattle.sets.proofs.Finding.{got}
 use borrow.Author.Needs.{needs}
 use Rattle.sets.proofs.cache.FrozenSegmentCache.peek_at_tick.Statement.{statement}
@@ -11,7 +11,7 @@ lookup-areas-hold-requires : tie.Need-lookup-areas-hold-requires
 lookup-areas-hold-requires c κs = search needs
 
 returns : tie.Need-returns
-unfolding afterPeek afterGet lookupIn
+unfolding afterPeek afterGet askLookup
 returns c = rw (said-no (c .before .lookup-areas-hold .ensures) (c .if1 .taken))
 
 find-requires : tie.Need-find-requires
@@ -24,14 +24,14 @@ enum-told : tie.Need-enum-told
 enum-told c = search needs
 
 returns-2 : tie.Need-returns-2
-unfolding afterPeek afterGet lookupIn
+unfolding afterPeek afterGet askLookup
 returns-2 c = rw (said-yes (c .before .before .before .before .lookup-areas-hold .ensures) (c .before .before .before .if1 .left), sym (c .before .before .find .ensures) ∙ c .enum-told .given .1)
 
 live-value-requires : tie.Need-live-value-requires
 live-value-requires c κs = search needs
 
 returns-3 : tie.Need-returns-3
-unfolding afterPeek afterGet lookupIn
+unfolding afterPeek afterGet askLookup
 returns-3 c = rw (said-yes (c .before .before .before .before .before .before .lookup-areas-hold .ensures) (c .before .before .before .before .before .if1 .left), sym (c .before .before .before .before .find .ensures) ∙ c .before .before .answer .given .1) (got (c .live-value .ensures) refl)
 
 pub peek-at-tick-spec : {M : Type 1} → statement M

@@ -1,7 +1,7 @@
 -- `probe_hashed_at_tick` meets its contract. Assumes nothing.
-use mathlib.Core.Path.{sym, _∙_}
+use mathlib.Core.Path.{refl, sym, _∙_}
 use Rattle.sets.proofs.Said.{said-no, said-yes}
-use Rattle.sets.specs.Lookup.{lookupIn, probeAnswer}
+use Rattle.sets.specs.Lookup.{askLookup, probeAnswer}
 use borrow.Author.Needs.{needs}
 use Rattle.sets.proofs.cache.FrozenSegmentCache.probe_hashed_at_tick.Statement.{statement}
 use Rattle.sets.proofs.cache.FrozenSegmentCache.probe_hashed_at_tick.Tie as tie
@@ -10,8 +10,8 @@ lookup-areas-hold-requires : tie.Need-lookup-areas-hold-requires
 lookup-areas-hold-requires c κs = search needs
 
 returns : tie.Need-returns
-unfolding probeAnswer lookupIn
-returns c = rw (said-no (c .before .lookup-areas-hold .ensures) (c .if1 .taken))
+unfolding probeAnswer askLookup
+returns c = (rw (said-no (c .before .lookup-areas-hold .ensures) (c .if1 .taken)), refl)
 
 find-requires : tie.Need-find-requires
 find-requires c κs = search needs
@@ -23,15 +23,15 @@ enum-told : tie.Need-enum-told
 enum-told c = search needs
 
 returns-2 : tie.Need-returns-2
-unfolding probeAnswer lookupIn
-returns-2 c = rw (said-yes (c .before .before .before .before .lookup-areas-hold .ensures) (c .before .before .before .if1 .left), sym (c .before .before .find .ensures) ∙ c .enum-told .given .1)
+unfolding probeAnswer askLookup
+returns-2 c = (rw (said-yes (c .before .before .before .before .lookup-areas-hold .ensures) (c .before .before .before .if1 .left), sym (c .before .before .find .ensures) ∙ c .enum-told .given .1), refl)
 
 base-record-requires : tie.Need-base-record-requires
 base-record-requires c κs = search needs
 
 returns-3 : tie.Need-returns-3
-unfolding probeAnswer lookupIn
-returns-3 c = rw (said-yes (c .before .before .before .before .before .before .lookup-areas-hold .ensures) (c .before .before .before .before .before .if1 .left), sym (c .before .before .before .before .find .ensures) ∙ c .before .before .answer .given .1, c .base-record .ensures)
+unfolding probeAnswer askLookup
+returns-3 c = (rw (said-yes (c .before .before .before .before .before .before .lookup-areas-hold .ensures) (c .before .before .before .before .before .if1 .left), sym (c .before .before .before .before .find .ensures) ∙ c .before .before .answer .given .1, c .base-record .ensures), refl)
 
 pub probe-hashed-at-tick-spec : {M : Type 1} → statement M
 probe-hashed-at-tick-spec =

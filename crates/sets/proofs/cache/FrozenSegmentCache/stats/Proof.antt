@@ -3,7 +3,7 @@ use Rattle.sets.specs.declared.stats.SegmentCacheStats.{SegmentCacheStat
 use Rattle.sets.specs.Answers.{accept}
 use mathlib.Core.Path.{ap}
 use Rattle.sets.proofs.Said.{said-no, said-yes}
-use Rattle.sets.specs.Lookup.{statsAnswer}
+use Rattle.sets.specs.Lookup.{askStats, statsAnswer}
 use native.Mathlib.Omega.{arith}
 use Prim.Native.Nat.{_-_, _<_}
 use Rattle.sets.proofs.Counts.{set-counts}
@@ -16,7 +16,7 @@ fits-requires : tie.Need-fits-requires
 fits-requires c κs = search needs
 
 returns : tie.Need-returns
-unfolding statsAnswer
+unfolding statsAnswer askStats
 returns c = rw (said-no (c .before .fits2 .ensures) (c .if1 .taken))
 
 mul-t5 : tie.Need-mul-t5
@@ -46,7 +46,7 @@ add-t8 c =
     omega (arith, few-buckets (a .self .config) (a .self .entries) (a .self .buckets) (a .self .«filter_words») counts, few-words (a .self .config) (a .self .entries) (a .self .buckets) (a .self .«filter_words») counts bits)
 
 returns-2 : tie.Need-returns-2
-unfolding statsAnswer
+unfolding statsAnswer askStats
 returns-2 c =
     let a = c .before .before .before .before .before .args in
     let fits2 = c .before .before .before .before .fits2 in

@@ -1,7 +1,7 @@
 -- `take_accessed` meets its contract. Assumes nothing.
 use mathlib.Core.Path.{sym, ap, _∙_}
 use Rattle.sets.proofs.Said.{said-no, said-yes}
-use Rattle.sets.specs.Lookup.{afterTake, lookupIn}
+use Rattle.sets.specs.Lookup.{afterTake, askLookup}
 use Rattle.sets.proofs.Finding.{lookup-slot, taken}
 use mathlib.Core.Bool.{Bool}
 use Rattle.sets.specs.Answers.{accept}
@@ -13,7 +13,7 @@ lookup-areas-hold-requires : tie.Need-lookup-areas-hold-requires
 lookup-areas-hold-requires c κs = search needs
 
 returns : tie.Need-returns
-unfolding afterTake lookupIn
+unfolding afterTake askLookup
 returns c = rw (said-no (c .before .lookup-areas-hold .ensures) (c .if1 .taken))
 
 find-requires : tie.Need-find-requires
@@ -29,7 +29,7 @@ same-length : tie.Need-same-length
 same-length c = search needs
 
 returns-2 : tie.Need-returns-2
-unfolding afterTake lookupIn
+unfolding afterTake askLookup
 returns-2 c = rw (said-yes (c .before .before .before .before .before .lookup-areas-hold .ensures) (c .before .before .before .before .if1 .left), sym (c .before .before .find .ensures) ∙ c .enum-told .given .1)
 
 clear-accessed-requires : tie.Need-clear-accessed-requires
@@ -44,7 +44,7 @@ same-length-2 : tie.Need-same-length-2
 same-length-2 c = search needs
 
 returns-3 : tie.Need-returns-3
-unfolding afterTake lookupIn
+unfolding afterTake askLookup
 returns-3 c =
     let clear-accessed = c .before .before .clear-accessed in
     rw (said-yes (c .before .before .before .before .before .before .before .before .before .before .lookup-areas-hold .ensures) (c .before .before .before .before .before .before .before .before .before .if1 .left), sym (c .before .before .before .before .before .before .before .find .ensures) ∙ c .before .before .before .before .before .answer .given .1) (taken (ap (λ (x : Bool). accept x) (clear-accessed .ensures .0)) (clear-accessed .ensures .1))
