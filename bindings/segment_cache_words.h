@@ -47,8 +47,8 @@ enum segment_cache_refusal {
 
 /* ---- what each word is; builder, set and rebuild begin with the six words of their setting
 
-   The form of a setting: flags are 0 or 1, nanoseconds below 2^32, occupancy and filter bits below 256.
-   Without expiry nothing else is asked of the tick. */
+   The form of a setting: flags are 0 or 1, filter bits below 256. Nanoseconds and occupancy may be any
+   words: the calls refuse what is too much. Without expiry nothing is asked of the tick. */
 
 enum segment_cache_setting_word {
     SEGMENT_CACHE_SETTING_EXPIRY = 0, /* 0 or 1 */

@@ -19,6 +19,7 @@ pub fn orders(group: &mut Group, random: u64) {
         finishes(group, &stage);
     }
     targets(group, &mut rng);
+    settings(group);
     sizes(group, &mut rng, random / 12);
     for _ in 0..random / 6_000 {
         list_of_calls(group, &mut rng);
@@ -147,6 +148,46 @@ fn targets(group: &mut Group, rng: &mut Rng) {
                 }
             }
         }
+    }
+}
+
+// Words of a setting at the boundaries of its questions and of their width, wherever a setting is
+// lent by itself.
+fn settings(group: &mut Group) {
+    let nanos = [0, 999_999_999, 1_000_000_000, u32::MAX.into(), 1 << 32];
+    let occupied = [0, 1, 7, 8, 255, 256, 257, 1 << 32, u64::MAX];
+    for nanos in nanos.into_iter().chain([(1 << 32) + 1, u64::MAX]) {
+        for occupied in occupied {
+            for (on, packed, bits) in [(1, 1, 255), (1, 0, 256), (0, 2, 0), (2, 0, 8), (0, 0, 8)] {
+                setting_words(group, &[on, 0, nanos, occupied, packed, bits]);
+                setting_words(group, &[on, 1, nanos, occupied, packed, bits]);
+            }
+        }
+    }
+}
+
+fn setting_words(group: &mut Group, setting: &[u64]) {
+    for records in [0, 1, 8, 1_048_576, 1_048_577] {
+        let (mut ours, mut wanted) = ([UNSET; 5], [UNSET; 5]);
+        let found = port_sets::area_words(setting, records, &mut ours);
+        let number = set_model::area_words(setting, records, &mut wanted);
+        let input = || format!("{setting:?}, {records}");
+        group.rule("area_words", (found, ours), (number, wanted), input);
+    }
+    let (mut ours, mut wanted) = ([UNSET], [UNSET]);
+    let found = port_sets::encoded_record_bytes(setting, 1, 2, &mut ours);
+    let number = set_model::encoded_record_bytes(setting, 1, 2, &mut wanted);
+    let input = || format!("{setting:?}");
+    group.rule(
+        "encoded_record_bytes",
+        (found, ours),
+        (number, wanted),
+        input,
+    );
+    // A state has no words for the tick of a setting without expiry.
+    if setting[0] == 1 {
+        let world = World::new(setting, Sizes::for_counts(10, 40, 9));
+        both(group, "open", &world, &Ask::Open { records: 10 });
     }
 }
 

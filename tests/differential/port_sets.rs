@@ -66,6 +66,13 @@ unsafe extern "C" {
         stats: *mut u64,
         stats_len: usize,
     ) -> u64;
+    fn segment_cache_area_words(
+        setting: *const u64,
+        setting_len: usize,
+        records: usize,
+        words: *mut u64,
+        words_len: usize,
+    ) -> u64;
     fn segment_cache_encoded_record_bytes(
         setting: *const u64,
         setting_len: usize,
@@ -197,6 +204,18 @@ pub fn finish(
 
 pub fn stats(set: &[u64], stats: &mut [u64]) -> u64 {
     unsafe { segment_cache_stats(set.as_ptr(), set.len(), stats.as_mut_ptr(), stats.len()) }
+}
+
+pub fn area_words(setting: &[u64], records: usize, words: &mut [u64]) -> u64 {
+    unsafe {
+        segment_cache_area_words(
+            setting.as_ptr(),
+            setting.len(),
+            records,
+            words.as_mut_ptr(),
+            words.len(),
+        )
+    }
 }
 
 pub fn encoded_record_bytes(

@@ -90,17 +90,9 @@ pub fn open(
         return FORM;
     };
     let records = records as u64;
-    if !form.nanos_pass() {
-        return 9;
-    }
-    if !form.occupied_passes() {
-        return 1;
-    }
-    if !form.tick_passes() {
-        return 2;
-    }
-    if records > RECORDS_MAX {
-        return 3;
+    let refusal = form.refusal(records);
+    if refusal != 0 {
+        return refusal;
     }
     let (buckets, words) = (form.buckets(records), form.filter_words(records));
     let fit = holds(index, 8 * u128::from(buckets)) && holds(filter, words.into());
@@ -112,6 +104,21 @@ pub fn open(
     builder[..6].copy_from_slice(setting);
     builder[6..].copy_from_slice(&[records, 0, buckets, words, 0, 0, 0]);
     0
+}
+
+// Index, filter, starts, lengths, scratch.
+pub fn area_words(setting: &[u64], records: usize, words: &mut [u64]) -> u64 {
+    let Some(form) = Setting::of(setting).filter(|_| words.len() == 5) else {
+        return FORM;
+    };
+    let records = records as u64;
+    let refusal = form.refusal(records);
+    if refusal == 0 {
+        let (buckets, filter) = (form.buckets(records), form.filter_words(records));
+        let scratch = if form.packed { buckets } else { 0 };
+        words.copy_from_slice(&[8 * buckets, filter, 256, 256, scratch]);
+    }
+    refusal
 }
 
 // The empty slot for a new key, or the refusal.

@@ -22,12 +22,13 @@ pub struct Setting {
 }
 
 impl Setting {
-    // The setting in six words, if they have the form of one.
+    // The setting in six words, if they have the form of one. Nanoseconds and occupancy may be any:
+    // the questions refuse them.
     pub fn of(words: &[u64]) -> Option<Setting> {
         let &[on, secs, nanos, occupied, packed, bits] = words else {
             return None;
         };
-        let fits = on < 2 && packed < 2 && occupied < 256 && bits < 256 && nanos < 1 << 32;
+        let fits = on < 2 && packed < 2 && bits < 256;
         fits.then_some(Setting {
             on: on == 1,
             secs,
@@ -52,6 +53,20 @@ impl Setting {
 
     pub fn passes(&self) -> bool {
         self.nanos_pass() && self.occupied_passes() && self.tick_passes()
+    }
+
+    // Questions 2 and 3 up to the number of records; 0 for a pass.
+    pub fn refusal(&self, records: u64) -> u64 {
+        if !self.nanos_pass() {
+            return 9;
+        }
+        if !self.occupied_passes() {
+            return 1;
+        }
+        if !self.tick_passes() {
+            return 2;
+        }
+        if records > RECORDS_MAX { 3 } else { 0 }
     }
 
     fn tick(&self) -> u128 {

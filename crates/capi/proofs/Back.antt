@@ -4,6 +4,7 @@ use mathlib.Core.Path.{_≡_, refl, ap}
 use mathlib.Core.Bool.{Bool, true, false}
 use mathlib.Core.List.{List, []}
 use Prim.Native.Nat.{ℕ, _≤_, _-_, _^_}
+use native.Mathlib.Nat.{min-eq-left}
 use borrow.Author.Tests.{le-leb}
 use Rattle.hash_parts.specs.declared.setting.SegmentCacheConfig.{SegmentCacheConfig}
 use Rattle.hash_parts.specs.declared.setting.SegmentExpiry.{SegmentExpiry}
@@ -27,10 +28,10 @@ made e occupied packed bits =
 parts-back : (e : SegmentExpiry) (occupied : ℕ) (packed : Bool) (bits : ℕ) (rest : List ℕ) → tickNanos e ≤ 2 ^ 32 - 1 → occupied ≤ 255 → bits ≤ 255
     → settingIn (settingBefore (made e occupied packed bits) rest) ≡ setting.Is (made e occupied packed bits)
 unfolding settingIn settingForm
-parts-back None occupied true bits rest h i j = rw (le-leb occupied 255 i, le-leb bits 255 j)
-parts-back None occupied false bits rest h i j = rw (le-leb occupied 255 i, le-leb bits 255 j)
-parts-back (Relative16 tick) occupied true bits rest h i j = rw (le-leb (tick .nanos) (2 ^ 32 - 1) h, le-leb occupied 255 i, le-leb bits 255 j)
-parts-back (Relative16 tick) occupied false bits rest h i j = rw (le-leb (tick .nanos) (2 ^ 32 - 1) h, le-leb occupied 255 i, le-leb bits 255 j)
+parts-back None occupied true bits rest h i j = rw (min-eq-left i, le-leb bits 255 j)
+parts-back None occupied false bits rest h i j = rw (min-eq-left i, le-leb bits 255 j)
+parts-back (Relative16 tick) occupied true bits rest h i j = rw (min-eq-left h, min-eq-left i, le-leb bits 255 j)
+parts-back (Relative16 tick) occupied false bits rest h i j = rw (min-eq-left h, min-eq-left i, le-leb bits 255 j)
 
 -- a setting, before any words
 pub setting-back : (c : SegmentCacheConfig) (rest : List ℕ) → tickNanos (c .expiry) ≤ 2 ^ 32 - 1 → c .«target_occupied_slots» ≤ 255 → c .«negative_filter_bits_per_entry» ≤ 255

@@ -38,25 +38,26 @@ durationOf secs nanos = record { secs = secs; nanos = nanos }
 abbrev pub expiryOf : ℕ → ℕ → ℕ → SegmentExpiry
 expiryOf flag secs nanos = pick (eqb flag 1) (Relative16 (durationOf secs nanos)) None
 
+-- nanoseconds of more than 32 bits stay too many for a second, so that question 2 refuses them at its place; an occupancy of more than 8 bits stays more
+-- than 7, for question 3
+abbrev pub nanosCapped : ℕ → ℕ
+nanosCapped word = min word (2 ^ 32 - 1)
+
+abbrev pub occupancyCapped : ℕ → ℕ
+occupancyCapped word = min word 255
+
 abbrev pub settingOf : List ℕ → SegmentCacheConfig
 settingOf w =
     record {
-      expiry = expiryOf (getD w 0 0) (getD w 1 0) (getD w 2 0);
-      «target_occupied_slots» = getD w 3 0;
+      expiry = expiryOf (getD w 0 0) (getD w 1 0) (nanosCapped (getD w 2 0));
+      «target_occupied_slots» = occupancyCapped (getD w 3 0);
       «packed_bucket_index» = eqb (getD w 4 0) 1;
       «negative_filter_bits_per_entry» = getD w 5 0;
     }
 
--- flags are 0 or 1, nanoseconds have 32 bits, occupancy and filter bits have 8; with no expiry the tick's seconds may be any
+-- flags are 0 or 1, filter bits have 8 bits: of these document 01 asks nothing; with no expiry the tick's words may be any
 unfoldable pub settingForm : List ℕ → Bool
-settingForm w =
-    all
-    (leb (getD w 0 0) 1
-    ∷ leb (getD w 2 0) (2 ^ 32 - 1)
-    ∷ leb (getD w 3 0) 255
-    ∷ leb (getD w 4 0) 1
-    ∷ leb (getD w 5 0) 255
-    ∷ [])
+settingForm w = all (leb (getD w 0 0) 1 ∷ leb (getD w 4 0) 1 ∷ leb (getD w 5 0) 255 ∷ [])
 
 -- the setting in the first six words
 unfoldable pub settingIn : List ℕ → LoadedSetting
@@ -217,10 +218,10 @@ rebuildWords r =
     ∷ r .«source_now_tick»
     ∷ [])
 
--- ---- a lifetime: no words for never; seconds and nanoseconds, which stay too many for a second where they pass 32 bits
+-- ---- a lifetime: no words for never; seconds and nanoseconds, capped as a tick's
 
 abbrev pub finiteOf : List ℕ → Lifetime
-finiteOf w = life.For (durationOf (getD w 0 0) (min (getD w 1 0) (2 ^ 32 - 1)))
+finiteOf w = life.For (durationOf (getD w 0 0) (nanosCapped (getD w 1 0)))
 
 unfoldable pub lifetimeIn : List ℕ → LoadedLifetime
 lifetimeIn w =

@@ -10,9 +10,9 @@ use sets::kept::KeptSegments;
 use sets::rebuild::SharedSegmentCacheBuilder;
 use sets::stats::SegmentCacheStats;
 ghost use mathlib.Core.Path.{_≡_};
-ghost use Prim.Native.Nat.{_≤_, min, _-_, _^_};
+ghost use Prim.Native.Nat.{_≤_};
 ghost use lib.ListN.{length};
-ghost use Rattle.capi.specs.Words.{builderIn, builderWords, expiryFlag, expiryOf, flagOf, lifetimeIn, rebuildIn, rebuildWords, setIn, setWords, settingAlone, settingIn, statsIn, tickNanos, tickSecs};
+ghost use Rattle.capi.specs.Words.{builderIn, builderWords, expiryFlag, expiryOf, flagOf, lifetimeIn, nanosCapped, occupancyCapped, rebuildIn, rebuildWords, setIn, setWords, settingAlone, settingIn, statsIn, tickNanos, tickSecs};
 
 pub(crate) const BUILDER_WORDS: usize = 13;
 
@@ -28,6 +28,8 @@ pub(crate) const MALFORMED: u64 = 11;
 const SETTING_WORDS: usize = 6;
 
 const MAX_NANOS: u64 = 0xffff_ffff;
+
+const MAX_OCCUPANCY: u64 = 255;
 
 pub(crate) enum LoadedSetting {
     Is(SegmentCacheConfig),
@@ -65,17 +67,9 @@ fn front_setting(words: &[u64]) -> LoadedSetting
     ensures { λ r. ⌜ r ≡ settingIn (now (words .entry)) ⌝ }
 {
     let flag = words[0];
-    let nanos = words[2];
-    let occupied = words[3];
     let packed = words[4];
     let bits = words[5];
     if flag > 1 {
-        return LoadedSetting::Malformed;
-    }
-    if nanos > MAX_NANOS {
-        return LoadedSetting::Malformed;
-    }
-    if occupied > 255 {
         return LoadedSetting::Malformed;
     }
     if packed > 1 {
@@ -84,10 +78,12 @@ fn front_setting(words: &[u64]) -> LoadedSetting
     if bits > 255 {
         return LoadedSetting::Malformed;
     }
-    let expiry = expiry_of(flag, words[1], nanos as u32);
+    let nanos = capped_nanos(words[2]);
+    let expiry = expiry_of(flag, words[1], nanos);
+    let occupied = capped_occupancy(words[3]);
     LoadedSetting::Is(SegmentCacheConfig {
         expiry,
-        target_occupied_slots: occupied as u8,
+        target_occupied_slots: occupied,
         packed_bucket_index: packed == 1,
         negative_filter_bits_per_entry: bits as u8,
     })
@@ -190,7 +186,7 @@ pub(crate) fn load_rebuild(words: &[u64]) -> LoadedRebuild
     })
 }
 
-// No words for never. Nanoseconds beyond 32 bits stay too many for a second.
+// No words for never.
 pub(crate) fn load_lifetime(words: &[u64]) -> LoadedLifetime
     ensures { λ r. ⌜ r ≡ lifetimeIn (now (words .entry)) ⌝ }
 {
@@ -205,13 +201,24 @@ pub(crate) fn load_lifetime(words: &[u64]) -> LoadedLifetime
     LoadedLifetime::Is(Lifetime::For(Duration { secs, nanos }))
 }
 
+// Nanoseconds beyond 32 bits stay too many for a second.
 fn capped_nanos(nanos: u64) -> u32
-    ensures { λ r. ⌜ r ≡ min nanos (2 ^ 32 - 1) ⌝ }
+    ensures { λ r. ⌜ r ≡ nanosCapped nanos ⌝ }
 {
     if nanos > MAX_NANOS {
         return 0xffff_ffff;
     }
     nanos as u32
+}
+
+// An occupancy beyond 8 bits stays too high.
+fn capped_occupancy(occupied: u64) -> u8
+    ensures { λ r. ⌜ r ≡ occupancyCapped occupied ⌝ }
+{
+    if occupied > MAX_OCCUPANCY {
+        return 255;
+    }
+    occupied as u8
 }
 
 pub(crate) fn load_stats(words: &[u64]) -> LoadedStats
