@@ -26,20 +26,15 @@ soak:
 bench:
 	bench/run
 
-# Library, headers and the program passage below PREFIX; DESTDIR stages them elsewhere.
-PREFIX ?= /usr/local
-sources := $(shell find crates -name '*.rt')
-
-target/staticlib/libcapi.a: $(sources)
+# The library for C and Rust. What is there is handed out only while its proof holds, which is asked each time.
+library:
 	bindings/library
 
-# The library for C and Rust.
-library: target/staticlib/libcapi.a
+# Library, headers and the program passage below PREFIX; DESTDIR stages them elsewhere.
+PREFIX ?= /usr/local
 
-target/bin/passage_run: $(sources)
+install: library
 	rt check passage_run
-
-install: target/staticlib/libcapi.a target/bin/passage_run
 	install -d $(DESTDIR)$(PREFIX)/lib $(DESTDIR)$(PREFIX)/include $(DESTDIR)$(PREFIX)/bin
 	install -m 644 target/staticlib/libcapi.a $(DESTDIR)$(PREFIX)/lib/
 	install -m 644 bindings/segment_cache.h bindings/segment_cache_words.h $(DESTDIR)$(PREFIX)/include/

@@ -1,14 +1,21 @@
-# For scripts at the top of the repository to source: the port as a static library.
+# For scripts at the top of the repository to source: the port as static libraries.
 
-# Makes target/staticlib/libNAME.a where there is none, or one that is older than a source.
-# That of capi has the calls that stand in crates of their own too.
-make_library() { # NAME
-    local library=target/staticlib/lib$1.a
-    if [ ! -f "$library" ] || [ -n "$(find crates -name '*.rt' -newer "$library" -print -quit)" ]; then
-        if [ "$1" = capi ]; then
-            bindings/library
-        else
-            rt staticlib "$1"
+# Sets `lib` to a folder that has libNAME.a of each NAME. It is PORT_LIB where that is set, whose libraries the caller
+# vouches for; else target/staticlib, where bindings/library proves what is missing or no longer proved. The prover's
+# output is shown only if that fails.
+get_library() { # NAME..
+    local name log=target/library.log
+    lib=${PORT_LIB:-target/staticlib}
+    mkdir -p target
+    for name; do
+        if [ -z "${PORT_LIB:-}" ] && ! bindings/library "$name" >"$log" 2>&1; then
+            cat "$log" >&2
+            echo "error: there is no proved lib$name.a" >&2
+            return 1
         fi
-    fi
+        if [ ! -f "$lib/lib$name.a" ]; then
+            echo "error: $lib/lib$name.a is missing" >&2
+            return 1
+        fi
+    done
 }

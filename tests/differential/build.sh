@@ -38,9 +38,9 @@ release=(--crate-type rlib -C overflow-checks=off -C debug-assertions=off -A war
 compile oracle_large "${release[@]}" "$build/oracle/oracle.rs"
 compile oracle_small "${release[@]}" -A explicit_builtin_cfgs_in_flags --cfg test "$build/oracle/oracle.rs"
 
-if [ -z "${PORT_LIB:-}${oracle_alone:-}" ]; then
-    step staticlib make_library test_exports
-    step staticlib_capi make_library capi
+lib=
+if [ -z "${oracle_alone:-}" ]; then
+    get_library test_exports capi
 fi
 
 oracles=(
@@ -49,5 +49,5 @@ oracles=(
 )
 linked=(
     "${oracles[@]}"
-    -L "native=${PORT_LIB:-target/staticlib}" -l static=test_exports -l static=capi
+    -L "native=$lib" -l static=test_exports -l static=capi
 )
