@@ -4,8 +4,20 @@
  *
  * The library allocates nothing, keeps nothing between calls and has no clock and no hash function.
  * The caller owns all memory and lends it to each call; the hash of a key and the present tick are
- * arguments. Equal keys must come with equal hashes, and a hash should be spread well in its upper
- * bits: they select the bucket and the tag.
+ * arguments.
+ *
+ * Hash: equal keys must come with equal hashes, in every call. A key's tag is hash div 2^41, its top 23
+ * bits, and its first bucket hash * buckets div 2^64, so that the upper bits must differ from key to key.
+ * FNV-1a alone on short keys, a hash of 32 bits and a number as its own hash are poor there: answers stay
+ * right, but a lookup may walk over all records. segment_cache_hash is a hash that will do.
+ *
+ * Ticks: the caller counts them, in units of the setting's tick length. A pushed record lapses its
+ * lifetime after tick 0, whenever it is pushed, so let the count begin when the builder is opened; of a
+ * lifetime that began before, give what is left at tick 0. A rebuilt set goes on with the same count: to
+ * begin at 0 again shows lapsed records as live. A copied record lapses its lifetime after the tick given
+ * to rebuild_open. To copy a record with what is left of its time, take that (probe, next_entry) at the
+ * very tick given to rebuild_open; taken at an earlier one, the copy outlives the record. The library has
+ * no clock and notices neither. The last deadline is tick 65,534; a record without one never lapses.
  *
  *   area      element   at least                               must live and stay untouched
  *   builder   uint64_t  SEGMENT_CACHE_BUILDER_WORDS, exactly   from open to finish
@@ -109,8 +121,8 @@ uint64_t segment_cache_open(const uint64_t *setting, size_t setting_len, size_t 
                             const uint64_t *starts, size_t starts_len, const uint64_t *lengths,
                             size_t lengths_len, const uint8_t *arena, size_t arena_len);
 
-/* Adds a record behind the filled part of the arena; place: slot and location. Refusals: 11, 9, 3, 4,
-   5, 6, 10. */
+/* Adds a record behind the filled part of the arena. It lapses its lifetime, in ticks rounded up, after
+   tick 0; with length 0 never. place: slot and location. Refusals: 11, 9, 3, 4, 5, 6, 10. */
 uint64_t segment_cache_push(uint64_t *builder, size_t builder_len, uint64_t hash,
                             const uint8_t *key, size_t key_len, const uint8_t *value,
                             size_t value_len, const uint64_t *lifetime, size_t lifetime_len,
@@ -159,7 +171,7 @@ uint64_t segment_cache_take_accessed(const uint64_t *set, size_t set_len, uint64
                                      const uint8_t *arena, size_t arena_len, uint64_t *accessed,
                                      size_t accessed_len);
 
-/* The record of a key, lapsed or not, with what is left of its time; sets no mark. */
+/* The record of a key, lapsed or not, with what is left of its time at this tick; sets no mark. */
 uint64_t segment_cache_probe(const uint64_t *set, size_t set_len, uint64_t hash,
                              const uint8_t *key, size_t key_len, uint64_t tick,
                              const uint64_t *index, size_t index_len, const uint64_t *filter,
@@ -167,8 +179,8 @@ uint64_t segment_cache_probe(const uint64_t *set, size_t set_len, uint64_t hash,
                              const uint64_t *lengths, size_t lengths_len, const uint8_t *arena,
                              size_t arena_len, uint64_t *record, size_t record_len);
 
-/* The first record from slot `from` on, lapsed or not; record[0] is 0 at the end. Walk: begin at 0, go on
-   with its slot + 1. */
+/* The first record from slot `from` on, lapsed or not, with what is left of its time at this tick;
+   record[0] is 0 at the end. Walk: begin at 0, go on with its slot + 1. */
 uint64_t segment_cache_next_entry(const uint64_t *set, size_t set_len, size_t from, uint64_t tick,
                                   const uint64_t *index, size_t index_len, const uint64_t *starts,
                                   size_t starts_len, const uint64_t *lengths, size_t lengths_len,
@@ -196,8 +208,9 @@ uint64_t segment_cache_index_load_bps(const uint64_t *stats, size_t stats_len, u
 size_t segment_cache_rebuild_words(void);
 
 /* Opens a rebuild for this many records. used_source_segments: a flag for each segment of the source,
-   0 drops it. copied_record_capacity: 0 if nothing is to be copied. source_now_tick: the tick from
-   which lifetimes of copied records count. index, filter, starts and lengths are the new set's own.
+   0 drops it. copied_record_capacity: 0 if nothing is to be copied. source_now_tick: the present tick in
+   the source's count. Lifetimes of copied records count from it, so what is left of records that are
+   copied must be taken at this very tick. index, filter, starts and lengths are the new set's own.
    Refusals: 11, 3, 7, 10. */
 uint64_t segment_cache_rebuild_open(
     const uint64_t *set, size_t set_len, const uint64_t *source_starts, size_t source_starts_len,
@@ -219,8 +232,10 @@ uint64_t segment_cache_push_reused(uint64_t *rebuild, size_t rebuild_len, uint64
                                    const uint8_t *arena, size_t arena_len, uint64_t *place,
                                    size_t place_len);
 
-/* Appends a record. Key and value are not parts of the arena: copy them out first. Refusals: 11, 9, 3,
-   5, 6, 10, 7. */
+/* Appends a record. It lapses its lifetime, in ticks rounded up, after the tick given to rebuild_open;
+   with length 0 never. segment_cache_lifetime_left makes the lifetime of a record that probe or
+   next_entry told at that tick. Key and value are not parts of the arena: copy them out first. Refusals:
+   11, 9, 3, 5, 6, 10, 7. */
 uint64_t segment_cache_push_copied(uint64_t *rebuild, size_t rebuild_len, uint64_t hash,
                                    const uint8_t *key, size_t key_len, const uint8_t *value,
                                    size_t value_len, const uint64_t *lifetime, size_t lifetime_len,

@@ -1,10 +1,11 @@
 /*
  * Words of segment_cache.h: refusals by number, limits, what each word of a state or an answer is, and
- * helpers that fill settings and lifetimes, so that nobody does it by hand.
+ * helpers that fill settings and lifetimes, so that nobody does it by hand; and a hash for keys.
  */
 #ifndef SEGMENT_CACHE_WORDS_H
 #define SEGMENT_CACHE_WORDS_H
 
+#include <stddef.h>
 #include <stdint.h>
 
 enum segment_cache_refusal {
@@ -151,7 +152,7 @@ enum segment_cache_totals_word {
     SEGMENT_CACHE_TOTALS_NEWLY_ALLOCATED_BYTES = 3
 };
 
-/* ---- settings, lifetimes and names */
+/* ---- settings, lifetimes, names and a hash */
 
 /* No expiry, occupancy 7, packed index, no filter. */
 static inline void segment_cache_setting_without_expiry(uint64_t *setting) {
@@ -194,6 +195,18 @@ static inline void segment_cache_lifetime(uint64_t *lifetime, uint64_t seconds,
     lifetime[1] = nanoseconds;
 }
 
+/* What is left of a record that probe or next_entry told, as a lifetime to copy it with; its length is
+   returned. Right only if the record was told at the tick that is given to rebuild_open. A record that
+   has lapsed gets a lifetime of 0, so that its copy is lapsed from that tick on; length 0 is never. */
+static inline size_t segment_cache_lifetime_left(uint64_t *lifetime, const uint64_t *record) {
+    int finite = record[SEGMENT_CACHE_RECORD_REMAINING] == SEGMENT_CACHE_REMAINING_FINITE;
+    lifetime[0] = finite ? record[SEGMENT_CACHE_RECORD_REMAINING_SECONDS] : 0;
+    lifetime[1] = finite ? record[SEGMENT_CACHE_RECORD_REMAINING_NANOSECONDS] : 0;
+    return record[SEGMENT_CACHE_RECORD_REMAINING] == SEGMENT_CACHE_REMAINING_NEVER
+               ? 0
+               : SEGMENT_CACHE_LIFETIME_WORDS;
+}
+
 static inline const char *segment_cache_refusal_name(uint64_t refusal) {
     static const char *const names[] = {
         "Accepted",          "InvalidBucketOccupancy", "ZeroExpiryTick",       "CapacityOverflow",
@@ -201,6 +214,17 @@ static inline const char *segment_cache_refusal_name(uint64_t refusal) {
         "InvalidSegmentTarget", "InvalidNanoseconds",  "AreaTooShort",         "InvalidState",
         "RecordMismatch"};
     return refusal <= SEGMENT_CACHE_RECORD_MISMATCH ? names[refusal] : "unknown";
+}
+
+/* A hash for keys: FNV-1a, then the finisher of MurmurHash3. FNV-1a alone leaves the upper bits of short
+   keys alike, from which tag and bucket are taken; the finisher carries every bit to all others. It has
+   no secret: who chooses keys on purpose can choose many of one tag and bucket, and lookups get slow. */
+static inline uint64_t segment_cache_hash(const uint8_t *bytes, size_t len) {
+    uint64_t hash = 0xcbf29ce484222325u;
+    for (size_t i = 0; i < len; i++) hash = (hash ^ bytes[i]) * 0x100000001b3u;
+    hash = (hash ^ (hash >> 33)) * 0xff51afd7ed558ccdu;
+    hash = (hash ^ (hash >> 33)) * 0xc4ceb9fe1a85ec53u;
+    return hash ^ (hash >> 33);
 }
 
 #endif

@@ -42,13 +42,6 @@ static void must(uint64_t refusal, const char *call) {
     exit(1);
 }
 
-/* FNV-1a, 64 bits. */
-static uint64_t hash_of(const uint8_t *key, size_t len) {
-    uint64_t hash = 0xcbf29ce484222325u;
-    for (size_t i = 0; i < len; i++) hash = (hash ^ key[i]) * 0x100000001b3u;
-    return hash;
-}
-
 static size_t lifetime_of(uint64_t *lifetime, uint64_t minutes) {
     segment_cache_lifetime(lifetime, minutes * MINUTES, 0);
     return minutes == 0 ? 0 : SEGMENT_CACHE_LIFETIME_WORDS;
@@ -59,10 +52,10 @@ static uint64_t put(uint64_t *builder, struct set *set, const struct note *note)
     size_t key_len = strlen(note->key);
     size_t lifetime_len = lifetime_of(lifetime, note->minutes);
     return segment_cache_push(builder, SEGMENT_CACHE_BUILDER_WORDS,
-                              hash_of(bytes(note->key), key_len), bytes(note->key), key_len,
-                              bytes(note->value), strlen(note->value), lifetime, lifetime_len,
-                              set->index, 8, set->filter, 1, arena, ARENA_BYTES, place,
-                              SEGMENT_CACHE_PLACE_WORDS);
+                              segment_cache_hash(bytes(note->key), key_len), bytes(note->key),
+                              key_len, bytes(note->value), strlen(note->value), lifetime,
+                              lifetime_len, set->index, 8, set->filter, 1, arena, ARENA_BYTES,
+                              place, SEGMENT_CACHE_PLACE_WORDS);
 }
 
 /* Asks the library how long the areas must be; those of `struct set` have to do. */
@@ -105,10 +98,11 @@ static void build(struct set *set) {
 static void ask(struct set *set, const char *name, const char *key, uint64_t tick) {
     uint64_t span[SEGMENT_CACHE_SPAN_WORDS];
     size_t key_len = strlen(key);
-    must(segment_cache_get(set->words, SEGMENT_CACHE_SET_WORDS, hash_of(bytes(key), key_len),
-                           bytes(key), key_len, tick, set->index, 8, set->filter, 1, set->starts,
-                           SEGMENT_CACHE_SEGMENT_WORDS, set->lengths, SEGMENT_CACHE_SEGMENT_WORDS,
-                           arena, ARENA_BYTES, span, SEGMENT_CACHE_SPAN_WORDS),
+    must(segment_cache_get(set->words, SEGMENT_CACHE_SET_WORDS,
+                           segment_cache_hash(bytes(key), key_len), bytes(key), key_len, tick,
+                           set->index, 8, set->filter, 1, set->starts, SEGMENT_CACHE_SEGMENT_WORDS,
+                           set->lengths, SEGMENT_CACHE_SEGMENT_WORDS, arena, ARENA_BYTES, span,
+                           SEGMENT_CACHE_SPAN_WORDS),
          "get");
     if (span[SEGMENT_CACHE_SPAN_FOUND])
         printf("%s, minute %d: %s is %.*s\n", name, (int)tick, key,
@@ -122,10 +116,10 @@ static void take_mark(struct set *set, const char *key) {
     uint64_t accessed[1];
     size_t key_len = strlen(key);
     must(segment_cache_take_accessed(set->words, SEGMENT_CACHE_SET_WORDS,
-                                     hash_of(bytes(key), key_len), bytes(key), key_len, set->index,
-                                     8, set->filter, 1, set->starts, SEGMENT_CACHE_SEGMENT_WORDS,
-                                     set->lengths, SEGMENT_CACHE_SEGMENT_WORDS, arena, ARENA_BYTES,
-                                     accessed, 1),
+                                     segment_cache_hash(bytes(key), key_len), bytes(key), key_len,
+                                     set->index, 8, set->filter, 1, set->starts,
+                                     SEGMENT_CACHE_SEGMENT_WORDS, set->lengths,
+                                     SEGMENT_CACHE_SEGMENT_WORDS, arena, ARENA_BYTES, accessed, 1),
          "take_accessed");
     printf("%s was %s\n", key, accessed[0] ? "asked" : "not asked");
 }
@@ -167,19 +161,17 @@ static void count(const struct set *set) {
            (int)load[0] % 100);
 }
 
-/* After a new survey both depths are copied behind the filled part of the arena, the segment of the old
-   ones is dropped, and the other records stay where they are. */
-static const struct note survey[2] = {
-    {"cell 1204", "11.3 m", 90},
-    {"cell 1205", "10.7 m", 30},
-};
+/* After a new survey of one cell the segment of the depths is dropped: the new depth is copied behind the
+   filled part of the arena, and the other depth with what is left of its time. The other records stay
+   where they are, with their deadlines. */
+static const struct note survey = {"cell 1205", "10.7 m", 30};
 
 static void reuse(uint64_t *state, struct set *set, const uint64_t *record) {
     uint64_t place[SEGMENT_CACHE_PLACE_WORDS];
     const uint8_t *key = arena + record[SEGMENT_CACHE_RECORD_KEY_AT];
     size_t key_len = record[SEGMENT_CACHE_RECORD_KEY_LENGTH];
     must(segment_cache_push_reused(
-             state, SEGMENT_CACHE_REBUILD_WORDS, hash_of(key, key_len), key, key_len,
+             state, SEGMENT_CACHE_REBUILD_WORDS, segment_cache_hash(key, key_len), key, key_len,
              arena + record[SEGMENT_CACHE_RECORD_VALUE_AT],
              record[SEGMENT_CACHE_RECORD_VALUE_LENGTH], record[SEGMENT_CACHE_RECORD_LOCATION],
              record[SEGMENT_CACHE_RECORD_HEADER_BYTES], set->index, 8, set->filter, 1, set->starts,
@@ -188,28 +180,63 @@ static void reuse(uint64_t *state, struct set *set, const uint64_t *record) {
          "push_reused");
 }
 
-static void copy(uint64_t *state, struct set *set, const struct note *note) {
-    uint64_t lifetime[SEGMENT_CACHE_LIFETIME_WORDS], place[SEGMENT_CACHE_PLACE_WORDS];
-    size_t key_len = strlen(note->key);
-    size_t lifetime_len = lifetime_of(lifetime, note->minutes);
+static void copy(uint64_t *state, struct set *set, const uint8_t *key, size_t key_len,
+                 const uint8_t *value, size_t value_len, const uint64_t *lifetime,
+                 size_t lifetime_len) {
+    uint64_t place[SEGMENT_CACHE_PLACE_WORDS];
     must(segment_cache_push_copied(
-             state, SEGMENT_CACHE_REBUILD_WORDS, hash_of(bytes(note->key), key_len),
-             bytes(note->key), key_len, bytes(note->value), strlen(note->value), lifetime,
-             lifetime_len, set->index, 8, set->filter, 1, set->starts, SEGMENT_CACHE_SEGMENT_WORDS,
-             set->lengths, SEGMENT_CACHE_SEGMENT_WORDS, arena, ARENA_BYTES, place,
-             SEGMENT_CACHE_PLACE_WORDS),
+             state, SEGMENT_CACHE_REBUILD_WORDS, segment_cache_hash(key, key_len), key, key_len, value,
+             value_len, lifetime, lifetime_len, set->index, 8, set->filter, 1, set->starts,
+             SEGMENT_CACHE_SEGMENT_WORDS, set->lengths, SEGMENT_CACHE_SEGMENT_WORDS, arena,
+             ARENA_BYTES, place, SEGMENT_CACHE_PLACE_WORDS),
          "push_copied");
 }
 
-/* Fills a rebuild: the records of segment 1 are taken over, the survey is copied. */
-static void fill(uint64_t *state, const struct set *source, struct set *set, uint64_t tick) {
-    uint64_t record[SEGMENT_CACHE_RECORD_WORDS];
-    for (size_t from = 0; step(source, from, tick, record);
-         from = record[SEGMENT_CACHE_RECORD_SLOT] + 1)
-        if (record[SEGMENT_CACHE_RECORD_LOCATION] >> 32 == 1) reuse(state, set, record);
-    for (int i = 0; i < 2; i++) copy(state, set, &survey[i]);
+/* Copies a record that still lives, with what is left of its time. `record` was told at the tick that was
+   given to rebuild_open, from which the lifetime counts. Told five minutes before, it would have five
+   minutes more left, and its copy would show a lapsed depth for so long. */
+static void copy_record(uint64_t *state, struct set *set, const uint64_t *record) {
+    uint64_t lifetime[SEGMENT_CACHE_LIFETIME_WORDS];
+    uint8_t key[32], value[32]; /* what is copied may not stand in the arena */
+    size_t key_len = record[SEGMENT_CACHE_RECORD_KEY_LENGTH];
+    size_t value_len = record[SEGMENT_CACHE_RECORD_VALUE_LENGTH];
+    size_t lifetime_len = segment_cache_lifetime_left(lifetime, record);
+    if (key_len > sizeof key || value_len > sizeof value) exit(1);
+    memcpy(key, arena + record[SEGMENT_CACHE_RECORD_KEY_AT], key_len);
+    memcpy(value, arena + record[SEGMENT_CACHE_RECORD_VALUE_AT], value_len);
+    copy(state, set, key, key_len, value, value_len, lifetime, lifetime_len);
 }
 
+static int is_kept(const uint64_t *record) {
+    return record[SEGMENT_CACHE_RECORD_LOCATION] >> 32 == 1;
+}
+
+static int is_surveyed(const uint64_t *record) {
+    return record[SEGMENT_CACHE_RECORD_KEY_LENGTH] == strlen(survey.key) &&
+           memcmp(arena + record[SEGMENT_CACHE_RECORD_KEY_AT], survey.key, strlen(survey.key)) == 0;
+}
+
+static int has_lapsed(const uint64_t *record) {
+    return record[SEGMENT_CACHE_RECORD_REMAINING] == SEGMENT_CACHE_REMAINING_NOTHING;
+}
+
+/* Fills a rebuild that was opened at this tick, by walks at the same tick: records of segment 1 are taken
+   over, other live ones copied, and the survey's depth is added. */
+static void fill(uint64_t *state, const struct set *source, struct set *set, uint64_t tick) {
+    uint64_t record[SEGMENT_CACHE_RECORD_WORDS], lifetime[SEGMENT_CACHE_LIFETIME_WORDS];
+    for (size_t from = 0; step(source, from, tick, record);
+         from = record[SEGMENT_CACHE_RECORD_SLOT] + 1)
+        if (is_kept(record)) reuse(state, set, record);
+    for (size_t from = 0; step(source, from, tick, record);
+         from = record[SEGMENT_CACHE_RECORD_SLOT] + 1)
+        if (!is_kept(record) && !is_surveyed(record) && !has_lapsed(record))
+            copy_record(state, set, record);
+    size_t lifetime_len = lifetime_of(lifetime, survey.minutes);
+    copy(state, set, bytes(survey.key), strlen(survey.key), bytes(survey.value),
+         strlen(survey.value), lifetime, lifetime_len);
+}
+
+/* The tick goes on from that of the source, since its deadlines count in it. */
 static void rebuild(const struct set *source, struct set *set, uint64_t tick) {
     static const uint8_t keep[2] = {0, 1};
     uint64_t state[SEGMENT_CACHE_REBUILD_WORDS], totals[SEGMENT_CACHE_TOTALS_WORDS], scratch[1];
@@ -248,6 +275,8 @@ int main(void) {
     rebuild(&first, &second, 30);
     ask(&second, "second", "cell 1205", 59);
     ask(&second, "second", "cell 1205", 60);
+    ask(&second, "second", "cell 1204", 89);
+    ask(&second, "second", "cell 1204", 90);
     ask(&second, "second", "Aurora", 359);
     ask(&second, "second", "Aurora", 360);
     ask(&first, "first", "cell 1204", 31);

@@ -1,6 +1,6 @@
 //! Depths by cell and notes of a harbour, some with a lapse time: built, asked before and after they
 //! lapse, and rebuilt after a new survey. Prints the lines of harbour.c.
-use segment_cache::{AreaWords, Arena, Builder, Refusal, Remaining, Set, Setting};
+use segment_cache::{AreaWords, Arena, Builder, Refusal, Remaining, Set, Setting, hash};
 use std::time::Duration;
 
 struct Note {
@@ -30,16 +30,9 @@ const NOTES: [Note; 4] = [
 
 const SEGMENT_TARGET: usize = 32;
 
-// FNV-1a, 64 bits.
-fn hash_of(key: &[u8]) -> u64 {
-    key.iter().fold(0xcbf2_9ce4_8422_2325, |hash: u64, byte| {
-        (hash ^ u64::from(*byte)).wrapping_mul(0x0100_0000_01b3)
-    })
-}
-
 fn put(builder: &mut Builder<'_>, note: &Note) -> Result<(), Refusal> {
     let key = note.key.as_bytes();
-    builder.push(hash_of(key), key, note.value.as_bytes(), note.lifetime)?;
+    builder.push(hash(key), key, note.value.as_bytes(), note.lifetime)?;
     Ok(())
 }
 
@@ -73,7 +66,7 @@ fn build(arena: &mut Arena) -> Result<Set, Refusal> {
 }
 
 fn ask(set: &mut Set, arena: &Arena, name: &str, key: &str, tick: u64) -> Result<(), Refusal> {
-    let answer = set.get(arena, hash_of(key.as_bytes()), key.as_bytes(), tick)?;
+    let answer = set.get(arena, hash(key.as_bytes()), key.as_bytes(), tick)?;
     let known = match answer {
         Some(value) => String::from_utf8_lossy(value),
         None => "not known".into(),
@@ -83,7 +76,7 @@ fn ask(set: &mut Set, arena: &Arena, name: &str, key: &str, tick: u64) -> Result
 }
 
 fn take_mark(set: &mut Set, arena: &Arena, key: &str) -> Result<(), Refusal> {
-    let asked = set.take_accessed(arena, hash_of(key.as_bytes()), key.as_bytes())?;
+    let asked = set.take_accessed(arena, hash(key.as_bytes()), key.as_bytes())?;
     println!("{key} was {}", if asked { "asked" } else { "not asked" });
     Ok(())
 }
@@ -113,21 +106,31 @@ fn count(set: &Set) -> Result<(), Refusal> {
     Ok(())
 }
 
-// After a new survey both depths are copied behind the filled part of the arena, the segment of the old
-// ones is dropped, and the other records stay where they are.
+// After a new survey of one cell the segment of the depths is dropped: the new depth is copied behind the
+// filled part of the arena, and the other depth with what is left of its time. The other records stay where
+// they are, with their deadlines.
+//
+// The tick goes on from the first set's, which the deadlines count in. The new depth's half an hour counts
+// from the plan's tick. What is left of the other depth was told at the walk's tick, and copy works out what
+// is left at the plan's: given to push_copied as it is, with a walk five minutes before the plan, it would
+// show that depth for five minutes too long.
 fn rebuild(arena: &mut Arena, source: &Set, tick: u64) -> Result<Set, Refusal> {
-    use segment_cache::{Place, Plan, Rebuild};
-    let survey = [
-        note("cell 1204", "11.3 m", minutes(90)),
-        note("cell 1205", "10.7 m", minutes(30)),
-    ];
+    use segment_cache::{Entry, OwnedEntry, Place, Plan, Rebuild};
+    let survey = note("cell 1205", "10.7 m", minutes(30));
+    let key = survey.key.as_bytes();
+    let stays = |entry: &Entry<'_>| entry.place().segment() == 1;
     let kept: Vec<(u64, Place)> = source
         .entries(arena, tick)?
-        .filter(|entry| entry.place().segment() == 1)
-        .map(|entry| (hash_of(entry.key), entry.place()))
+        .filter(stays)
+        .map(|entry| (hash(entry.key), entry.place()))
+        .collect();
+    let copied: Vec<(u64, OwnedEntry)> = source
+        .entries(arena, tick)?
+        .filter(|entry| !stays(entry) && entry.key != key && entry.remaining != Remaining::Nothing)
+        .map(|entry| (hash(entry.key), entry.copy_out()))
         .collect();
     let plan = Plan {
-        records: kept.len() + survey.len(),
+        records: kept.len() + copied.len() + 1,
         copied_record_capacity: 38,
         keep: &[false, true],
         now_tick: tick,
@@ -136,10 +139,10 @@ fn rebuild(arena: &mut Arena, source: &Set, tick: u64) -> Result<Set, Refusal> {
     for (hash, place) in kept {
         rebuild.push_reused(hash, place)?;
     }
-    for note in &survey {
-        let key = note.key.as_bytes();
-        rebuild.push_copied(hash_of(key), key, note.value.as_bytes(), note.lifetime)?;
+    for (hash, record) in copied {
+        rebuild.copy(hash, &record)?;
     }
+    rebuild.push_copied(hash(key), key, survey.value.as_bytes(), survey.lifetime)?;
     let rebuilt = rebuild.finish()?;
     println!(
         "rebuilt: {} records, {} segments; {} records reused, {} bytes copied",
@@ -155,6 +158,8 @@ fn rebuild_and_ask(arena: &mut Arena, first: &mut Set) -> Result<(), Refusal> {
     let mut second = rebuild(arena, first, 30)?;
     ask(&mut second, arena, "second", "cell 1205", 59)?;
     ask(&mut second, arena, "second", "cell 1205", 60)?;
+    ask(&mut second, arena, "second", "cell 1204", 89)?;
+    ask(&mut second, arena, "second", "cell 1204", 90)?;
     ask(&mut second, arena, "second", "Aurora", 359)?;
     ask(&mut second, arena, "second", "Aurora", 360)?;
     ask(first, arena, "first", "cell 1204", 31)?;

@@ -9,6 +9,14 @@ static int same(const char *what, int holds) {
     return holds;
 }
 
+/* What is left of a record, told with this remaining time, as a lifetime to copy it with. */
+static int left_is(uint64_t remaining, size_t len, uint64_t seconds, uint64_t nanoseconds) {
+    uint64_t lifetime[SEGMENT_CACHE_LIFETIME_WORDS];
+    const uint64_t record[SEGMENT_CACHE_RECORD_WORDS] = {1, 0, 0, 4, 4, 1, 5, 2, remaining, 59, 7};
+    return segment_cache_lifetime_left(lifetime, record) == len && lifetime[0] == seconds &&
+           lifetime[1] == nanoseconds;
+}
+
 int main(void) {
 #include "header_example.inc"
     static const uint8_t records[12] = {1, 2, 10, 0, 0x61, 0x41, 0x42, 1, 0, 0xff, 0xff, 0x62};
@@ -21,6 +29,9 @@ int main(void) {
     well &= same("the last answer", span[0] == 1 && span[1] == 12 && span[2] == 0);
     well &= same("word counts", segment_cache_builder_words() == SEGMENT_CACHE_BUILDER_WORDS &&
                                     segment_cache_set_words() == SEGMENT_CACHE_SET_WORDS);
+    well &= same("lifetimes left", left_is(SEGMENT_CACHE_REMAINING_NEVER, 0, 0, 0) &&
+                                       left_is(SEGMENT_CACHE_REMAINING_FINITE, 2, 59, 7) &&
+                                       left_is(SEGMENT_CACHE_REMAINING_NOTHING, 2, 0, 0));
     well &= same("names", strcmp(segment_cache_refusal_name(12), "RecordMismatch") == 0);
     return well ? 0 : 1;
 }

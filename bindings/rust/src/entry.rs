@@ -25,8 +25,9 @@ pub struct Entry<'a> {
     pub key: &'a [u8],
     /// The value, a part of the arena.
     pub value: &'a [u8],
-    /// What is left of its time.
+    /// What is left of its time at the tick that was asked for.
     pub remaining: Remaining,
+    tick: u64,
     place: Place,
 }
 
@@ -54,6 +55,7 @@ impl<'a> Entry<'a> {
         words: &[u64; RECORD_WORDS],
         arena: &'a Arena,
         source: Stamp,
+        tick: u64,
     ) -> Option<Entry<'a>> {
         if words[0] == 0 {
             return None;
@@ -65,6 +67,7 @@ impl<'a> Entry<'a> {
             key: &arena.bytes()[key_at..key_at + key_len],
             value: &arena.bytes()[value_at..value_at + value_len],
             remaining: remaining_of(words[8], words[9], words[10]),
+            tick,
             place: Place {
                 location: words[2],
                 header_bytes,
@@ -78,6 +81,44 @@ impl<'a> Entry<'a> {
     /// Where the record stands.
     pub fn place(&self) -> Place {
         self.place
+    }
+
+    /// Key, value and what is left of the time, for [`Rebuild::copy`](crate::Rebuild::copy).
+    pub fn copy_out(&self) -> OwnedEntry {
+        OwnedEntry {
+            key: self.key.to_vec(),
+            value: self.value.to_vec(),
+            remaining: self.remaining,
+            tick: self.tick,
+        }
+    }
+}
+
+/// A record taken out of its arena, to be copied in a rebuild. It knows at which tick it was asked for.
+#[derive(Clone, Debug, PartialEq, Eq)]
+pub struct OwnedEntry {
+    pub(crate) key: Vec<u8>,
+    pub(crate) value: Vec<u8>,
+    remaining: Remaining,
+    tick: u64,
+}
+
+impl OwnedEntry {
+    // What is left at another tick of the same count. What is left is a whole number of ticks, so that the
+    // deadline stays the same.
+    pub(crate) fn lifetime_at(&self, tick: u64, tick_length: Duration) -> Option<Duration> {
+        let left = match self.remaining {
+            Remaining::Never => return None,
+            Remaining::Finite(left) => left,
+            Remaining::Nothing => return Some(Duration::ZERO),
+        };
+        let span = u32::try_from(tick.abs_diff(self.tick)).unwrap_or(u32::MAX);
+        let passed = tick_length.saturating_mul(span);
+        Some(if tick < self.tick {
+            left.saturating_add(passed)
+        } else {
+            left.saturating_sub(passed)
+        })
     }
 }
 

@@ -9,14 +9,31 @@
 //! - [`Rebuild`] makes the next set out of the newest one, while older ones can still
 //!   be asked.
 //!
-//! Hash and tick come from the caller. Equal keys must come with equal hashes, and a hash should be
-//! spread well in its upper bits: they select the bucket and the tag. A tick counts from the opening of
-//! the builder in units of the setting's tick length.
+//! Hash and tick come from the caller.
+//!
+//! # Hashes
+//!
+//! Equal keys must come with equal hashes, in every call. A key's tag is hash div 2^41, its top 23 bits,
+//! and its first bucket hash * buckets div 2^64, so that the upper bits must differ from key to key.
+//! FNV-1a alone on short keys, a hash of 32 bits and a number as its own hash are poor there: answers
+//! stay right, but a lookup may walk over all records. [`hash`] is a hash that will do.
+//!
+//! # Ticks
+//!
+//! The caller counts ticks, in units of the setting's tick length. A pushed record lapses its lifetime
+//! after tick 0, whenever it is pushed, so let the count begin when the builder is opened; of a lifetime
+//! that began before, give what is left at tick 0. A rebuilt set goes on with the same count: to begin at
+//! 0 again shows lapsed records as live. A copied record lapses its lifetime after [`Plan::now_tick`].
+//! [`Rebuild::copy`] copies a record with what is left of its time; with [`Rebuild::push_copied`] take what
+//! is left at that very tick, since with what was left at an earlier one the copy outlives the record. The
+//! library has no clock and notices neither.
 //!
 //! # Linking
 //!
 //! The build script links libcapi.a from the folder in the environment variable
-//! `SEGMENT_CACHE_LIB_DIR`, or else from target/staticlib of the source tree. Without cargo:
+//! `SEGMENT_CACHE_LIB_DIR`, or else from target/staticlib of the source tree, as `make library` left it.
+//! After a change of the sources run that first: cargo does not ask whether the proof still holds.
+//! Without cargo:
 //! `rustc --edition 2024 --crate-type rlib -L native=FOLDER -l static=capi src/lib.rs`.
 #![warn(missing_docs)]
 
@@ -25,6 +42,7 @@ mod arena;
 mod builder;
 mod entry;
 mod ffi;
+mod hash;
 mod rebuild;
 mod refusal;
 mod set;
@@ -34,7 +52,8 @@ mod stats;
 pub use areas::AreaWords;
 pub use arena::Arena;
 pub use builder::{Builder, Placed};
-pub use entry::{Entries, Entry, Place, Remaining};
+pub use entry::{Entries, Entry, OwnedEntry, Place, Remaining};
+pub use hash::hash;
 pub use rebuild::{Plan, Rebuild, Rebuilt};
 pub use refusal::{Refusal, Unfinished};
 pub use set::Set;

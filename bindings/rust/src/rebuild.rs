@@ -2,7 +2,7 @@
 use crate::areas::{AreaWords, Areas};
 use crate::arena::Arena;
 use crate::builder::Placed;
-use crate::entry::Place;
+use crate::entry::{OwnedEntry, Place};
 use crate::ffi;
 use crate::refusal::{Refusal, Unfinished};
 use crate::set::{SET_WORDS, Set};
@@ -10,6 +10,11 @@ use crate::setting::LifetimeWords;
 use std::time::Duration;
 
 const REBUILD_WORDS: usize = 22;
+
+// Words of a rebuild: the length of a tick, and the tick that lifetimes count from.
+const TICK_SECONDS: usize = 1;
+const TICK_NANOSECONDS: usize = 2;
+const SOURCE_NOW_TICK: usize = 21;
 
 /// What a rebuild is to do.
 #[derive(Clone, Copy, Debug)]
@@ -20,7 +25,7 @@ pub struct Plan<'p> {
     pub copied_record_capacity: usize,
     /// For each segment of the source whether it is kept.
     pub keep: &'p [bool],
-    /// The tick from which the lifetimes of copied records count.
+    /// The present tick in the source's count. Lifetimes of copied records count from it.
     pub now_tick: u64,
 }
 
@@ -133,8 +138,42 @@ impl<'a> Rebuild<'a> {
         Ok(Placed::of_words(placed))
     }
 
-    /// Appends a record; its lifetime counts from the plan's tick. Of a record that stands in the arena
-    /// take key and value out before the rebuild is opened.
+    /// Appends a record that probe or walk told of a set in this line of rebuilds, with its own deadline: what
+    /// is left of its time is worked out for the plan's tick, whenever it was asked for. A copy of a record
+    /// that had lapsed by then is lapsed as well.
+    ///
+    /// ```
+    /// use segment_cache::{Arena, Builder, Plan, Rebuild, Refusal, Setting};
+    /// use std::time::Duration;
+    ///
+    /// let mut arena = Arena::new(64);
+    /// let setting = Setting::with_relative_expiry(Duration::from_secs(60));
+    /// let mut builder = Builder::open(&mut arena, &setting, 1)?;
+    /// builder.push(1, b"x", b"east", Some(Duration::from_secs(90 * 60)))?;
+    /// let old = builder.finish(4096)?;
+    /// let east = old.probe(&arena, 1, b"x", 30)?.unwrap().copy_out();
+    ///
+    /// let plan = Plan { records: 1, copied_record_capacity: 9, keep: &[false], now_tick: 35 };
+    /// let mut rebuild = Rebuild::open(&mut arena, &old, &plan)?;
+    /// rebuild.copy(1, &east)?;
+    /// let new = rebuild.finish()?.set;
+    /// assert_eq!(new.peek(&arena, 1, b"x", 89)?, Some(&b"east"[..]));
+    /// assert_eq!(new.peek(&arena, 1, b"x", 90)?, None);
+    /// # Ok::<(), Refusal>(())
+    /// ```
+    pub fn copy(&mut self, hash: u64, record: &OwnedEntry) -> Result<Placed, Refusal> {
+        // The library has asked that the nanoseconds are less than a second.
+        let tick_length = Duration::new(
+            self.words[TICK_SECONDS],
+            self.words[TICK_NANOSECONDS] as u32,
+        );
+        let lifetime = record.lifetime_at(self.words[SOURCE_NOW_TICK], tick_length);
+        self.push_copied(hash, &record.key, &record.value, lifetime)
+    }
+
+    /// Appends a record, which lapses its lifetime after the plan's tick, rounded up to whole ticks. For a
+    /// record that stands in the arena see [`Rebuild::copy`]: with what was left of its time at an earlier
+    /// tick than the plan's the copy would outlive it.
     pub fn push_copied(
         &mut self,
         hash: u64,

@@ -137,7 +137,7 @@ impl Set {
         Ok(accessed[0] == 1)
     }
 
-    /// The record of a key, lapsed or not, with what is left of its time. Sets no mark.
+    /// The record of a key, lapsed or not, with what is left of its time at this tick. Sets no mark.
     pub fn probe<'a>(
         &self,
         arena: &'a Arena,
@@ -159,10 +159,10 @@ impl Set {
             arena.bytes(),
             &mut record,
         ))?;
-        Ok(Entry::of_words(&record, arena, self.stamp))
+        Ok(Entry::of_words(&record, arena, self.stamp, tick))
     }
 
-    /// All records, lapsed or not, by ascending slots.
+    /// All records, lapsed or not, by ascending slots, with what is left of their time at this tick.
     pub fn entries<'a>(&'a self, arena: &'a Arena, tick: u64) -> Result<Entries<'a>, Refusal> {
         arena.holds(self.stamp)?;
         Ok(Entries::new(self, arena, tick))
@@ -186,7 +186,7 @@ impl Set {
             arena.bytes(),
             &mut record,
         ))?;
-        Ok(Entry::of_words(&record, arena, self.stamp))
+        Ok(Entry::of_words(&record, arena, self.stamp, tick))
     }
 
     /// Counts of the set.

@@ -1,5 +1,5 @@
 //! Rebuilds: what is taken over and copied, which sets stay askable, and what is refused.
-use segment_cache::{Arena, Builder, Plan, Rebuild, Refusal, Set, Setting};
+use segment_cache::{Arena, Builder, Plan, Rebuild, Refusal, Remaining, Set, Setting};
 use std::time::Duration;
 
 const TICK: Duration = Duration::from_secs(1);
@@ -60,6 +60,71 @@ fn keeps_copies_and_leaves_older_sets_alone() -> Result<(), Refusal> {
     assert_eq!(new.get(&arena, 2, b"b", 60)?, None);
     assert_eq!(old.get(&arena, 1, b"a", 49)?, Some(&b"first"[..]));
     assert_eq!(new.entries(&arena, 40)?.count(), 3);
+    Ok(())
+}
+
+// A copy has the record's own deadline, whether it was asked for before the plan's tick, at it or after it;
+// one that has lapsed by then stays lapsed.
+#[test]
+fn copies_keep_their_deadlines() -> Result<(), Refusal> {
+    for asked_at in [0, 39, 40, 41, 49] {
+        let mut arena = Arena::new(256);
+        let old = source(&mut arena)?;
+        let records: Vec<_> = old
+            .entries(&arena, asked_at)?
+            .map(|entry| entry.copy_out())
+            .collect();
+        let drop_all = [false; 3];
+        let mut rebuild = Rebuild::open(&mut arena, &old, &plan(3, &drop_all))?;
+        for (hash, record) in (1..).zip(&records) {
+            rebuild.copy(hash, record)?;
+        }
+        let new = rebuild.finish()?.set;
+        for tick in [40, 49, 50, 59, 60, 70_000] {
+            for (hash, key) in [(1, b"a"), (2, b"b"), (3, b"c")] {
+                assert_eq!(
+                    new.peek(&arena, hash, key, tick)?,
+                    old.peek(&arena, hash, key, tick)?,
+                    "asked at {asked_at}, tick {tick}"
+                );
+            }
+        }
+    }
+    Ok(())
+}
+
+// The library has no clock: a lifetime counts from the plan's tick, whenever it was told.
+#[test]
+fn what_was_left_at_an_earlier_tick_is_too_long() -> Result<(), Refusal> {
+    let mut arena = Arena::new(256);
+    let old = source(&mut arena)?;
+    let Remaining::Finite(left) = old.probe(&arena, 1, b"a", 35)?.unwrap().remaining else {
+        panic!("it lapses at 50");
+    };
+    let mut rebuild = Rebuild::open(&mut arena, &old, &plan(1, &[false; 3]))?;
+    rebuild.push_copied(1, b"a", b"first", Some(left))?;
+    let new = rebuild.finish()?.set;
+    assert_eq!(old.peek(&arena, 1, b"a", 50)?, None);
+    assert_eq!(new.peek(&arena, 1, b"a", 54)?, Some(&b"first"[..]));
+    assert_eq!(new.peek(&arena, 1, b"a", 55)?, None);
+    Ok(())
+}
+
+#[test]
+fn copies_of_lapsed_records_are_lapsed() -> Result<(), Refusal> {
+    for (asked_at, now_tick) in [(50, 50), (49, 50), (10, 55), (50, 40)] {
+        let mut arena = Arena::new(256);
+        let old = source(&mut arena)?;
+        let first = old.probe(&arena, 1, b"a", asked_at)?.unwrap().copy_out();
+        let plan = Plan {
+            now_tick,
+            ..plan(1, &[false; 3])
+        };
+        let mut rebuild = Rebuild::open(&mut arena, &old, &plan)?;
+        rebuild.copy(1, &first)?;
+        let new = rebuild.finish()?.set;
+        assert_eq!(new.peek(&arena, 1, b"a", now_tick.max(asked_at))?, None);
+    }
     Ok(())
 }
 
