@@ -22,9 +22,10 @@ soak:
 	tests/wrong_answers/run sets
 	tests/wrong_answers/run passage_lines
 
-# Speed beside the Rust, as ratios.
+# Speed beside the Rust, as ratios; what a poor hash costs.
 bench:
 	bench/run
+	bench/hashes
 
 # The library for C and Rust. What is there is handed out only while its proof holds, which is asked each time.
 library:
