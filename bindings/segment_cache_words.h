@@ -123,7 +123,7 @@ enum segment_cache_record_word {
     SEGMENT_CACHE_RECORD_KEY_LENGTH = 5,
     SEGMENT_CACHE_RECORD_VALUE_AT = 6,
     SEGMENT_CACHE_RECORD_VALUE_LENGTH = 7,
-    SEGMENT_CACHE_RECORD_REMAINING = 8, /* an enum segment_cache_remaining */
+    SEGMENT_CACHE_RECORD_REMAINING = 8, /* an enum segment_cache_remaining, at the tick asked for */
     SEGMENT_CACHE_RECORD_REMAINING_SECONDS = 9,
     SEGMENT_CACHE_RECORD_REMAINING_NANOSECONDS = 10
 };
@@ -188,7 +188,8 @@ static inline void segment_cache_setting_filter_bits(uint64_t *setting, uint8_t 
     setting[SEGMENT_CACHE_SETTING_FILTER_BITS] = bits;
 }
 
-/* A lifetime; for a record that never lapses lend any pointer with length 0. */
+/* A lifetime, which counts from tick 0 in a push and from the tick given to rebuild_open in a copied push;
+   for a record that never lapses lend any pointer with length 0. */
 static inline void segment_cache_lifetime(uint64_t *lifetime, uint64_t seconds,
                                           uint32_t nanoseconds) {
     lifetime[0] = seconds;

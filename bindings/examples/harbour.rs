@@ -124,10 +124,10 @@ fn rebuild(arena: &mut Arena, source: &Set, tick: u64) -> Result<Set, Refusal> {
         .filter(stays)
         .map(|entry| (hash(entry.key), entry.place()))
         .collect();
-    let copied: Vec<(u64, OwnedEntry)> = source
+    let copied: Vec<OwnedEntry> = source
         .entries(arena, tick)?
         .filter(|entry| !stays(entry) && entry.key != key && entry.remaining != Remaining::Nothing)
-        .map(|entry| (hash(entry.key), entry.copy_out()))
+        .map(|entry| entry.copy_out())
         .collect();
     let plan = Plan {
         records: kept.len() + copied.len() + 1,
@@ -139,8 +139,8 @@ fn rebuild(arena: &mut Arena, source: &Set, tick: u64) -> Result<Set, Refusal> {
     for (hash, place) in kept {
         rebuild.push_reused(hash, place)?;
     }
-    for (hash, record) in copied {
-        rebuild.copy(hash, &record)?;
+    for record in &copied {
+        rebuild.copy(hash(&record.key), record)?;
     }
     rebuild.push_copied(hash(key), key, survey.value.as_bytes(), survey.lifetime)?;
     let rebuilt = rebuild.finish()?;

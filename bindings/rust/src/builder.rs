@@ -92,8 +92,8 @@ impl<'a> Builder<'a> {
         })
     }
 
-    /// Adds a record, which lapses its lifetime after tick 0, rounded up to whole ticks; without a lifetime
-    /// it never lapses. Equal keys must come with equal hashes.
+    /// Adds a record, which lapses its lifetime after tick 0, rounded up to whole ticks; without one it
+    /// never lapses. Equal keys must come with equal hashes.
     pub fn push(
         &mut self,
         hash: u64,

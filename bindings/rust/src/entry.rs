@@ -97,8 +97,10 @@ impl<'a> Entry<'a> {
 /// A record taken out of its arena, to be copied in a rebuild. It knows at which tick it was asked for.
 #[derive(Clone, Debug, PartialEq, Eq)]
 pub struct OwnedEntry {
-    pub(crate) key: Vec<u8>,
-    pub(crate) value: Vec<u8>,
+    /// The key.
+    pub key: Vec<u8>,
+    /// The value.
+    pub value: Vec<u8>,
     remaining: Remaining,
     tick: u64,
 }

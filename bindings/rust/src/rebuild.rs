@@ -138,9 +138,9 @@ impl<'a> Rebuild<'a> {
         Ok(Placed::of_words(placed))
     }
 
-    /// Appends a record that probe or walk told of a set in this line of rebuilds, with its own deadline: what
-    /// is left of its time is worked out for the plan's tick, whenever it was asked for. A copy of a record
-    /// that had lapsed by then is lapsed as well.
+    /// Appends a record that probe or walk told of a set in this line of rebuilds, with its own deadline:
+    /// what is left of its time is worked out for the plan's tick, whenever it was asked for. The copy of a
+    /// record that has lapsed by then is lapsed as well.
     ///
     /// ```
     /// use segment_cache::{Arena, Builder, Plan, Rebuild, Refusal, Setting};
@@ -171,8 +171,8 @@ impl<'a> Rebuild<'a> {
         self.push_copied(hash, &record.key, &record.value, lifetime)
     }
 
-    /// Appends a record, which lapses its lifetime after the plan's tick, rounded up to whole ticks. For a
-    /// record that stands in the arena see [`Rebuild::copy`]: with what was left of its time at an earlier
+    /// Appends a record, which lapses its lifetime after the plan's tick, rounded up to whole ticks. For
+    /// one that stands in the arena see [`Rebuild::copy`]: with what was left of its time at an earlier
     /// tick than the plan's the copy would outlive it.
     pub fn push_copied(
         &mut self,
