@@ -18,14 +18,14 @@ use Rattle.sets.specs.Answers.{Reply, accept, refuse, Placed}
 use Rattle.sets.specs.Areas.{areaWordsFor}
 use Rattle.sets.specs.Build.{Opened, Pushed, Finished, afterOpen, afterPush, afterFinish}
 use Rattle.sets.specs.Lookup.{afterGet, afterPeek, afterTake, probeAnswer, statsAnswer, walkAnswer}
-use Rattle.sets.specs.Questions.{all}
+use Rattle.sets.specs.Questions.{all, decided, firstNo}
 use Rattle.sets.specs.Stats.{loadOf}
 use Rattle.sets.specs.declared.areas.AreaWords.{AreaWords}
 use Rattle.sets.specs.declared.builder.SegmentCacheBuilder.{SegmentCacheBuilder}
 use Rattle.sets.specs.declared.cache.FrozenSegmentCache.{FrozenSegmentCache}
 use Rattle.sets.specs.declared.cache.SegmentBaseRecord.{SegmentBaseRecord}
 use Rattle.sets.specs.declared.stats.SegmentCacheStats.{SegmentCacheStats}
-use Rattle.capi.specs.Words.{builderIn, builderWords, flagOf, lifetimeIn, setIn, setWords, settingAlone, statsIn, statsWords}
+use Rattle.capi.specs.Words.{askWidths, builderIn, builderWords, flagOf, lifetimeIn, setIn, setWords, settingAlone, statsIn, statsWords}
 use Rattle.capi.specs.declared.words.LoadedBuilder.{LoadedBuilder}
 use Rattle.capi.specs.declared.words.LoadedBuilder.the-variants as builder
 use Rattle.capi.specs.declared.words.LoadedLifetime.{LoadedLifetime}
@@ -181,7 +181,9 @@ sizeTold o old = told (o .number) (pick (eqb (o .number) 0) (o .value ∷ []) ol
 
 unfoldable pub exportedSize : List ℕ → ℕ → ℕ → List ℕ → Told
 exportedSize w key value old =
-    pick (eqb (length old) 1) (onSetting (settingAlone w) (λ c. sizeTold (encodedSize (c .expiry) key value) old) (told 11 old)) (told 11 old)
+    pick (eqb (length old) 1)
+    (onSetting (settingAlone w) (λ c. decided (firstNo (askWidths w)) (sizeTold (encodedSize (c .expiry) key value) old) (λ n. told n old)) (told 11 old))
+    (told 11 old)
 
 -- ---- get and peek: 1, place and length of the value; three zeros for nothing
 

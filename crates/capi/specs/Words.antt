@@ -63,6 +63,10 @@ settingForm w = all (leb (getD w 0 0) 1 ∷ leb (getD w 4 0) 1 ∷ leb (getD w 5
 unfoldable pub settingIn : List ℕ → LoadedSetting
 settingIn w = pick (settingForm w) (setting.Is (settingOf w)) setting.Malformed
 
+-- nanoseconds and an occupancy that no setting can hold, each with its question's number: asked by the call that takes any setting
+unfoldable pub askWidths : List ℕ → List (Bool × ℕ)
+askWidths w = (pick (eqb (getD w 0 0) 1) (leb (getD w 2 0) 0xffff_ffff) true, 9) ∷ (leb (getD w 3 0) 255, 1) ∷ []
+
 -- a setting that is lent by itself
 unfoldable pub settingAlone : List ℕ → LoadedSetting
 settingAlone w = pick (eqb (length w) 6) (settingIn w) setting.Malformed

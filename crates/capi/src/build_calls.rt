@@ -11,6 +11,7 @@ use crate::words::load_lifetime;
 use crate::words::load_setting;
 use crate::words::store_builder;
 use crate::words::store_set;
+use crate::words::width_refusal;
 use records::record::SizeAnswer;
 use sets::areas::AreaWordsAnswer;
 use sets::areas::area_words;
@@ -216,7 +217,8 @@ fn tell_area_words(answer: AreaWordsAnswer, words: &mut [u64]) -> u64
     }
 }
 
-// How many bytes a record of these lengths takes.
+// How many bytes a record of these lengths takes. Any setting will do, but its words must be those of
+// a setting.
 #[no_mangle]
 pub extern "C" fn segment_cache_encoded_record_bytes(
     setting: &[u64],
@@ -232,6 +234,10 @@ pub extern "C" fn segment_cache_encoded_record_bytes(
     let LoadedSetting::Is(config) = load_setting(setting) else {
         return MALFORMED;
     };
+    let too_wide = width_refusal(setting);
+    if too_wide != 0 {
+        return too_wide;
+    }
     let answer = SegmentCacheBuilder::encoded_record_bytes(config, key_bytes, value_bytes);
     tell_size(answer, size)
 }

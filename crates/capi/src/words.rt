@@ -12,7 +12,8 @@ use sets::stats::SegmentCacheStats;
 ghost use mathlib.Core.Path.{_≡_};
 ghost use Prim.Native.Nat.{_≤_};
 ghost use lib.ListN.{length};
-ghost use Rattle.capi.specs.Words.{builderIn, builderWords, expiryFlag, expiryOf, flagOf, lifetimeIn, nanosCapped, occupancyCapped, rebuildIn, rebuildWords, setIn, setWords, settingAlone, settingIn, statsIn, tickNanos, tickSecs};
+ghost use Rattle.sets.specs.Questions.{firstNo};
+ghost use Rattle.capi.specs.Words.{askWidths, builderIn, builderWords, expiryFlag, expiryOf, flagOf, lifetimeIn, nanosCapped, occupancyCapped, rebuildIn, rebuildWords, setIn, setWords, settingAlone, settingIn, statsIn, tickNanos, tickSecs};
 
 pub(crate) const BUILDER_WORDS: usize = 13;
 
@@ -24,6 +25,10 @@ pub(crate) const STATS_WORDS: usize = 8;
 
 // What a call answers to words of another number or form: the number of an invalid state.
 pub(crate) const MALFORMED: u64 = 11;
+
+const INVALID_NANOSECONDS: u64 = 9;
+
+const INVALID_BUCKET_OCCUPANCY: u64 = 1;
 
 const SETTING_WORDS: usize = 6;
 
@@ -97,6 +102,22 @@ fn expiry_of(flag: u64, secs: u64, nanos: u32) -> SegmentExpiry
         return SegmentExpiry::Relative16 { tick };
     }
     SegmentExpiry::None
+}
+
+// What a setting's words are too wide for: the number of question 2 or 3, or 0.
+pub(crate) fn width_refusal(words: &[u64]) -> u64
+    requires { ⌜ 6 ≤ length (now words) ⌝ }
+    ensures { λ r. ⌜ r ≡ firstNo (askWidths (now (words .entry))) ⌝ }
+{
+    if words[0] == 1 {
+        if words[2] > MAX_NANOS {
+            return INVALID_NANOSECONDS;
+        }
+    }
+    if words[3] > MAX_OCCUPANCY {
+        return INVALID_BUCKET_OCCUPANCY;
+    }
+    0
 }
 
 // A setting that is lent by itself.

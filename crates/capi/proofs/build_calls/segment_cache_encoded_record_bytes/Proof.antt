@@ -1,10 +1,36 @@
 -- `segment_cache_encoded_record_bytes` meets its contract: the form of the words, then the call and what it hands back. Assumes nothing.
-use Rattle.capi.specs.Calls.{exportedSize}
-use borrow.Author.Tests.{eq-eqb, ne-eqb}
-use mathlib.Core.Path.{sym, _∙_}
+use mathlib.Core.Path.{_≡_, refl, sym, ap, _∙_}
+use mathlib.Core.Bool.{Bool, true, false}
+use mathlib.Core.List.{List}
+use Prim.Native.Nat.{ℕ, zero, suc, _≤_}
+use native.Mathlib.Omega.{arith}
+use lib.Dec.{eqb}
+use lib.ListN.{length}
 use borrow.Author.Needs.{needs}
+use borrow.Author.Tests.{eq-eqb, ne-eqb, eqb-true}
+use Rattle.hash_parts.specs.Choice.{pick}
+use Rattle.hash_parts.specs.declared.setting.SegmentCacheConfig.{SegmentCacheConfig}
+use Rattle.sets.specs.Questions.{decided}
+use Rattle.capi.specs.Calls.{exportedSize}
+use Rattle.capi.specs.Words.{settingAlone, settingIn}
+use Rattle.capi.specs.declared.words.LoadedSetting.{LoadedSetting}
+use Rattle.capi.specs.declared.words.LoadedSetting.the-variants as setting
 use Rattle.capi.proofs.build_calls.segment_cache_encoded_record_bytes.Statement.{statement}
 use Rattle.capi.proofs.build_calls.segment_cache_encoded_record_bytes.Tie as tie
+
+-- a setting that was loaded has its six words
+six : (w : List ℕ) (c : SegmentCacheConfig) → settingAlone w ≡ setting.Is c → 6 ≤ length w
+unfolding settingAlone
+six w c e = go (eqb (length w) 6) refl e
+  where
+    go : (b : Bool) → eqb (length w) 6 ≡ b → pick b (settingIn w) setting.Malformed ≡ setting.Is c → 6 ≤ length w
+    go true q f = omega (arith, eqb-true (length w) 6 q)
+    go false q f = absurd (let z : _≡_ {A = ℕ} 0 1 = cc in omega arith)
+
+-- a number that is not 0 refuses
+refuses : {A : Type 0} (n : ℕ) (x : A) (f : ℕ → A) → (n ≡ 0 → ⊥) → f n ≡ decided n x f
+refuses zero x f h = absurd (h refl)
+refuses (suc n) x f h = refl
 
 returns : tie.Need-returns
 unfolding exportedSize
@@ -23,6 +49,13 @@ returns-2 : tie.Need-returns-2
 unfolding exportedSize
 returns-2 c = rw (eq-eqb _ _ (c .before .before .before .if1 .left), sym (c .before .before .load-setting .ensures) ∙ c .enum-told .given .1)
 
+width-refusal-requires : tie.Need-width-refusal-requires
+width-refusal-requires c κs = ?
+
+returns-3 : tie.Need-returns-3
+unfolding exportedSize
+returns-3 c = ?
+
 encoded-record-bytes-requires : tie.Need-encoded-record-bytes-requires
 encoded-record-bytes-requires c κs = search needs
 
@@ -32,9 +65,9 @@ tell-size-requires c κs = search needs
 same-length : tie.Need-same-length
 same-length c = search needs
 
-returns-3 : tie.Need-returns-3
+returns-4 : tie.Need-returns-4
 unfolding exportedSize
-returns-3 c = rw (eq-eqb _ _ (c .before .before .before .before .before .before .before .before .before .if1 .left), sym (c .before .before .before .before .before .before .before .before .load-setting .ensures) ∙ c .before .before .before .before .before .before .config .given .1, sym (c .before .before .before .before .encoded-record-bytes .ensures), sym (c .before .before .tell-size .ensures))
+returns-4 c = ?
 
 pub segment-cache-encoded-record-bytes-spec : {M : Type 1} → statement M
 segment-cache-encoded-record-bytes-spec =
@@ -45,7 +78,9 @@ segment-cache-encoded-record-bytes-spec =
     enum-known-config
     enum-told
     returns-2
+    width-refusal-requires
+    returns-3
     encoded-record-bytes-requires
     tell-size-requires
     same-length
-    returns-3)
+    returns-4)
