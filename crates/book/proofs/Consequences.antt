@@ -11,7 +11,7 @@ use Rattle.hash_parts.specs.Choice.{pick}
 use Rattle.hash_parts.specs.declared.setting.SegmentCacheConfig.{SegmentCacheConfig}
 use Rattle.hash_parts.specs.declared.setting.SegmentExpiry.{SegmentExpiry}
 use Rattle.book.specs.Book.{Entry, ListedSet, Book, blank, heard, bookAfter, firstOf, ruled, replyFrom, replied, replies}
-use Rattle.book.specs.Calls.{Call, push, finish, lookup, clear, reopen, reuse, copy, refinish, bare, value, nothing, refused}
+use Rattle.book.specs.Calls.{Call, opening, push, finish, lookup, peek, clear, probe, visit, stats, reopen, reuse, copy, refinish, bare, value, nothing, refused}
 use Rattle.book.specs.Premise.{EqualHashes, Hashes64}
 use Rattle.book.specs.World.{Areas, FinishedSet, World, step, opened, worldAfter, told, answers}
 use Rattle.book.proofs.Hashing.{AllHashed, hashed}
@@ -33,9 +33,18 @@ never-ruled tick (some d) e = go (eqb (d .deadline) 65535) (ltb tick (d .deadlin
     go false false f = let z : _≡_ {A = ℕ} 0 1 = cc in omega arith
 
 never-replied : (k : Book) (c : Call (Unit {0})) → Every (λ y. y ≡ refused → ⊥) (replied k c)
+never-replied k (opening config records arena index filter starts lengths) = every-nil
 never-replied k (push key v h lifetime) = every-nil
 never-replied k (finish target scratch) = every-nil
+never-replied k (peek set key h tick) = every-cons (go (getElem? (k .sets) set)) every-nil
+  where
+    go : (o : Option ListedSet) → replyFrom o key tick ≡ refused → ⊥
+    go none e = let z : _≡_ {A = ℕ} 0 1 = cc in omega arith
+    go (some l) e = never-ruled tick (firstOf key (l .list)) e
 never-replied k (clear set key h) = every-nil
+never-replied k (probe set key h tick) = every-nil
+never-replied k (visit set slot tick) = every-nil
+never-replied k (stats set) = every-nil
 never-replied k (reopen records copied flags tick index filter starts lengths) = every-nil
 never-replied k (reuse key v h location header) = every-nil
 never-replied k (copy key v h lifetime) = every-nil

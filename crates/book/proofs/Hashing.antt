@@ -7,7 +7,7 @@ use Prim.Native.Nat.{ℕ, _^_, _<_}
 use Rattle.hash_parts.specs.Choice.{pick}
 use Rattle.index.proofs.Table.{true≢false}
 use Rattle.book.specs.Book.{sameKey}
-use Rattle.book.specs.Calls.{Call, push, finish, lookup, clear, reopen, reuse, copy, refinish}
+use Rattle.book.specs.Calls.{Call, opening, push, finish, lookup, peek, clear, probe, visit, stats, reopen, reuse, copy, refinish}
 use Rattle.book.specs.Premise.{carried, EqualHashes, Hashes64}
 use Rattle.book.proofs.Keys.{key-true, key-refl}
 use Rattle.book.proofs.Steps.{Hashed}
@@ -39,10 +39,15 @@ AllHashed H (c ∷ cs) = Hashed H c × AllHashed H cs
 
 all-hashed : (H : List ℕ → ℕ) (cs : List (Call (List ℕ))) → ((key : List ℕ) (h : ℕ) → List·Memᴰ (key, h) (carried cs) → (h ≡ H key) × (h < 2 ^ 64)) → AllHashed H cs
 all-hashed H [] f = tt
+all-hashed H (opening config records arena index filter starts lengths ∷ cs) f = (tt, all-hashed H cs f)
 all-hashed H (push key value h ttl ∷ cs) f = (f key h (List·Memᴰ·head refl), all-hashed H cs (λ j g z. f j g (List·Memᴰ·tail z)))
 all-hashed H (finish target scratch ∷ cs) f = (tt, all-hashed H cs f)
 all-hashed H (lookup set key h tick ∷ cs) f = (f key h (List·Memᴰ·head refl), all-hashed H cs (λ j g z. f j g (List·Memᴰ·tail z)))
+all-hashed H (peek set key h tick ∷ cs) f = (f key h (List·Memᴰ·head refl), all-hashed H cs (λ j g z. f j g (List·Memᴰ·tail z)))
 all-hashed H (clear set key h ∷ cs) f = (f key h (List·Memᴰ·head refl), all-hashed H cs (λ j g z. f j g (List·Memᴰ·tail z)))
+all-hashed H (probe set key h tick ∷ cs) f = (tt, all-hashed H cs f)
+all-hashed H (visit set slot tick ∷ cs) f = (tt, all-hashed H cs f)
+all-hashed H (stats set ∷ cs) f = (tt, all-hashed H cs f)
 all-hashed H (reopen records copied flags tick index filter starts lengths ∷ cs) f = (tt, all-hashed H cs f)
 all-hashed H (reuse key value h location header ∷ cs) f = (f key h (List·Memᴰ·head refl), all-hashed H cs (λ j g z. f j g (List·Memᴰ·tail z)))
 all-hashed H (copy key value h ttl ∷ cs) f = (f key h (List·Memᴰ·head refl), all-hashed H cs (λ j g z. f j g (List·Memᴰ·tail z)))

@@ -7,6 +7,7 @@ pub mod Cutting
 pub mod Finishing
 pub mod Hashing
 pub mod Keys
+pub mod Making
 pub mod Pairs
 pub mod Pushing
 pub mod Reading

@@ -16,17 +16,17 @@ use Rattle.records.specs.Record.{recordBytes, recordSize}
 use Rattle.records.proofs.Parts.{size-is}
 use Rattle.index.proofs.Kept.{cleared-indexed}
 use Rattle.index.proofs.Filling.{replaced-length}
-use Rattle.sets.specs.Lookup.{areasHoldLookup}
-use Rattle.sets.specs.Answers.{accept, Placed}
-use Rattle.sets.specs.Build.{Opened, Pushed, Finished}
+use Rattle.sets.specs.Lookup.{afterPeek, areasHoldLookup}
+use Rattle.sets.specs.Answers.{Reply, accept, refuse, Placed}
+use Rattle.sets.specs.Build.{afterOpen, Opened, Pushed, Finished}
 use Rattle.sets.specs.Questions.{bucketsIn, filterWordsIn}
 use Rattle.sets.specs.declared.builder.SegmentCacheBuilder.{SegmentCacheBuilder}
 use Rattle.sets.specs.declared.cache.FrozenSegmentCache.{FrozenSegmentCache}
 use Rattle.sets.proofs.Accepted.{OpenCase, open-made, open-refused, open-case, PushCase, push-made, push-refused, push-case, FinishCase, finish-made, finish-many, finish-refused, finish-case}
 use Rattle.sets.proofs.Closure.{builderPasses, builder-lengths, builder-filter-holds, open-passes, push-passes, finish-passes}
 use Rattle.book.specs.Book.{ListedSet, Book, startsOf, blank, joined, closed, filledIn, heard, replyFrom, replied}
-use Rattle.book.specs.Calls.{Call, push, finish, lookup, clear, reopen, reuse, copy, refinish, bare, Answer, newest}
-use Rattle.book.specs.World.{Areas, Current, idle, building, rebuilding, FinishedSet, World, isAccepted, openLeaves, opened, pushLeaves, pushStep, finishLeaves, finishStep, lookupStep, clearStep, step, answerFrom, answered}
+use Rattle.book.specs.Calls.{Call, opening, push, finish, lookup, peek, clear, probe, visit, stats, reopen, reuse, copy, refinish, bare, Answer, newest}
+use Rattle.book.specs.World.{Areas, Current, idle, building, rebuilding, FinishedSet, World, isAccepted, openLeaves, opened, openedOr, openingStep, pushLeaves, pushStep, finishLeaves, finishStep, lookupStep, peekStep, clearStep, probeAccepted, visitAccepted, statsAccepted, step, answerFrom, peekedFrom, answered}
 use Rattle.book.proofs.Appending.{appended, joins}
 use Rattle.book.proofs.Asking.{set-answer, set-got, set-taken}
 use Rattle.book.proofs.Closing.{builder-finish}
@@ -115,6 +115,13 @@ module _ (H : List ℕ → ℕ) where
         sets = pairs-put j s _ e (λ l ok. set-got H (k .expiry) (w .arena) (filledIn (newest (k .sets))) s l ok key h bound tick) (m .sets);
       }
 
+  peek-holds : (w : World) (k : Book) → Holds H w k → (j : ℕ) (o : Option FinishedSet) → getElem? (w .sets) j ≡ o → (key : List ℕ) (h tick : ℕ)
+      → Holds H (peekStep w j o key h tick .after) k
+  unfolding afterPeek
+  peek-holds w k m j none e key h tick = m
+  peek-holds w k m j (some s) e key h tick =
+      record { memory = m .memory; top = m .top; current = m .current; sets = pairs-put j s _ e (λ l ok. ok) (m .sets) }
+
   clear-holds : (w : World) (k : Book) → Holds H w k → (j : ℕ) (o : Option FinishedSet) → getElem? (w .sets) j ≡ o → (key : List ℕ) (h : ℕ) → h < 2 ^ 64
       → Holds H (clearStep w j o key h .after) k
   clear-holds w k m j none e key h bound = m
@@ -131,43 +138,11 @@ module _ (H : List ℕ → ℕ) where
   answer-is w x top both-none key h tick hash bound = refl
   answer-is w x top (both-some {a = s} {b = l} ok) key h tick hash bound = set-answer H x (w .arena) top s l ok key h hash bound tick
 
-  -- ---- any call
-
-  -- the call carries its key's hash, of 64 bits
-  abbrev pub Hashed : Call (List ℕ) → Type 0
-  Hashed (push key value h ttl) = (h ≡ H key) × (h < 2 ^ 64)
-  Hashed (finish target scratch) = Unit {0}
-  Hashed (lookup j key h tick) = (h ≡ H key) × (h < 2 ^ 64)
-  Hashed (clear j key h) = (h ≡ H key) × (h < 2 ^ 64)
-  Hashed (reopen records copied flags tick index filter starts lengths) = Unit {0}
-  Hashed (reuse key value h location header) = (h ≡ H key) × (h < 2 ^ 64)
-  Hashed (copy key value h ttl) = (h ≡ H key) × (h < 2 ^ 64)
-  Hashed (refinish scratch) = Unit {0}
-
-  same-heard : (k : Book) (t : Bool) → pick t k k ≡ k
-  same-heard k true = refl
-  same-heard k false = refl
-
-  pub step-holds : (w : World) (k : Book) → Holds H w k → (c : Call (List ℕ)) → Hashed c → Holds H (step w c .after) (heard k (bare c, step w c .accepted))
-  step-holds w k m (push key value h ttl) hs = push-holds w k m (w .current) (m .current) key value h ttl (hs .0) (hs .1)
-  step-holds w k m (finish target scratch) hs = finish-holds w k m (w .current) (m .current) target scratch
-  step-holds w k m (lookup j key h tick) hs =
-      rw (same-heard k (lookupStep w j (getElem? (w .sets) j) key h tick .accepted)) (lookup-holds w k m j (getElem? (w .sets) j) refl key h tick (hs .1))
-  step-holds w k m (clear j key h) hs = rw (same-heard k (clearStep w j (getElem? (w .sets) j) key h .accepted)) (clear-holds w k m j (getElem? (w .sets) j) refl key h (hs .1))
-  step-holds w k m (reopen records copied flags tick index filter starts lengths) hs = reopen-holds H w k m records copied flags tick index filter starts lengths
-  step-holds w k m (reuse key value h location header) hs = reuse-holds H w k m (w .current) (m .current) key value h record { location = location; «header_bytes» = header } (hs .0) (hs .1)
-  step-holds w k m (copy key value h ttl) hs = copy-holds H w k m (w .current) (m .current) key value h ttl (hs .0) (hs .1)
-  step-holds w k m (refinish scratch) hs = refinish-holds H w k m (w .current) (m .current) scratch
-
-  pub answer-holds : (w : World) (k : Book) → Holds H w k → (c : Call (List ℕ)) → Hashed c → answered w c ≡ replied k (bare c)
-  answer-holds w k m (push key value h ttl) hs = refl
-  answer-holds w k m (finish target scratch) hs = refl
-  answer-holds w k m (lookup j key h tick) hs = ap (λ (y : Answer). y ∷ []) (answer-is w (k .expiry) (filledIn (newest (k .sets))) (pairs-get j (m .sets)) key h tick (hs .0) (hs .1))
-  answer-holds w k m (clear j key h) hs = refl
-  answer-holds w k m (reopen records copied flags tick index filter starts lengths) hs = refl
-  answer-holds w k m (reuse key value h location header) hs = refl
-  answer-holds w k m (copy key value h ttl) hs = refl
-  answer-holds w k m (refinish scratch) hs = refl
+  peek-is : (w : World) (x : SegmentExpiry) (top : ℕ) {o : Option FinishedSet} {p : Option ListedSet} → Both (SetHolds H x (w .arena) top) o p → (key : List ℕ) (h tick : ℕ) → h ≡ H key → h < 2 ^ 64
+      → peekedFrom w o key h tick ≡ replyFrom p key tick
+  unfolding afterPeek
+  peek-is w x top both-none key h tick hash bound = refl
+  peek-is w x top (both-some {a = s} {b = l} ok) key h tick hash bound = set-answer H x (w .arena) top s l ok key h hash bound tick
 
   -- ---- open
 
@@ -193,3 +168,65 @@ module _ (H : List ℕ → ℕ) where
                 };
             sets = Forall₂·nil;
           }
+
+  opening-holds : (w : World) (k : Book) → Holds H w k → (config : SegmentCacheConfig) (records : ℕ) (arena : List ℕ) (a : Areas)
+      → Holds H (openingStep w config records arena a .after) (pick (openingStep w config records arena a .accepted) (blank config) k)
+  opening-holds w k m config records arena a = go (afterOpen config records (a .index) (a .filter) (a .starts) (a .lengths) arena .answer)
+    where
+      go : (r : Reply SegmentCacheBuilder (Unit {0})) → Holds H (openedOr w (opened config records arena a) r) (pick (isAccepted r) (blank config) k)
+      go (accept b) = open-holds config records arena a
+      go (refuse n u) = m
+
+  -- ---- any call
+
+  -- the call carries its key's hash, of 64 bits
+  abbrev pub Hashed : Call (List ℕ) → Type 0
+  Hashed (opening config records arena index filter starts lengths) = Unit {0}
+  Hashed (push key value h ttl) = (h ≡ H key) × (h < 2 ^ 64)
+  Hashed (finish target scratch) = Unit {0}
+  Hashed (lookup j key h tick) = (h ≡ H key) × (h < 2 ^ 64)
+  Hashed (peek j key h tick) = (h ≡ H key) × (h < 2 ^ 64)
+  Hashed (clear j key h) = (h ≡ H key) × (h < 2 ^ 64)
+  Hashed (probe j key h tick) = Unit {0}
+  Hashed (visit j slot tick) = Unit {0}
+  Hashed (stats j) = Unit {0}
+  Hashed (reopen records copied flags tick index filter starts lengths) = Unit {0}
+  Hashed (reuse key value h location header) = (h ≡ H key) × (h < 2 ^ 64)
+  Hashed (copy key value h ttl) = (h ≡ H key) × (h < 2 ^ 64)
+  Hashed (refinish scratch) = Unit {0}
+
+  same-heard : (k : Book) (t : Bool) → pick t k k ≡ k
+  same-heard k true = refl
+  same-heard k false = refl
+
+  pub step-holds : (w : World) (k : Book) → Holds H w k → (c : Call (List ℕ)) → Hashed c → Holds H (step w c .after) (heard k (bare c, step w c .accepted))
+  step-holds w k m (opening config records arena index filter starts lengths) hs = opening-holds w k m config records arena record { index = index; filter = filter; starts = starts; lengths = lengths }
+  step-holds w k m (push key value h ttl) hs = push-holds w k m (w .current) (m .current) key value h ttl (hs .0) (hs .1)
+  step-holds w k m (finish target scratch) hs = finish-holds w k m (w .current) (m .current) target scratch
+  step-holds w k m (lookup j key h tick) hs =
+      rw (same-heard k (lookupStep w j (getElem? (w .sets) j) key h tick .accepted)) (lookup-holds w k m j (getElem? (w .sets) j) refl key h tick (hs .1))
+  step-holds w k m (peek j key h tick) hs =
+      rw (same-heard k (peekStep w j (getElem? (w .sets) j) key h tick .accepted)) (peek-holds w k m j (getElem? (w .sets) j) refl key h tick)
+  step-holds w k m (clear j key h) hs = rw (same-heard k (clearStep w j (getElem? (w .sets) j) key h .accepted)) (clear-holds w k m j (getElem? (w .sets) j) refl key h (hs .1))
+  step-holds w k m (probe j key h tick) hs = rw (same-heard k (probeAccepted w (getElem? (w .sets) j) key h tick)) m
+  step-holds w k m (visit j slot tick) hs = rw (same-heard k (visitAccepted w (getElem? (w .sets) j) slot tick)) m
+  step-holds w k m (stats j) hs = rw (same-heard k (statsAccepted (getElem? (w .sets) j))) m
+  step-holds w k m (reopen records copied flags tick index filter starts lengths) hs = reopen-holds H w k m records copied flags tick index filter starts lengths
+  step-holds w k m (reuse key value h location header) hs = reuse-holds H w k m (w .current) (m .current) key value h record { location = location; «header_bytes» = header } (hs .0) (hs .1)
+  step-holds w k m (copy key value h ttl) hs = copy-holds H w k m (w .current) (m .current) key value h ttl (hs .0) (hs .1)
+  step-holds w k m (refinish scratch) hs = refinish-holds H w k m (w .current) (m .current) scratch
+
+  pub answer-holds : (w : World) (k : Book) → Holds H w k → (c : Call (List ℕ)) → Hashed c → answered w c ≡ replied k (bare c)
+  answer-holds w k m (opening config records arena index filter starts lengths) hs = refl
+  answer-holds w k m (push key value h ttl) hs = refl
+  answer-holds w k m (finish target scratch) hs = refl
+  answer-holds w k m (lookup j key h tick) hs = ap (λ (y : Answer). y ∷ []) (answer-is w (k .expiry) (filledIn (newest (k .sets))) (pairs-get j (m .sets)) key h tick (hs .0) (hs .1))
+  answer-holds w k m (peek j key h tick) hs = ap (λ (y : Answer). y ∷ []) (peek-is w (k .expiry) (filledIn (newest (k .sets))) (pairs-get j (m .sets)) key h tick (hs .0) (hs .1))
+  answer-holds w k m (clear j key h) hs = refl
+  answer-holds w k m (probe j key h tick) hs = refl
+  answer-holds w k m (visit j slot tick) hs = refl
+  answer-holds w k m (stats j) hs = refl
+  answer-holds w k m (reopen records copied flags tick index filter starts lengths) hs = refl
+  answer-holds w k m (reuse key value h location header) hs = refl
+  answer-holds w k m (copy key value h ttl) hs = refl
+  answer-holds w k m (refinish scratch) hs = refl

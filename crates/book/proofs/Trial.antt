@@ -30,7 +30,7 @@ use Rattle.sets.specs.Questions as questions
 use Rattle.sets.specs.Rebuild as rebuilds
 use Rattle.book.specs.Book as books
 use Rattle.book.specs.Book.{ListedSet, blank, bookAfter, replies}
-use Rattle.book.specs.Calls.{Call, push, finish, lookup, clear, reopen, reuse, copy, refinish, Answer, value, nothing, absent}
+use Rattle.book.specs.Calls.{Call, push, finish, lookup, clear, probe, visit, stats, reopen, reuse, copy, refinish, Answer, value, nothing, absent}
 use Rattle.book.specs.World.{Areas, FinishedSet, World, opened, worldAfter, told, answers}
 
 -- ---- a list of calls in both layouts
@@ -44,12 +44,13 @@ abbrev setting : Bool → SegmentCacheConfig
 setting packed =
     record { expiry = Relative16 record { secs = 1; nanos = 0 }; «target_occupied_slots» = 1; «packed_bucket_index» = packed; «negative_filter_bits_per_entry» = 8 }
 
--- three records are announced; a key twice, a finish too early, a fourth record, a target of 0; then lookups, a clearing, and calls out of turn
+-- three records are announced; a key twice, a finish too early, a fourth record, a target of 0; then lookups, a clearing, calls out of turn, a probe with
+-- another hash than its key has elsewhere, a step of the walk, statistics, and those of a set that there is not
 abbrev calls : List (Call (List ℕ))
 calls =
     push (1 ∷ []) (65 ∷ 66 ∷ []) 3 (For record { secs = 9; nanos = 500_000_000 })
     ∷ push (1 ∷ []) (67 ∷ []) 3 Never
-    ∷ push (2 ∷ []) [] (2 ^ 63) Never
+    ∷ push [] [] (2 ^ 63) Never
     ∷ finish 8 (1 ∷ 2 ∷ 3 ∷ 4 ∷ [])
     ∷ push (3 ∷ []) (68 ∷ []) 5 (For record { secs = 0; nanos = 0 })
     ∷ push (4 ∷ []) [] 6 Never
@@ -58,13 +59,17 @@ calls =
     ∷ finish 8 (1 ∷ 2 ∷ 3 ∷ 4 ∷ [])
     ∷ lookup 0 (1 ∷ []) 3 9
     ∷ lookup 0 (1 ∷ []) 3 10
-    ∷ lookup 0 (2 ∷ []) (2 ^ 63) 70000
+    ∷ lookup 0 [] (2 ^ 63) 70000
     ∷ lookup 0 (3 ∷ []) 5 0
     ∷ lookup 0 (9 ∷ []) 3 0
     ∷ clear 0 (1 ∷ []) 3
     ∷ lookup 0 (1 ∷ []) 3 0
     ∷ push (4 ∷ []) [] 6 Never
     ∷ lookup 1 (1 ∷ []) 3 0
+    ∷ probe 0 (9 ∷ []) 4 0
+    ∷ visit 0 0 0
+    ∷ stats 0
+    ∷ stats 1
     ∷ []
 
 abbrev world : Bool → World
@@ -121,8 +126,9 @@ rebuildCalls =
     ∷ lookup 1 (2 ∷ []) (2 ^ 63) 0
     ∷ lookup 1 (9 ∷ []) 7 0
     ∷ lookup 0 (2 ∷ []) (2 ^ 63) 0
-    ∷ reopening 1 0 (1 ∷ 1 ∷ []) 0
+    ∷ reopening 2 0 (1 ∷ 1 ∷ []) 0
     ∷ reuse (4 ∷ []) (68 ∷ []) 6 (2 ^ 32 + 6) 4
+    ∷ reuse (1 ∷ []) (65 ∷ 66 ∷ []) 3 0 4
     ∷ refinish (1 ∷ 2 ∷ 3 ∷ [])
     ∷ lookup 2 (4 ∷ []) 6 5
     ∷ lookup 2 (4 ∷ []) 6 6
@@ -145,7 +151,7 @@ rebuildStarts : Bool → List (List ℕ)
 rebuildStarts packed = map (λ (s : FinishedSet). take (s .cache .segments) (s .areas .starts)) (worldAfter (rebuildWorld packed) rebuildCalls .sets)
 
 abbrev rebuildExpected : List Answer
-rebuildExpected = value (65 ∷ 66 ∷ []) ∷ nothing ∷ value (68 ∷ []) ∷ nothing ∷ nothing ∷ nothing ∷ value [] ∷ value (68 ∷ []) ∷ nothing ∷ nothing ∷ []
+rebuildExpected = value (65 ∷ 66 ∷ []) ∷ nothing ∷ value (68 ∷ []) ∷ nothing ∷ nothing ∷ nothing ∷ value [] ∷ value (68 ∷ []) ∷ nothing ∷ value (65 ∷ 66 ∷ []) ∷ []
 
 -- ---- the example of document 01: two records, packed, ticks of one second
 
@@ -174,16 +180,16 @@ trials : (run false ≡ expected)
     × (run true ≡ expected)
     × (by-book false ≡ expected)
     × (by-book true ≡ expected)
-    × (accepted true ≡ true ∷ false ∷ true ∷ false ∷ true ∷ false ∷ false ∷ false ∷ true ∷ true ∷ true ∷ true ∷ true ∷ true ∷ true ∷ true ∷ false ∷ false ∷ [])
-    × (ofFirst (λ s. take 4 (s .areas .starts)) (worldAfter (world false) calls .sets) ≡ 0 ∷ 12 ∷ 0 ∷ 0 ∷ [])
-    × (map (λ (l : ListedSet). l .starts) (bookAfter (blank (setting false)) (told (world false) calls) .sets) ≡ (0 ∷ 12 ∷ []) ∷ [])
+    × (accepted true ≡ true ∷ false ∷ true ∷ false ∷ true ∷ false ∷ false ∷ false ∷ true ∷ true ∷ true ∷ true ∷ true ∷ true ∷ true ∷ true ∷ false ∷ false ∷ true ∷ true ∷ true ∷ false ∷ [])
+    × (ofFirst (λ s. take 4 (s .areas .starts)) (worldAfter (world false) calls .sets) ≡ 0 ∷ 11 ∷ 0 ∷ 0 ∷ [])
+    × (map (λ (l : ListedSet). l .starts) (bookAfter (blank (setting false)) (told (world false) calls) .sets) ≡ (0 ∷ 11 ∷ []) ∷ [])
     × (rebuildRun false ≡ rebuildExpected)
     × (rebuildRun true ≡ rebuildExpected)
     × (rebuildBook false ≡ rebuildExpected)
     × (rebuildBook true ≡ rebuildExpected)
     × (rebuildAccepted true
     ≡ true ∷ false ∷ true ∷ true ∷ true ∷ true ∷ true ∷ false ∷ false ∷ false ∷ true ∷ true ∷ false ∷ true ∷ false ∷ true
-    ∷ true ∷ true ∷ true ∷ true ∷ true ∷ true ∷ true ∷ true ∷ true ∷ true ∷ true ∷ true ∷ true ∷ [])
+    ∷ true ∷ true ∷ true ∷ true ∷ true ∷ true ∷ true ∷ true ∷ true ∷ true ∷ true ∷ true ∷ true ∷ true ∷ [])
     × (rebuildStarts false ≡ (0 ∷ 5 ∷ []) ∷ (5 ∷ 12 ∷ []) ∷ (5 ∷ 12 ∷ []) ∷ [])
     × (map (λ (l : ListedSet). l .starts) (bookAfter (blank (setting false)) (told (rebuildWorld false) rebuildCalls) .sets) ≡ (0 ∷ 5 ∷ []) ∷ (5 ∷ 12 ∷ []) ∷ (5 ∷ 12 ∷ []) ∷ [])
     × (exampleAnswers ≡ value (0x41 ∷ 0x42 ∷ []) ∷ nothing ∷ value [] ∷ [])
@@ -199,14 +205,14 @@ unfolding run by-book accepted ofFirst rebuildRun rebuildBook rebuildAccepted re
     varint.readVarint
     slots.bucketsFor slots.cleared slots.buildRecord slots.holdsKey slots.looks slots.searched slots.searchedAll slots.slotFor
     filters.bitPast filters.filterWord filters.filterMask filters.filterMarked filters.displaced filters.displacedMarked filters.filterHas
-    find.looksFrom find.scan find.sweep find.hasEmpty find.found find.findIn
+    find.slotAt find.looksFrom find.scan find.sweep find.hasEmpty find.found find.findIn
     packing.wordsOf packing.wordBytes packing.concatMap packing.controlWord packing.referenceWords packing.packed packing.packedIndex packing.packedScratch packing.packedSlot packing.packedSlotsOf packing.packedBucket packing.withByte
     cuts.nextStart cuts.startAfter cuts.startsAfter cuts.startsOf cuts.lengthsOf cuts.segmentOf cuts.splitWord cuts.padded cuts.split cuts.allInside cuts.locationsInside
     slot.wordSlot
     view.inSegment view.recordIn
     walk.bucketsOf walk.upFrom
     builds.builderFits builds.areasHoldBuilder builds.afterOpen builds.askPush builds.pushAt builds.afterPush builds.askFinish builds.afterFinish
-    asks.setFits asks.areasHoldSet asks.areasHoldLookup asks.askLookup asks.slotMarked asks.slotCleared asks.slotAccessed asks.liveValue asks.liveMarked asks.afterGet asks.afterTake
+    asks.setFits asks.areasHoldSet asks.areasHoldLookup asks.askLookup asks.slotMarked asks.slotCleared asks.slotAccessed asks.liveValue asks.liveMarked asks.afterGet asks.afterTake asks.probeAnswer asks.entryAt asks.firstEntry asks.nextEntry asks.askWalk asks.walkAnswer asks.askStats asks.statsAnswer
     kept.bitsOf kept.keptFlags kept.isKept kept.retained kept.newNumber kept.keptCount kept.flagWord kept.chosen
     rebuilds.segmentsInside rebuilds.areasHoldSource rebuilds.rebuildFits rebuilds.areasHoldRebuild rebuilds.askRebuildOpen rebuilds.afterRebuildOpen rebuilds.holdsRecord rebuilds.askReused rebuilds.afterReused rebuilds.askCopied rebuilds.afterCopied rebuilds.askRebuildFinish rebuilds.addsSegment rebuilds.sumOf rebuilds.afterRebuildFinish
     questions.nanosecondsFit questions.lifetimeFits questions.occupancyFits questions.tickRuns questions.settingFits questions.countsFit questions.arenaHolds questions.segmentAreasHold questions.targetFits questions.scratchHolds questions.openAreasHold questions.askOpen

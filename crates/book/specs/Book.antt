@@ -13,7 +13,7 @@ use Rattle.hash_parts.specs.declared.setting.SegmentCacheConfig.{SegmentCacheCo
 use Rattle.hash_parts.specs.declared.setting.SegmentExpiry.{SegmentExpiry}
 use Rattle.hash_parts.specs.declared.setting.SegmentExpiry.the-variants.{None, Relative16}
 use Rattle.records.specs.Record.{recordBytes}
-use Rattle.book.specs.Calls.{Call, push, finish, lookup, clear, reopen, reuse, copy, refinish, Answer, value, nothing, absent, newest}
+use Rattle.book.specs.Calls.{Call, opening, push, finish, lookup, peek, clear, probe, visit, stats, reopen, reuse, copy, refinish, Answer, value, nothing, absent, newest}
 
 -- ---- the book
 
@@ -162,10 +162,15 @@ rejoined b key v place =
 
 -- of an accepted call; Setting: "the base is 0 in a build"; Rebuilt set: "copies have a tick given at rebuild open as base"
 abbrev pub noted : Book → Call (Unit {0}) → Book
+noted b (opening config records arena index filter starts lengths) = blank config
 noted b (push key v h lifetime) = joined b key v (encodedExpiry (b .expiry) lifetime 0 .value)
 noted b (finish target scratch) = closed b (startsOf (length (b .tape)) target (b .list))
 noted b (lookup j key h tick) = b
+noted b (peek j key h tick) = b
 noted b (clear j key h) = b
+noted b (probe j key h tick) = b
+noted b (visit j slot tick) = b
+noted b (stats j) = b
 noted b (reopen records copied flags tick index filter starts lengths) = reopened b flags tick
 noted b (reuse key v h location header) = rejoined b key v (placeOf (startsIn (newest (b .sets))) location)
 noted b (copy key v h lifetime) = joined b key v (encodedExpiry (b .expiry) lifetime (b .tick) .value)
@@ -205,10 +210,15 @@ replyFrom none key tick = absent
 replyFrom (some s) key tick = ruled tick (firstOf key (s .list))
 
 abbrev pub replied : Book → Call (Unit {0}) → List Answer
+replied b (opening config records arena index filter starts lengths) = []
 replied b (push key v h lifetime) = []
 replied b (finish target scratch) = []
 replied b (lookup j key h tick) = replyFrom (getElem? (b .sets) j) key tick ∷ []
+replied b (peek j key h tick) = replyFrom (getElem? (b .sets) j) key tick ∷ []
 replied b (clear j key h) = []
+replied b (probe j key h tick) = []
+replied b (visit j slot tick) = []
+replied b (stats j) = []
 replied b (reopen records copied flags tick index filter starts lengths) = []
 replied b (reuse key v h location header) = []
 replied b (copy key v h lifetime) = []

@@ -1,6 +1,7 @@
 -- The world that a list of calls goes through: states and areas as the calls leave them. Each call is the very definition that its contract
--- cites (afterOpen, afterPush, afterFinish, afterGet, afterTake, afterRebuildOpen, afterReused, afterCopied, afterRebuildFinish), and the world after it
--- holds what that definition says is left, refused calls included. States and areas are carried over from call to call, nothing else writes to them, and no
+-- cites (afterOpen, afterPush, afterFinish, afterGet, afterPeek, afterTake, probeAnswer, walkAnswer, statsAnswer, afterRebuildOpen, afterReused, afterCopied,
+-- afterRebuildFinish), and the world after it holds what that definition says is left, refused calls included; src/calls.rt makes each call, and its contracts
+-- say which step it is. States and areas are carried over from call to call, nothing else writes to them, and no
 -- area is shared. There is one line of rebuilds: each is opened from the newest set, and opening another ends an unfinished one.
 -- Assumes nothing.
 use mathlib.Core.Bool.{Bool, true, false}
@@ -14,14 +15,14 @@ use Rattle.records.specs.Area.{spanned}
 use Rattle.records.specs.declared.record.Span.{Span}
 use Rattle.sets.specs.Answers.{Reply, accept, refuse, Placed, RebuildPlaced}
 use Rattle.sets.specs.Build.{Opened, afterOpen, Pushed, afterPush, Finished, afterFinish}
-use Rattle.sets.specs.Lookup.{Got, afterGet, Taken, afterTake}
+use Rattle.sets.specs.Lookup.{Got, afterGet, afterPeek, Taken, afterTake, probeAnswer, walkAnswer, statsAnswer}
 use Rattle.sets.specs.Rebuild.{RebuildOpened, afterRebuildOpen, Reused, afterReused, Copied, afterCopied, RebuildFinished, afterRebuildFinish}
 use Rattle.sets.specs.declared.builder.SegmentCacheBuilder.{SegmentCacheBuilder}
 use Rattle.sets.specs.declared.cache.FrozenSegmentCache.{FrozenSegmentCache}
 use Rattle.sets.specs.declared.rebuild.SegmentRecordLocation.{SegmentRecordLocation}
 use Rattle.sets.specs.declared.rebuild.SharedSegmentCacheBuild.{SharedSegmentCacheBuild}
 use Rattle.sets.specs.declared.rebuild.SharedSegmentCacheBuilder.{SharedSegmentCacheBuilder}
-use Rattle.book.specs.Calls.{Call, push, finish, lookup, clear, reopen, reuse, copy, refinish, bare, Answer, value, nothing, refused, absent, newest}
+use Rattle.book.specs.Calls.{Call, opening, push, finish, lookup, peek, clear, probe, visit, stats, reopen, reuse, copy, refinish, bare, Answer, value, nothing, refused, absent, newest}
 
 -- ---- states with their areas
 
@@ -47,6 +48,10 @@ pub record World : Type 0 where
   pub arena : List ℕ
   pub current : Current
   pub sets : List FinishedSet
+
+-- a world with nothing in it
+abbrev pub nowhere : World
+nowhere = record { arena = []; current = idle; sets = [] }
 
 -- what a call leaves: the world, and whether it was accepted
 pub record Step : Type 0 where
@@ -78,6 +83,18 @@ openLeaves arena a o =
 -- the world after open
 abbrev pub opened : SegmentCacheConfig → ℕ → List ℕ → Areas → World
 opened config records arena a = openLeaves arena a (afterOpen config records (a .index) (a .filter) (a .starts) (a .lengths) arena)
+
+-- an open in a list of calls: accepted, another line begins, in an arena and areas of its own; refused, nothing changes
+abbrev pub openedOr : World → World → Reply SegmentCacheBuilder (Unit {0}) → World
+openedOr w new (accept b) = new
+openedOr w new (refuse n u) = w
+
+abbrev pub openingStep : World → SegmentCacheConfig → ℕ → List ℕ → Areas → Step
+openingStep w config records arena a =
+    record {
+      after = openedOr w (opened config records arena a) (afterOpen config records (a .index) (a .filter) (a .starts) (a .lengths) arena .answer);
+      accepted = isAccepted (afterOpen config records (a .index) (a .filter) (a .starts) (a .lengths) arena .answer);
+    }
 
 -- ---- push
 
@@ -147,9 +164,33 @@ abbrev pub lookupStep : World → ℕ → Option FinishedSet → List ℕ → �
 lookupStep w j none key h tick = outOfTurn w
 lookupStep w j (some s) key h tick = setLeaves w j s (getFrom w s key h tick .index) (isAccepted (getFrom w s key h tick .answer))
 
+abbrev pub peekFrom : World → FinishedSet → List ℕ → ℕ → ℕ → Got
+peekFrom w s key h tick =
+    afterPeek (s .cache) h key tick (s .areas .index) (s .areas .filter) (s .areas .starts) (s .areas .lengths) (w .arena)
+
+abbrev pub peekStep : World → ℕ → Option FinishedSet → List ℕ → ℕ → ℕ → Step
+peekStep w j none key h tick = outOfTurn w
+peekStep w j (some s) key h tick = setLeaves w j s (peekFrom w s key h tick .index) (isAccepted (peekFrom w s key h tick .answer))
+
 abbrev pub clearStep : World → ℕ → Option FinishedSet → List ℕ → ℕ → Step
 clearStep w j none key h = outOfTurn w
 clearStep w j (some s) key h = setLeaves w j s (takeFrom w s key h .index) (isAccepted (takeFrom w s key h .answer))
+
+-- ---- probe, a step of the walk, statistics: they leave the world as it is
+
+abbrev pub probeAccepted : World → Option FinishedSet → List ℕ → ℕ → ℕ → Bool
+probeAccepted w none key h tick = false
+probeAccepted w (some s) key h tick =
+    isAccepted (probeAnswer (s .cache) h key tick (s .areas .index) (s .areas .filter) (s .areas .starts) (s .areas .lengths) (w .arena))
+
+abbrev pub visitAccepted : World → Option FinishedSet → ℕ → ℕ → Bool
+visitAccepted w none slot tick = false
+visitAccepted w (some s) slot tick =
+    isAccepted (walkAnswer (s .cache) slot tick (s .areas .index) (s .areas .starts) (s .areas .lengths) (w .arena))
+
+abbrev pub statsAccepted : Option FinishedSet → Bool
+statsAccepted none = false
+statsAccepted (some s) = isAccepted (statsAnswer (s .cache))
 
 -- ---- rebuild open: refused, it leaves an unfinished rebuild open
 
@@ -238,10 +279,16 @@ refinishStep w (rebuilding r a) scratch = refinishLeaves w a (afterRebuildFinish
 -- ---- a list of calls
 
 abbrev pub step : World → Call (List ℕ) → Step
+step w (opening config records arena index filter starts lengths) =
+    openingStep w config records arena record { index = index; filter = filter; starts = starts; lengths = lengths }
 step w (push key v h ttl) = pushStep w (w .current) key v h ttl
 step w (finish target scratch) = finishStep w (w .current) target scratch
 step w (lookup j key h tick) = lookupStep w j (getElem? (w .sets) j) key h tick
+step w (peek j key h tick) = peekStep w j (getElem? (w .sets) j) key h tick
 step w (clear j key h) = clearStep w j (getElem? (w .sets) j) key h
+step w (probe j key h tick) = record { after = w; accepted = probeAccepted w (getElem? (w .sets) j) key h tick }
+step w (visit j slot tick) = record { after = w; accepted = visitAccepted w (getElem? (w .sets) j) slot tick }
+step w (stats j) = record { after = w; accepted = statsAccepted (getElem? (w .sets) j) }
 step w (reopen records copied flags tick index filter starts lengths) =
     reopenStep w (newest (w .sets)) records copied flags tick index filter starts lengths
 step w (reuse key v h location header) = reuseStep w (w .current) key v h record { location = location; «header_bytes» = header }
@@ -268,12 +315,21 @@ abbrev pub answerFrom : World → Option FinishedSet → List ℕ → ℕ → �
 answerFrom w none key h tick = absent
 answerFrom w (some s) key h tick = answerOf (w .arena) (getFrom w s key h tick .answer)
 
+abbrev pub peekedFrom : World → Option FinishedSet → List ℕ → ℕ → ℕ → Answer
+peekedFrom w none key h tick = absent
+peekedFrom w (some s) key h tick = answerOf (w .arena) (peekFrom w s key h tick .answer)
+
 -- a lookup answers, other calls do not
 abbrev pub answered : World → Call (List ℕ) → List Answer
+answered w (opening config records arena index filter starts lengths) = []
 answered w (push key v h ttl) = []
 answered w (finish target scratch) = []
 answered w (lookup j key h tick) = answerFrom w (getElem? (w .sets) j) key h tick ∷ []
+answered w (peek j key h tick) = peekedFrom w (getElem? (w .sets) j) key h tick ∷ []
 answered w (clear j key h) = []
+answered w (probe j key h tick) = []
+answered w (visit j slot tick) = []
+answered w (stats j) = []
 answered w (reopen records copied flags tick index filter starts lengths) = []
 answered w (reuse key v h location header) = []
 answered w (copy key v h ttl) = []

@@ -1,0 +1,33 @@
+-- `make_reopen` meets its contract. Assumes nothing.
+use Rattle.book.specs.Made.{areasOf, setOf}
+use Rattle.book.proofs.Making.{make-reopen}
+use borrow.Author.Needs.{needs}
+use Rattle.book.proofs.calls.make_reopen.Statement.{statement}
+use Rattle.book.proofs.calls.make_reopen.Tie as tie
+
+try-new-requires : tie.Need-try-new-requires
+try-new-requires c κs = search needs
+
+same-length : tie.Need-same-length
+same-length c = search needs
+
+same-length-2 : tie.Need-same-length-2
+same-length-2 c = search needs
+
+same-length-3 : tie.Need-same-length-3
+same-length-3 c = search needs
+
+same-length-4 : tie.Need-same-length-4
+same-length-4 c = search needs
+
+returns : tie.Need-returns
+returns c =
+    let a = c .before .before .before .before .before .before .before .before .before .before .before .before .before .before .before .before .before .before .before .before .before .before .before .args in
+    let areas = areasOf (a .index .now) (a .filter .now) (a .starts .now) (a .lengths .now) in
+    let m = c .before .before .before .before .before .before .before .before .try-new in
+    make-reopen (setOf (a .source) (areasOf (a .source-index .now) (a .source-filter .now) (a .source-starts .now) (a .source-lengths .now))) (a .arena .now) (a .entry-count) (a .copied-record-capacity) (a .used-source-segments .now) (a .source-now-tick) areas (m .result) (m .last .1 .1 .1 .1 .1 .1 .1 .1 .0) (m .last .1 .1 .1 .1 .1 .1 .1 .1 .1 .0) (m .last .1 .1 .1 .1 .1 .1 .1 .1 .1 .1 .0) (m .last .1 .1 .1 .1 .1 .1 .1 .1 .1 .1 .1 .0) (m .ensures)
+
+pub make-reopen-spec : {M : Type 1} → statement M
+make-reopen-spec =
+    tie.close
+    (tie.spec try-new-requires same-length same-length-2 same-length-3 same-length-4 returns)

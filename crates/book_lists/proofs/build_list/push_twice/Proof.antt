@@ -1,0 +1,64 @@
+-- `push_twice` meets its contract. Assumes nothing.
+use mathlib.Core.Path.{ap, _∙_}
+use mathlib.Core.List.{[], _∷_}
+use Rattle.sets.specs.declared.builder.SegmentCacheBuilder.{SegmentCacheBuilder}
+use Rattle.book.specs.Calls.{push, finish, lookup}
+use Rattle.book.specs.Made.{areasOf, worldOf}
+use Rattle.book.specs.World.{building, World, Step, answers}
+use Rattle.book.proofs.Making.{pushed-on}
+use borrow.Author.Needs.{needs}
+use Rattle.book_lists.proofs.build_list.push_twice.Statement.{statement}
+use Rattle.book_lists.proofs.build_list.push_twice.Tie as tie
+
+make-push-requires : tie.Need-make-push-requires
+make-push-requires c κs = search needs
+
+builder-after-requires : tie.Need-builder-after-requires
+builder-after-requires c κs = search needs
+
+push-once-requires : tie.Need-push-once-requires
+push-once-requires c κs = search needs
+
+same-length : tie.Need-same-length
+same-length c = search needs
+
+same-length-2 : tie.Need-same-length-2
+same-length-2 c = search needs
+
+same-length-3 : tie.Need-same-length-3
+same-length-3 c = search needs
+
+same-length-4 : tie.Need-same-length-4
+same-length-4 c = search needs
+
+same-length-5 : tie.Need-same-length-5
+same-length-5 c = search needs
+
+same-length-6 : tie.Need-same-length-6
+same-length-6 c = search needs
+
+returns : tie.Need-returns
+returns c =
+    let a = c .before .before .before .before .before .before .before .before .before .before .before .before .before .before .before .before .before .before .before .before .before .before .before .before .before .before .before .before .before .before .before .before .before .before .before .before .before .before .before .before .before .before .before .args in
+    let calls = push (a .second-key .now) (a .second-value .now) (a .second-hash) (a .second-ttl) ∷ finish (a .target) (a .scratch .now) ∷ lookup 0 (a .asked-key .now) (a .asked-hash) (a .now-tick) ∷ [] in
+    let m = c .before .before .before .before .before .before .before .before .before .before .before .before .before .before .before .before .before .before .before .before .before .before .before .before .before .before .make-push in
+    let areas = areasOf (m .last .1 .1 .1 .1 .1 .0) (m .last .1 .1 .1 .1 .1 .1 .0) (a .starts .now) (a .lengths .now) in
+    c .before .before .before .before .before .before .before .before .before .before .before .before .push-once .ensures
+    ∙ ap (λ (b : SegmentCacheBuilder). answers (worldOf (m .last .1 .1 .1 .1 .1 .1 .1 .1 .1 .0) (building b areas) []) calls) (c .before .before .before .before .before .before .before .before .before .before .before .before .before .before .before .before .before .before .before .builder-after .ensures)
+    ∙ ap (λ (w : World). answers w calls) (pushed-on [] (m .last .1 .1 .1 .1 .1 .1 .1 .1 .1 .0) areas (m .result))
+    ∙ ap (λ (s : Step). answers (s .after) calls) (m .ensures [])
+
+pub push-twice-spec : {M : Type 1} → statement M
+push-twice-spec =
+    tie.close
+    (tie.spec
+    make-push-requires
+    builder-after-requires
+    push-once-requires
+    same-length
+    same-length-2
+    same-length-3
+    same-length-4
+    same-length-5
+    same-length-6
+    returns)

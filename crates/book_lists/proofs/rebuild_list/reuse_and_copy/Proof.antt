@@ -1,0 +1,64 @@
+-- `reuse_and_copy` meets its contract. Assumes nothing.
+use mathlib.Core.Path.{ap, _∙_}
+use mathlib.Core.List.{[], _∷_}
+use Rattle.sets.specs.declared.rebuild.SharedSegmentCacheBuilder.{SharedSegmentCacheBuilder}
+use Rattle.book.specs.Calls.{copy, refinish, lookup}
+use Rattle.book.specs.Made.{areasOf, worldOf}
+use Rattle.book.specs.World.{rebuilding, World, Step, answers}
+use Rattle.book.proofs.Making.{repushed-on}
+use borrow.Author.Needs.{needs}
+use Rattle.book_lists.proofs.rebuild_list.reuse_and_copy.Statement.{statement}
+use Rattle.book_lists.proofs.rebuild_list.reuse_and_copy.Tie as tie
+
+make-reuse-requires : tie.Need-make-reuse-requires
+make-reuse-requires c κs = search needs
+
+rebuild-after-requires : tie.Need-rebuild-after-requires
+rebuild-after-requires c κs = search needs
+
+copy-and-finish-requires : tie.Need-copy-and-finish-requires
+copy-and-finish-requires c κs = search needs
+
+same-length : tie.Need-same-length
+same-length c = search needs
+
+same-length-2 : tie.Need-same-length-2
+same-length-2 c = search needs
+
+same-length-3 : tie.Need-same-length-3
+same-length-3 c = search needs
+
+same-length-4 : tie.Need-same-length-4
+same-length-4 c = search needs
+
+same-length-5 : tie.Need-same-length-5
+same-length-5 c = search needs
+
+same-length-6 : tie.Need-same-length-6
+same-length-6 c = search needs
+
+returns : tie.Need-returns
+returns c = λ source.
+    let a = c .before .before .before .before .before .before .before .before .before .before .before .before .before .before .before .before .before .before .before .before .before .before .before .before .before .before .before .before .before .before .before .before .before .before .before .before .before .before .before .before .before .args in
+    let calls = copy (a .key .now) (a .value .now) (a .hash) (a .ttl) ∷ refinish (a .scratch .now) ∷ lookup 1 (a .asked-key .now) (a .asked-hash) (a .now-tick) ∷ [] in
+    let m = c .before .before .before .before .before .before .before .before .before .before .before .before .before .before .before .before .before .before .before .before .before .before .before .before .make-reuse in
+    let areas = areasOf (m .last .1 .1 .1 .1 .1 .0) (m .last .1 .1 .1 .1 .1 .1 .0) (a .starts .now) (a .lengths .now) in
+    c .before .before .before .before .before .before .before .before .before .before .before .before .copy-and-finish .ensures source
+    ∙ ap (λ (b : SharedSegmentCacheBuilder). answers (worldOf (a .arena .now) (rebuilding b areas) (source ∷ [])) calls) (c .before .before .before .before .before .before .before .before .before .before .before .before .before .before .before .before .before .before .before .rebuild-after .ensures)
+    ∙ ap (λ (w : World). answers w calls) (repushed-on (source ∷ []) (a .arena .now) areas (m .result))
+    ∙ ap (λ (s : Step). answers (s .after) calls) (m .ensures (source ∷ []))
+
+pub reuse-and-copy-spec : {M : Type 1} → statement M
+reuse-and-copy-spec =
+    tie.close
+    (tie.spec
+    make-reuse-requires
+    rebuild-after-requires
+    copy-and-finish-requires
+    same-length
+    same-length-2
+    same-length-3
+    same-length-4
+    same-length-5
+    same-length-6
+    returns)

@@ -1,0 +1,13 @@
+-- The answer of a list that ends with its only lookup. Assumes nothing.
+use mathlib.Core.List.{List, [], _∷_}
+use Prim.Native.Nat.{ℕ}
+use Rattle.records.specs.Area.{spanned}
+use Rattle.book.specs.Calls.{Answer, value, nothing, refused, absent}
+use Rattle.book_lists.specs.declared.build_list.ListAnswer.{ListAnswer}
+use Rattle.book_lists.specs.declared.build_list.ListAnswer.the-variants.{Value, Nothing, Refused, Absent}
+
+abbrev pub gives : List ℕ → ListAnswer → List Answer
+gives arena (Value span) = value (spanned arena span) ∷ []
+gives arena Nothing = nothing ∷ []
+gives arena (Refused e) = refused ∷ []
+gives arena Absent = absent ∷ []
