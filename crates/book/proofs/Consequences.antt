@@ -1,4 +1,4 @@
--- What else the lists of calls keep: no lookup in a finished set is refused, and segments and tape are the book's. Assumes nothing.
+-- What else holds of every list of calls: no lookup in a finished set is refused, and segments and tape are the book's. Assumes nothing.
 use mathlib.Core.Path.{_≡_, refl, ap₂}
 use mathlib.Core.Bool.{Bool, true, false}
 use mathlib.Core.List.{List, [], _∷_, _++_, map, Forall₂, Forall₂·nil, Forall₂·cons}
@@ -11,14 +11,14 @@ use Rattle.hash_parts.specs.Choice.{pick}
 use Rattle.hash_parts.specs.declared.setting.SegmentCacheConfig.{SegmentCacheConfig}
 use Rattle.hash_parts.specs.declared.setting.SegmentExpiry.{SegmentExpiry}
 use Rattle.book.specs.Book.{Entry, ListedSet, Book, blank, heard, bookAfter, firstOf, ruled, replyFrom, replied, replies}
-use Rattle.book.specs.Calls.{Call, opening, push, finish, lookup, peek, clear, probe, visit, stats, reopen, reuse, copy, refinish, bare, value, nothing, refused}
+use Rattle.book.specs.Calls.{Call, opening, push, finish, lookup, peek, clear, probe, walk, stats, reopen, reuse, copy, refinish, bare, value, nothing, refused}
 use Rattle.book.specs.Premise.{EqualHashes, Hashes64}
-use Rattle.book.specs.World.{Areas, FinishedSet, World, step, opened, worldAfter, told, answers}
+use Rattle.book.specs.World.{FinishedSet, World, unopened, step, worldAfter, told, answers}
 use Rattle.book.proofs.Hashing.{AllHashed, hashed}
 use Rattle.book.proofs.Relation.{SetHolds, Holds}
 use Rattle.book.proofs.Standing.{Every, every-nil, every-cons}
-use Rattle.book.proofs.Steps.{step-holds, open-holds}
-use Rattle.book.proofs.Theorem.{answers-by-the-book}
+use Rattle.book.proofs.Steps.{step-holds, unopened-holds}
+use Rattle.book.proofs.Theorem.{every-list}
 
 -- ---- refusals
 
@@ -32,28 +32,24 @@ never-ruled tick (some d) e = go (eqb (d .deadline) 65535) (ltb tick (d .deadlin
     go false true f = let z : _≡_ {A = ℕ} 0 1 = cc in omega arith
     go false false f = let z : _≡_ {A = ℕ} 0 1 = cc in omega arith
 
+never-from : (o : Option ListedSet) (key : List ℕ) (tick : ℕ) → replyFrom o key tick ≡ refused → ⊥
+never-from none key tick e = let z : _≡_ {A = ℕ} 0 1 = cc in omega arith
+never-from (some l) key tick e = never-ruled tick (firstOf key (l .list)) e
+
 never-replied : (k : Book) (c : Call (Unit {0})) → Every (λ y. y ≡ refused → ⊥) (replied k c)
 never-replied k (opening config records arena index filter starts lengths) = every-nil
 never-replied k (push key v h lifetime) = every-nil
 never-replied k (finish target scratch) = every-nil
-never-replied k (peek set key h tick) = every-cons (go (getElem? (k .sets) set)) every-nil
-  where
-    go : (o : Option ListedSet) → replyFrom o key tick ≡ refused → ⊥
-    go none e = let z : _≡_ {A = ℕ} 0 1 = cc in omega arith
-    go (some l) e = never-ruled tick (firstOf key (l .list)) e
+never-replied k (lookup set key h tick) = every-cons (never-from (getElem? (k .sets) set) key tick) every-nil
+never-replied k (peek set key h tick) = every-cons (never-from (getElem? (k .sets) set) key tick) every-nil
 never-replied k (clear set key h) = every-nil
 never-replied k (probe set key h tick) = every-nil
-never-replied k (visit set slot tick) = every-nil
+never-replied k (walk set slot tick) = every-nil
 never-replied k (stats set) = every-nil
 never-replied k (reopen records copied flags tick index filter starts lengths) = every-nil
 never-replied k (reuse key v h location header) = every-nil
 never-replied k (copy key v h lifetime) = every-nil
 never-replied k (refinish scratch) = every-nil
-never-replied k (lookup set key h tick) = every-cons (go (getElem? (k .sets) set)) every-nil
-  where
-    go : (o : Option ListedSet) → replyFrom o key tick ≡ refused → ⊥
-    go none e = let z : _≡_ {A = ℕ} 0 1 = cc in omega arith
-    go (some l) e = never-ruled tick (firstOf key (l .list)) e
 
 every-append : {A : Type 0} {P : A → Type 0} {l m : List A} → Every P l → Every P m → Every P (l ++ m)
 every-append every-nil s = s
@@ -63,11 +59,11 @@ never-in : (k : Book) (ts : List (Call (Unit {0}) × Bool)) → Every (λ y. y �
 never-in k [] = every-nil
 never-in k (t ∷ ts) = every-append (never-replied k (t .0)) (never-in (heard k t) ts)
 
--- no lookup in a finished set is refused
-pub no-lookup-refused : (config : SegmentCacheConfig) (records : ℕ) (arena : List ℕ) (areas : Areas) (calls : List (Call (List ℕ))) → EqualHashes calls → Hashes64 calls
-    → Every (λ y. y ≡ refused → ⊥) (answers (opened config records arena areas) calls)
-no-lookup-refused config records arena areas calls equal small =
-    rw (answers-by-the-book config records arena areas calls equal small) (never-in (blank config) (told (opened config records arena areas) calls))
+-- no lookup and no peek in a finished set is refused
+pub no-lookup-refused : (arena : List ℕ) (config : SegmentCacheConfig) (calls : List (Call (List ℕ))) → EqualHashes calls → Hashes64 calls
+    → Every (λ y. y ≡ refused → ⊥) (answers (unopened arena) calls)
+no-lookup-refused arena config calls equal small =
+    rw (every-list arena config calls equal small) (never-in (blank config) (told (unopened arena) calls))
 
 -- ---- segments and tape
 
@@ -88,16 +84,21 @@ same-segments Forall₂·nil = refl
 same-segments (Forall₂·cons y r) =
     ap₂ (λ (p : List ℕ × ℕ) (l : List (List ℕ × ℕ)). p ∷ l) (ap₂ (λ (starts : List ℕ) (filled : ℕ). (starts, filled)) (y .starts) (y .filled)) (same-segments r)
 
-pub segments-by-the-book : (config : SegmentCacheConfig) (records : ℕ) (arena : List ℕ) (areas : Areas) (calls : List (Call (List ℕ))) → EqualHashes calls → Hashes64 calls
-    → map segmentsOf (worldAfter (opened config records arena areas) calls .sets) ≡ map segmentsIn (bookAfter (blank config) (told (opened config records arena areas) calls) .sets)
-segments-by-the-book config records arena areas calls equal small =
-    let h = hashed calls equal small in
-    same-segments (at-end (h .0) calls (opened config records arena areas) (blank config) (open-holds (h .0) config records arena areas) (h .1) .sets)
+module _ (arena : List ℕ) (config : SegmentCacheConfig) (calls : List (Call (List ℕ))) (equal : EqualHashes calls) (small : Hashes64 calls) where
+  -- the world and the book at the end of the list
+  abbrev pub lastWorld : World
+  lastWorld = worldAfter (unopened arena) calls
 
--- and the tape is what the arena begins with
-pub tape-in-arena : (config : SegmentCacheConfig) (records : ℕ) (arena : List ℕ) (areas : Areas) (calls : List (Call (List ℕ))) → EqualHashes calls → Hashes64 calls
-    → take (length (bookAfter (blank config) (told (opened config records arena areas) calls) .tape)) (worldAfter (opened config records arena areas) calls .arena)
-    ≡ bookAfter (blank config) (told (opened config records arena areas) calls) .tape
-tape-in-arena config records arena areas calls equal small =
-    let h = hashed calls equal small in
-    at-end (h .0) calls (opened config records arena areas) (blank config) (open-holds (h .0) config records arena areas) (h .1) .memory
+  abbrev pub lastBook : Book
+  lastBook = bookAfter (blank config) (told (unopened arena) calls)
+
+  last-holds : (H : List ℕ → ℕ) → AllHashed H calls → Holds H lastWorld lastBook
+  last-holds H hs = at-end H calls (unopened arena) (blank config) (unopened-holds H arena config) hs
+
+  -- each set's starts and filled bytes are the book's
+  pub segments-by-the-book : map segmentsOf (lastWorld .sets) ≡ map segmentsIn (lastBook .sets)
+  segments-by-the-book = let h = hashed calls equal small in same-segments (last-holds (h .0) (h .1) .sets)
+
+  -- and the tape is what the arena begins with
+  pub tape-in-arena : take (length (lastBook .tape)) (lastWorld .arena) ≡ lastBook .tape
+  tape-in-arena = let h = hashed calls equal small in last-holds (h .0) (h .1) .memory

@@ -7,7 +7,7 @@ use Prim.Native.Nat.{ℕ, _^_, _<_}
 use Rattle.hash_parts.specs.Choice.{pick}
 use Rattle.index.proofs.Table.{true≢false}
 use Rattle.book.specs.Book.{sameKey}
-use Rattle.book.specs.Calls.{Call, opening, push, finish, lookup, peek, clear, probe, visit, stats, reopen, reuse, copy, refinish}
+use Rattle.book.specs.Calls.{Call, opening, push, finish, lookup, peek, clear, probe, walk, stats, reopen, reuse, copy, refinish}
 use Rattle.book.specs.Premise.{carried, EqualHashes, Hashes64}
 use Rattle.book.proofs.Keys.{key-true, key-refl}
 use Rattle.book.proofs.Steps.{Hashed}
@@ -46,7 +46,7 @@ all-hashed H (lookup set key h tick ∷ cs) f = (f key h (List·Memᴰ·head ref
 all-hashed H (peek set key h tick ∷ cs) f = (f key h (List·Memᴰ·head refl), all-hashed H cs (λ j g z. f j g (List·Memᴰ·tail z)))
 all-hashed H (clear set key h ∷ cs) f = (f key h (List·Memᴰ·head refl), all-hashed H cs (λ j g z. f j g (List·Memᴰ·tail z)))
 all-hashed H (probe set key h tick ∷ cs) f = (tt, all-hashed H cs f)
-all-hashed H (visit set slot tick ∷ cs) f = (tt, all-hashed H cs f)
+all-hashed H (walk set slot tick ∷ cs) f = (tt, all-hashed H cs f)
 all-hashed H (stats set ∷ cs) f = (tt, all-hashed H cs f)
 all-hashed H (reopen records copied flags tick index filter starts lengths ∷ cs) f = (tt, all-hashed H cs f)
 all-hashed H (reuse key value h location header ∷ cs) f = (f key h (List·Memᴰ·head refl), all-hashed H cs (λ j g z. f j g (List·Memᴰ·tail z)))

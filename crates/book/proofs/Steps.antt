@@ -25,8 +25,8 @@ use Rattle.sets.specs.declared.cache.FrozenSegmentCache.{FrozenSegmentCache}
 use Rattle.sets.proofs.Accepted.{OpenCase, open-made, open-refused, open-case, PushCase, push-made, push-refused, push-case, FinishCase, finish-made, finish-many, finish-refused, finish-case}
 use Rattle.sets.proofs.Closure.{builderPasses, builder-lengths, builder-filter-holds, open-passes, push-passes, finish-passes}
 use Rattle.book.specs.Book.{ListedSet, Book, startsOf, blank, joined, closed, filledIn, heard, replyFrom, replied}
-use Rattle.book.specs.Calls.{Call, opening, push, finish, lookup, peek, clear, probe, visit, stats, reopen, reuse, copy, refinish, bare, Answer, newest}
-use Rattle.book.specs.World.{Areas, Current, idle, building, rebuilding, FinishedSet, World, isAccepted, openLeaves, opened, openedOr, openingStep, pushLeaves, pushStep, finishLeaves, finishStep, lookupStep, peekStep, clearStep, probeAccepted, visitAccepted, statsAccepted, step, answerFrom, peekedFrom, answered}
+use Rattle.book.specs.Calls.{Call, opening, push, finish, lookup, peek, clear, probe, walk, stats, reopen, reuse, copy, refinish, bare, Answer, newest}
+use Rattle.book.specs.World.{Areas, Current, idle, building, rebuilding, FinishedSet, World, isAccepted, unopened, openLeaves, opened, openedOr, openingStep, pushLeaves, pushStep, finishLeaves, finishStep, lookupStep, peekStep, clearStep, probeStep, walkStep, statsStep, step, answerFrom, peekedFrom, answered}
 use Rattle.book.proofs.Appending.{appended, joins}
 use Rattle.book.proofs.Asking.{set-answer, set-got, set-taken}
 use Rattle.book.proofs.Closing.{builder-finish}
@@ -35,6 +35,11 @@ use Rattle.book.proofs.Pushing.{new-back, builder-push}
 use Rattle.book.proofs.RebuildSteps.{reopen-holds, reuse-holds, copy-holds, refinish-holds}
 use Rattle.book.proofs.Relation.{SetHolds, CurrentHolds, is-idle, is-building, Holds}
 use Rattle.book.proofs.Standing.{every-nil}
+
+-- a call that the book notes nothing of
+pub same-heard : (k : Book) (t : Bool) → pick t k k ≡ k
+same-heard k true = refl
+same-heard k false = refl
 
 module _ (H : List ℕ → ℕ) where
   -- ---- push
@@ -102,7 +107,7 @@ module _ (H : List ℕ → ℕ) where
           }
       go (finish-made asked few) passes = joins H w k m _ _ (builder-finish H b a (w .arena) scratch target k ok asked few (m .memory) (passes _ refl))
 
-  -- ---- lookup and mark clearing
+  -- ---- lookup, peek, mark clearing
 
   lookup-holds : (w : World) (k : Book) → Holds H w k → (j : ℕ) (o : Option FinishedSet) → getElem? (w .sets) j ≡ o → (key : List ℕ) (h tick : ℕ) → h < 2 ^ 64
       → Holds H (lookupStep w j o key h tick .after) k
@@ -133,6 +138,22 @@ module _ (H : List ℕ → ℕ) where
         sets = pairs-put j s _ e (λ l ok. set-taken H (k .expiry) (w .arena) (filledIn (newest (k .sets))) s l ok key h bound) (m .sets);
       }
 
+  -- ---- probe, walk, statistics
+
+  probe-holds : (w : World) (k : Book) → Holds H w k → (o : Option FinishedSet) (key : List ℕ) (h tick : ℕ) → Holds H (probeStep w o key h tick .after) k
+  probe-holds w k m none key h tick = m
+  probe-holds w k m (some s) key h tick = m
+
+  walk-holds : (w : World) (k : Book) → Holds H w k → (o : Option FinishedSet) (slot tick : ℕ) → Holds H (walkStep w o slot tick .after) k
+  walk-holds w k m none slot tick = m
+  walk-holds w k m (some s) slot tick = m
+
+  stats-holds : (w : World) (k : Book) → Holds H w k → (o : Option FinishedSet) → Holds H (statsStep w o .after) k
+  stats-holds w k m none = m
+  stats-holds w k m (some s) = m
+
+  -- ---- answers
+
   answer-is : (w : World) (x : SegmentExpiry) (top : ℕ) {o : Option FinishedSet} {p : Option ListedSet} → Both (SetHolds H x (w .arena) top) o p → (key : List ℕ) (h tick : ℕ) → h ≡ H key → h < 2 ^ 64
       → answerFrom w o key h tick ≡ replyFrom p key tick
   answer-is w x top both-none key h tick hash bound = refl
@@ -146,13 +167,16 @@ module _ (H : List ℕ → ℕ) where
 
   -- ---- open
 
-  pub open-holds : (config : SegmentCacheConfig) (records : ℕ) (arena : List ℕ) (a : Areas) → Holds H (opened config records arena a) (blank config)
+  pub unopened-holds : (arena : List ℕ) (config : SegmentCacheConfig) → Holds H (unopened arena) (blank config)
+  unopened-holds arena config = record { memory = refl; top = omega arith; current = is-idle; sets = Forall₂·nil }
+
+  open-holds : (config : SegmentCacheConfig) (records : ℕ) (arena : List ℕ) (a : Areas) → Holds H (opened config records arena a) (blank config)
   open-holds config records arena a = go (open-case config records (a .index) (a .filter) (a .starts) (a .lengths) arena) (open-passes config records (a .index) (a .filter) (a .starts) (a .lengths) arena)
     where
       go : {o : Opened} → OpenCase config records (a .index) (a .filter) (a .starts) (a .lengths) arena o
           → ((b : SegmentCacheBuilder) → o .answer ≡ accept b → builderPasses b (length (o .index)) (length (o .filter)) (length (a .starts)) (length (a .lengths)) (length arena) ≡ true)
           → Holds H (openLeaves arena a o) (blank config)
-      go (open-refused n) passes = record { memory = refl; top = omega arith; current = is-idle; sets = Forall₂·nil }
+      go (open-refused n) passes = unopened-holds arena config
       go (open-made acc) passes =
           record {
             memory = refl;
@@ -188,16 +212,12 @@ module _ (H : List ℕ → ℕ) where
   Hashed (peek j key h tick) = (h ≡ H key) × (h < 2 ^ 64)
   Hashed (clear j key h) = (h ≡ H key) × (h < 2 ^ 64)
   Hashed (probe j key h tick) = Unit {0}
-  Hashed (visit j slot tick) = Unit {0}
+  Hashed (walk j slot tick) = Unit {0}
   Hashed (stats j) = Unit {0}
   Hashed (reopen records copied flags tick index filter starts lengths) = Unit {0}
   Hashed (reuse key value h location header) = (h ≡ H key) × (h < 2 ^ 64)
   Hashed (copy key value h ttl) = (h ≡ H key) × (h < 2 ^ 64)
   Hashed (refinish scratch) = Unit {0}
-
-  same-heard : (k : Book) (t : Bool) → pick t k k ≡ k
-  same-heard k true = refl
-  same-heard k false = refl
 
   pub step-holds : (w : World) (k : Book) → Holds H w k → (c : Call (List ℕ)) → Hashed c → Holds H (step w c .after) (heard k (bare c, step w c .accepted))
   step-holds w k m (opening config records arena index filter starts lengths) hs = opening-holds w k m config records arena record { index = index; filter = filter; starts = starts; lengths = lengths }
@@ -208,9 +228,10 @@ module _ (H : List ℕ → ℕ) where
   step-holds w k m (peek j key h tick) hs =
       rw (same-heard k (peekStep w j (getElem? (w .sets) j) key h tick .accepted)) (peek-holds w k m j (getElem? (w .sets) j) refl key h tick)
   step-holds w k m (clear j key h) hs = rw (same-heard k (clearStep w j (getElem? (w .sets) j) key h .accepted)) (clear-holds w k m j (getElem? (w .sets) j) refl key h (hs .1))
-  step-holds w k m (probe j key h tick) hs = rw (same-heard k (probeAccepted w (getElem? (w .sets) j) key h tick)) m
-  step-holds w k m (visit j slot tick) hs = rw (same-heard k (visitAccepted w (getElem? (w .sets) j) slot tick)) m
-  step-holds w k m (stats j) hs = rw (same-heard k (statsAccepted (getElem? (w .sets) j))) m
+  step-holds w k m (probe j key h tick) hs =
+      rw (same-heard k (probeStep w (getElem? (w .sets) j) key h tick .accepted)) (probe-holds w k m (getElem? (w .sets) j) key h tick)
+  step-holds w k m (walk j slot tick) hs = rw (same-heard k (walkStep w (getElem? (w .sets) j) slot tick .accepted)) (walk-holds w k m (getElem? (w .sets) j) slot tick)
+  step-holds w k m (stats j) hs = rw (same-heard k (statsStep w (getElem? (w .sets) j) .accepted)) (stats-holds w k m (getElem? (w .sets) j))
   step-holds w k m (reopen records copied flags tick index filter starts lengths) hs = reopen-holds H w k m records copied flags tick index filter starts lengths
   step-holds w k m (reuse key value h location header) hs = reuse-holds H w k m (w .current) (m .current) key value h record { location = location; «header_bytes» = header } (hs .0) (hs .1)
   step-holds w k m (copy key value h ttl) hs = copy-holds H w k m (w .current) (m .current) key value h ttl (hs .0) (hs .1)
@@ -224,7 +245,7 @@ module _ (H : List ℕ → ℕ) where
   answer-holds w k m (peek j key h tick) hs = ap (λ (y : Answer). y ∷ []) (peek-is w (k .expiry) (filledIn (newest (k .sets))) (pairs-get j (m .sets)) key h tick (hs .0) (hs .1))
   answer-holds w k m (clear j key h) hs = refl
   answer-holds w k m (probe j key h tick) hs = refl
-  answer-holds w k m (visit j slot tick) hs = refl
+  answer-holds w k m (walk j slot tick) hs = refl
   answer-holds w k m (stats j) hs = refl
   answer-holds w k m (reopen records copied flags tick index filter starts lengths) hs = refl
   answer-holds w k m (reuse key value h location header) hs = refl

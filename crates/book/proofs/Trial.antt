@@ -22,7 +22,7 @@ use Rattle.index.specs.Packed as packing
 use Rattle.index.specs.Segments as cuts
 use Rattle.index.specs.Slot as slot
 use Rattle.index.specs.View as view
-use Rattle.index.specs.Walk as walk
+use Rattle.index.specs.Walk as walks
 use Rattle.sets.specs.Build as builds
 use Rattle.sets.specs.Kept as kept
 use Rattle.sets.specs.Lookup as asks
@@ -30,7 +30,7 @@ use Rattle.sets.specs.Questions as questions
 use Rattle.sets.specs.Rebuild as rebuilds
 use Rattle.book.specs.Book as books
 use Rattle.book.specs.Book.{ListedSet, blank, bookAfter, replies}
-use Rattle.book.specs.Calls.{Call, push, finish, lookup, clear, probe, visit, stats, reopen, reuse, copy, refinish, Answer, value, nothing, absent}
+use Rattle.book.specs.Calls.{Call, push, finish, lookup, clear, probe, walk, stats, reopen, reuse, copy, refinish, Answer, value, nothing, absent}
 use Rattle.book.specs.World.{Areas, FinishedSet, World, opened, worldAfter, told, answers}
 
 -- ---- a list of calls in both layouts
@@ -67,7 +67,7 @@ calls =
     ∷ push (4 ∷ []) [] 6 Never
     ∷ lookup 1 (1 ∷ []) 3 0
     ∷ probe 0 (9 ∷ []) 4 0
-    ∷ visit 0 0 0
+    ∷ walk 0 0 0
     ∷ stats 0
     ∷ stats 1
     ∷ []
@@ -210,7 +210,7 @@ unfolding run by-book accepted ofFirst rebuildRun rebuildBook rebuildAccepted re
     cuts.nextStart cuts.startAfter cuts.startsAfter cuts.startsOf cuts.lengthsOf cuts.segmentOf cuts.splitWord cuts.padded cuts.split cuts.allInside cuts.locationsInside
     slot.wordSlot
     view.inSegment view.recordIn
-    walk.bucketsOf walk.upFrom
+    walks.bucketsOf walks.upFrom
     builds.builderFits builds.areasHoldBuilder builds.afterOpen builds.askPush builds.pushAt builds.afterPush builds.askFinish builds.afterFinish
     asks.setFits asks.areasHoldSet asks.areasHoldLookup asks.askLookup asks.slotMarked asks.slotCleared asks.slotAccessed asks.liveValue asks.liveMarked asks.afterGet asks.afterTake asks.probeAnswer asks.entryAt asks.firstEntry asks.nextEntry asks.askWalk asks.walkAnswer asks.askStats asks.statsAnswer
     kept.bitsOf kept.keptFlags kept.isKept kept.retained kept.newNumber kept.keptCount kept.flagWord kept.chosen

@@ -13,7 +13,7 @@ use Rattle.hash_parts.specs.declared.setting.SegmentCacheConfig.{SegmentCacheCo
 use Rattle.hash_parts.specs.declared.setting.SegmentExpiry.{SegmentExpiry}
 use Rattle.hash_parts.specs.declared.setting.SegmentExpiry.the-variants.{None, Relative16}
 use Rattle.records.specs.Record.{recordBytes}
-use Rattle.book.specs.Calls.{Call, opening, push, finish, lookup, peek, clear, probe, visit, stats, reopen, reuse, copy, refinish, Answer, value, nothing, absent, newest}
+use Rattle.book.specs.Calls.{Call, opening, push, finish, lookup, peek, clear, probe, walk, stats, reopen, reuse, copy, refinish, Answer, value, nothing, absent, newest}
 
 -- ---- the book
 
@@ -40,7 +40,7 @@ pub record Book : Type 0 where
   pub kept : List ℕ
   pub sets : List ListedSet
 
--- "Open: empty list, empty tape."
+-- "Open: empty list, empty tape." Before the first open the book is blank too, with any setting: nothing asks for that before an open is accepted.
 abbrev pub blank : SegmentCacheConfig → Book
 blank config = record { expiry = config .expiry; tape = []; list = []; tick = 0; kept = []; sets = [] }
 
@@ -169,7 +169,7 @@ noted b (lookup j key h tick) = b
 noted b (peek j key h tick) = b
 noted b (clear j key h) = b
 noted b (probe j key h tick) = b
-noted b (visit j slot tick) = b
+noted b (walk j slot tick) = b
 noted b (stats j) = b
 noted b (reopen records copied flags tick index filter starts lengths) = reopened b flags tick
 noted b (reuse key v h location header) = rejoined b key v (placeOf (startsIn (newest (b .sets))) location)
@@ -204,7 +204,7 @@ abbrev pub ruled : ℕ → Option Entry → Answer
 ruled tick none = nothing
 ruled tick (some e) = pick (eqb (e .deadline) 65535) (value (e .value)) (pick (ltb tick (e .deadline)) (value (e .value)) nothing)
 
--- the answer to a lookup in a set
+-- the answer to a lookup or a peek in a set
 abbrev pub replyFrom : Option ListedSet → List ℕ → ℕ → Answer
 replyFrom none key tick = absent
 replyFrom (some s) key tick = ruled tick (firstOf key (s .list))
@@ -217,14 +217,14 @@ replied b (lookup j key h tick) = replyFrom (getElem? (b .sets) j) key tick ∷ 
 replied b (peek j key h tick) = replyFrom (getElem? (b .sets) j) key tick ∷ []
 replied b (clear j key h) = []
 replied b (probe j key h tick) = []
-replied b (visit j slot tick) = []
+replied b (walk j slot tick) = []
 replied b (stats j) = []
 replied b (reopen records copied flags tick index filter starts lengths) = []
 replied b (reuse key v h location header) = []
 replied b (copy key v h lifetime) = []
 replied b (refinish scratch) = []
 
--- the answers to the lookups in a list of calls, by the book
+-- the answers to the lookups and peeks in a list of calls, by the book
 abbrev pub replies : Book → List (Call (Unit {0}) × Bool) → List Answer
 replies b [] = []
 replies b (c ∷ cs) = replied b (c .0) ++ replies (heard b c) cs

@@ -1,4 +1,4 @@
--- The calls that a list is made of, and what a lookup answers.
+-- The calls that a list is made of, all of document 01's, and what a lookup answers.
 -- Assumes nothing.
 use mathlib.Core.List.{List, [], _∷_}
 use mathlib.Core.Option.{Option, none, some}
@@ -9,7 +9,7 @@ use Rattle.hash_parts.specs.declared.setting.SegmentCacheConfig.{SegmentCacheCo
 -- A call by its arguments, and the areas that are lent afresh with it, of any content; sets are numbered from 0, the oldest first. `Area` is what is known of
 -- an area: its content in the world, nothing in the book, whose calls have the type of one element there.
 pub data Call (Area : Type 0) : Type 0 where
-  -- a builder is opened: setting, records; then arena, index, filter, starts, lengths
+  -- a builder is opened: setting, records, and the arena of a new line of sets; then index, filter, starts, lengths
   opening : SegmentCacheConfig → ℕ → Area → Area → Area → Area → Area → Call Area
   -- key, value, hash, lifetime
   push : List ℕ → List ℕ → ℕ → Lifetime → Call Area
@@ -21,10 +21,10 @@ pub data Call (Area : Type 0) : Type 0 where
   peek : ℕ → List ℕ → ℕ → ℕ → Call Area
   -- the access mark is cleared: set, key, hash
   clear : ℕ → List ℕ → ℕ → Call Area
-  -- a record is told, lapsed or not: set, key, hash, tick
+  -- a record and its remaining time, lapsed or not: set, key, hash, tick
   probe : ℕ → List ℕ → ℕ → ℕ → Call Area
-  -- a step of the walk: set, slot that it goes on from, tick
-  visit : ℕ → ℕ → ℕ → Call Area
+  -- a step of the walk: set, the slot that it begins at, tick
+  walk : ℕ → ℕ → ℕ → Call Area
   -- the statistics of a set
   stats : ℕ → Call Area
   -- a rebuild of the newest set is opened: records, copied record capacity, keep flags, tick; then index, filter, starts, lengths
@@ -45,14 +45,14 @@ bare (lookup set key hash tick) = lookup set key hash tick
 bare (peek set key hash tick) = peek set key hash tick
 bare (clear set key hash) = clear set key hash
 bare (probe set key hash tick) = probe set key hash tick
-bare (visit set slot tick) = visit set slot tick
+bare (walk set slot tick) = walk set slot tick
 bare (stats set) = stats set
 bare (reopen records copied flags tick index filter starts lengths) = reopen records copied flags tick tt tt tt tt
 bare (reuse key value hash location header) = reuse key value hash location header
 bare (copy key value hash lifetime) = copy key value hash lifetime
 bare (refinish scratch) = refinish tt
 
--- what a lookup answers: "the value's bytes or nothing"; or it is refused, or there is no such set
+-- what a lookup or a peek answers: "the value's bytes or nothing"; or it is refused, or there is no such set
 pub data Answer : Type 0 where
   value : List ℕ → Answer
   nothing : Answer

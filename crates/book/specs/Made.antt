@@ -1,35 +1,37 @@
--- What the code of this crate says of itself: the world that a call leaves, read off what the code was answered and what its areas hold then.
+-- What src/calls.rt says of itself: the step that a call is, read off what the code was answered and what its areas hold then, by the cases of the answers
+-- in crates/sets/src and by none of the definitions that the steps of World.antt are made of. A contract there equates the two.
 -- Assumes nothing.
+use mathlib.Core.Path.{_≡_}
 use mathlib.Core.Bool.{Bool, true, false}
 use mathlib.Core.List.{List, [], _∷_, _++_}
+use mathlib.Core.Option.{some}
 use Prim.Native.Nat.{ℕ}
+use lib.ListN.{getElem?, set}
 use Rattle.records.specs.Area.{spanned}
 use Rattle.sets.specs.declared.builder.FinishAnswer.{FinishAnswer}
-use Rattle.sets.specs.declared.builder.FinishAnswer.the-variants as finish
+use Rattle.sets.specs.declared.builder.FinishAnswer.the-variants as finishes
 use Rattle.sets.specs.declared.builder.OpenAnswer.{OpenAnswer}
 use Rattle.sets.specs.declared.builder.OpenAnswer.the-variants as opens
 use Rattle.sets.specs.declared.builder.PushAnswer.{PushAnswer}
-use Rattle.sets.specs.declared.builder.PushAnswer.the-variants as push
-use Rattle.sets.specs.declared.builder.SegmentCacheBuilder.{SegmentCacheBuilder}
+use Rattle.sets.specs.declared.builder.PushAnswer.the-variants as pushes
 use Rattle.sets.specs.declared.cache.FrozenSegmentCache.{FrozenSegmentCache}
 use Rattle.sets.specs.declared.cache.GetAnswer.{GetAnswer}
-use Rattle.sets.specs.declared.cache.GetAnswer.the-variants as get
+use Rattle.sets.specs.declared.cache.GetAnswer.the-variants as gets
 use Rattle.sets.specs.declared.cache.ProbeAnswer.{ProbeAnswer}
-use Rattle.sets.specs.declared.cache.ProbeAnswer.the-variants as probe
+use Rattle.sets.specs.declared.cache.ProbeAnswer.the-variants as probes
 use Rattle.sets.specs.declared.cache.StatsAnswer.{StatsAnswer}
-use Rattle.sets.specs.declared.cache.StatsAnswer.the-variants as stats
+use Rattle.sets.specs.declared.cache.StatsAnswer.the-variants as counts
 use Rattle.sets.specs.declared.cache.TakeAnswer.{TakeAnswer}
-use Rattle.sets.specs.declared.cache.TakeAnswer.the-variants as take
+use Rattle.sets.specs.declared.cache.TakeAnswer.the-variants as takes
 use Rattle.sets.specs.declared.cache.WalkAnswer.{WalkAnswer}
-use Rattle.sets.specs.declared.cache.WalkAnswer.the-variants as walk
+use Rattle.sets.specs.declared.cache.WalkAnswer.the-variants as walks
 use Rattle.sets.specs.declared.rebuild.RebuildFinishAnswer.{RebuildFinishAnswer}
-use Rattle.sets.specs.declared.rebuild.RebuildFinishAnswer.the-variants as refinish
+use Rattle.sets.specs.declared.rebuild.RebuildFinishAnswer.the-variants as refinishes
 use Rattle.sets.specs.declared.rebuild.RebuildOpenAnswer.{RebuildOpenAnswer}
-use Rattle.sets.specs.declared.rebuild.RebuildOpenAnswer.the-variants as reopen
+use Rattle.sets.specs.declared.rebuild.RebuildOpenAnswer.the-variants as reopens
 use Rattle.sets.specs.declared.rebuild.RebuildPushAnswer.{RebuildPushAnswer}
-use Rattle.sets.specs.declared.rebuild.RebuildPushAnswer.the-variants as repush
-use Rattle.sets.specs.declared.rebuild.SharedSegmentCacheBuilder.{SharedSegmentCacheBuilder}
-use Rattle.book.specs.Calls.{Answer, value, nothing, refused}
+use Rattle.sets.specs.declared.rebuild.RebuildPushAnswer.the-variants as repushes
+use Rattle.book.specs.Calls.{Answer, value, nothing, refused, newest}
 use Rattle.book.specs.World.{Areas, Current, idle, building, rebuilding, FinishedSet, World, Step}
 
 -- ---- worlds
@@ -46,58 +48,79 @@ worldOf arena current sets = record { arena = arena; current = current; sets = s
 abbrev pub left : Bool → World → Step
 left accepted w = record { after = w; accepted = accepted }
 
--- ---- what each call leaves, by its answer and its areas
+-- Wherever a set stands: whatever builder or rebuild is open and whatever other sets there are; then of that world and of the set's place in it.
+abbrev pub Wherever : FinishedSet → List ℕ → (World → ℕ → Type 0) → Type 0
+Wherever s arena P = (current : Current) (sets : List FinishedSet) (j : ℕ) → getElem? sets j ≡ some s → P (worldOf arena current sets) j
+
+-- the same where it is the newest set
+abbrev pub WhereNewest : FinishedSet → List ℕ → (World → Type 0) → Type 0
+WhereNewest s arena P = (current : Current) (sets : List FinishedSet) → newest sets ≡ some s → P (worldOf arena current sets)
+
+-- ---- open, push, finish
 
 -- an open that is refused leaves the world that was
 abbrev pub openLeft : World → List ℕ → Areas → OpenAnswer → Step
 openLeft w arena a (opens.Opened b) = left true (worldOf arena (building b a) [])
 openLeft w arena a (opens.Refused e) = left false w
 
+-- a push leaves its builder open, accepted or not
 abbrev pub pushLeft : List FinishedSet → List ℕ → Areas → PushAnswer → Step
-pushLeft sets arena a (push.Pushed b slot location) = left true (worldOf arena (building b a) sets)
-pushLeft sets arena a (push.Refused e b) = left false (worldOf arena (building b a) sets)
+pushLeft sets arena a (pushes.Pushed b slot location) = left true (worldOf arena (building b a) sets)
+pushLeft sets arena a (pushes.Refused e b) = left false (worldOf arena (building b a) sets)
 
+-- a finish that is accepted leaves one set more, refused the builder
 abbrev pub finishLeft : List FinishedSet → List ℕ → Areas → FinishAnswer → Step
-finishLeft sets arena a (finish.Finished s) = left true (worldOf arena idle (sets ++ (setOf s a ∷ [])))
-finishLeft sets arena a (finish.Refused e b) = left false (worldOf arena (building b a) sets)
+finishLeft sets arena a (finishes.Finished s) = left true (worldOf arena idle (sets ++ (setOf s a ∷ [])))
+finishLeft sets arena a (finishes.Refused e b) = left false (worldOf arena (building b a) sets)
+
+-- ---- calls on a finished set
+
+-- a call that may write to the set's index leaves the set with the areas that it has then
+abbrev pub setLeft : World → ℕ → FinishedSet → Bool → Step
+setLeft w j s accepted = left accepted (worldOf (w .arena) (w .current) (set (w .sets) j s))
 
 abbrev pub getAccepted : GetAnswer → Bool
-getAccepted (get.Value span) = true
-getAccepted get.Nothing = true
-getAccepted (get.Refused e) = false
+getAccepted (gets.Value span) = true
+getAccepted gets.Nothing = true
+getAccepted (gets.Refused e) = false
 
--- the bytes by `value_slice`
+-- what a lookup or a peek gives; the bytes by `value_slice`, whose contract is `spanned`
 abbrev pub getGives : List ℕ → GetAnswer → List Answer
-getGives arena (get.Value span) = value (spanned arena span) ∷ []
-getGives arena get.Nothing = nothing ∷ []
-getGives arena (get.Refused e) = refused ∷ []
+getGives arena (gets.Value span) = value (spanned arena span) ∷ []
+getGives arena gets.Nothing = nothing ∷ []
+getGives arena (gets.Refused e) = refused ∷ []
 
 abbrev pub takeAccepted : TakeAnswer → Bool
-takeAccepted (take.Accessed was) = true
-takeAccepted (take.Refused e) = false
+takeAccepted (takes.Accessed was) = true
+takeAccepted (takes.Refused e) = false
 
-abbrev pub probeTold : ProbeAnswer → Bool
-probeTold (probe.Found r) = true
-probeTold probe.Nothing = true
-probeTold (probe.Refused e) = false
+abbrev pub probeAccepted : ProbeAnswer → Bool
+probeAccepted (probes.Found r) = true
+probeAccepted probes.Nothing = true
+probeAccepted (probes.Refused e) = false
 
-abbrev pub walkTold : WalkAnswer → Bool
-walkTold (walk.Entry r) = true
-walkTold walk.End = true
-walkTold (walk.Refused e) = false
+abbrev pub walkAccepted : WalkAnswer → Bool
+walkAccepted (walks.Entry r) = true
+walkAccepted walks.End = true
+walkAccepted (walks.Refused e) = false
 
-abbrev pub statsTold : StatsAnswer → Bool
-statsTold (stats.Stats n) = true
-statsTold (stats.Refused e) = false
+abbrev pub statsAccepted : StatsAnswer → Bool
+statsAccepted (counts.Stats n) = true
+statsAccepted (counts.Refused e) = false
 
-abbrev pub reopenLeft : Current → List FinishedSet → List ℕ → Areas → RebuildOpenAnswer → Step
-reopenLeft current sets arena a (reopen.Opened r) = left true (worldOf arena (rebuilding r a) sets)
-reopenLeft current sets arena a (reopen.Refused e source) = left false (worldOf arena current sets)
+-- ---- rebuilds
 
+-- a rebuild open that is refused leaves what was open
+abbrev pub reopenLeft : World → Areas → RebuildOpenAnswer → Step
+reopenLeft w a (reopens.Opened r) = left true (worldOf (w .arena) (rebuilding r a) (w .sets))
+reopenLeft w a (reopens.Refused e source) = left false w
+
+-- a reused or copied push leaves its rebuild open, accepted or not
 abbrev pub repushLeft : List FinishedSet → List ℕ → Areas → RebuildPushAnswer → Step
-repushLeft sets arena a (repush.Pushed r slot location) = left true (worldOf arena (rebuilding r a) sets)
-repushLeft sets arena a (repush.Refused e r) = left false (worldOf arena (rebuilding r a) sets)
+repushLeft sets arena a (repushes.Pushed r slot location) = left true (worldOf arena (rebuilding r a) sets)
+repushLeft sets arena a (repushes.Refused e r) = left false (worldOf arena (rebuilding r a) sets)
 
+-- a rebuild finish that is accepted leaves one set more, refused the rebuild
 abbrev pub refinishLeft : List FinishedSet → List ℕ → Areas → RebuildFinishAnswer → Step
-refinishLeft sets arena a (refinish.Finished s) = left true (worldOf arena idle (sets ++ (setOf (s .cache) a ∷ [])))
-refinishLeft sets arena a (refinish.Refused e r) = left false (worldOf arena (rebuilding r a) sets)
+refinishLeft sets arena a (refinishes.Finished s) = left true (worldOf arena idle (sets ++ (setOf (s .cache) a ∷ [])))
+refinishLeft sets arena a (refinishes.Refused e r) = left false (worldOf arena (rebuilding r a) sets)

@@ -1,8 +1,8 @@
--- The world that a list of calls goes through: states and areas as the calls leave them. Each call is the very definition that its contract
--- cites (afterOpen, afterPush, afterFinish, afterGet, afterPeek, afterTake, probeAnswer, walkAnswer, statsAnswer, afterRebuildOpen, afterReused, afterCopied,
--- afterRebuildFinish), and the world after it holds what that definition says is left, refused calls included; src/calls.rt makes each call, and its contracts
--- say which step it is. States and areas are carried over from call to call, nothing else writes to them, and no
--- area is shared. There is one line of rebuilds: each is opened from the newest set, and opening another ends an unfinished one.
+-- The world that a list of calls goes through: states and areas as the calls leave them. Each call is the very definition that its contract cites
+-- (afterOpen, afterPush, afterFinish, afterGet, afterPeek, afterTake, probeAnswer, walkAnswer, statsAnswer, afterRebuildOpen, afterReused, afterCopied,
+-- afterRebuildFinish), and the world after it holds what that definition says is left, refused calls included. src/calls.rt makes each call as code, and
+-- its contracts say that the call is this step. States and areas are carried over from call to call, nothing else writes to them, and no area is shared.
+-- There is one line of rebuilds: each is opened from the newest set, and opening another ends an unfinished one.
 -- Assumes nothing.
 use mathlib.Core.Bool.{Bool, true, false}
 use mathlib.Core.List.{List, [], _∷_, _++_}
@@ -22,7 +22,7 @@ use Rattle.sets.specs.declared.cache.FrozenSegmentCache.{FrozenSegmentCache}
 use Rattle.sets.specs.declared.rebuild.SegmentRecordLocation.{SegmentRecordLocation}
 use Rattle.sets.specs.declared.rebuild.SharedSegmentCacheBuild.{SharedSegmentCacheBuild}
 use Rattle.sets.specs.declared.rebuild.SharedSegmentCacheBuilder.{SharedSegmentCacheBuilder}
-use Rattle.book.specs.Calls.{Call, opening, push, finish, lookup, peek, clear, probe, visit, stats, reopen, reuse, copy, refinish, bare, Answer, value, nothing, refused, absent, newest}
+use Rattle.book.specs.Calls.{Call, opening, push, finish, lookup, peek, clear, probe, walk, stats, reopen, reuse, copy, refinish, bare, Answer, value, nothing, refused, absent, newest}
 
 -- ---- states with their areas
 
@@ -49,9 +49,9 @@ pub record World : Type 0 where
   pub current : Current
   pub sets : List FinishedSet
 
--- a world with nothing in it
-abbrev pub nowhere : World
-nowhere = record { arena = []; current = idle; sets = [] }
+-- before the first open: an arena of any content, nothing open and no set
+abbrev pub unopened : List ℕ → World
+unopened arena = record { arena = arena; current = idle; sets = [] }
 
 -- what a call leaves: the world, and whether it was accepted
 pub record Step : Type 0 where
@@ -62,9 +62,13 @@ abbrev pub isAccepted : {A B : Type 0} → Reply A B → Bool
 isAccepted (accept a) = true
 isAccepted (refuse n b) = false
 
+-- a call that leaves the world as it was
+abbrev pub unchanged : World → Bool → Step
+unchanged w accepted = record { after = w; accepted = accepted }
+
 -- a call out of turn
 abbrev pub outOfTurn : World → Step
-outOfTurn w = record { after = w; accepted = false }
+outOfTurn w = unchanged w false
 
 -- ---- open
 
@@ -80,11 +84,11 @@ openLeaves arena a o =
       sets = [];
     }
 
--- the world after open
+-- the world after a first open
 abbrev pub opened : SegmentCacheConfig → ℕ → List ℕ → Areas → World
 opened config records arena a = openLeaves arena a (afterOpen config records (a .index) (a .filter) (a .starts) (a .lengths) arena)
 
--- an open in a list of calls: accepted, another line begins, in an arena and areas of its own; refused, nothing changes
+-- an open among other calls: accepted, another line of sets begins, in the arena and areas lent with it; refused, nothing changes
 abbrev pub openedOr : World → World → Reply SegmentCacheBuilder (Unit {0}) → World
 openedOr w new (accept b) = new
 openedOr w new (refuse n u) = w
@@ -140,7 +144,7 @@ finishStep w (building b a) target scratch =
     finishLeaves w a (afterFinish b target (a .index) (a .starts) (a .lengths) scratch (w .arena))
 finishStep w (rebuilding r a) target scratch = outOfTurn w
 
--- ---- lookup and mark clearing: of a set only its index changes
+-- ---- lookup, peek and mark clearing: of a set only its index may change
 
 abbrev pub withIndex : FinishedSet → List ℕ → FinishedSet
 withIndex s index =
@@ -157,16 +161,16 @@ abbrev pub getFrom : World → FinishedSet → List ℕ → ℕ → ℕ → Got
 getFrom w s key h tick =
     afterGet (s .cache) h key tick (s .areas .index) (s .areas .filter) (s .areas .starts) (s .areas .lengths) (w .arena)
 
+abbrev pub peekFrom : World → FinishedSet → List ℕ → ℕ → ℕ → Got
+peekFrom w s key h tick =
+    afterPeek (s .cache) h key tick (s .areas .index) (s .areas .filter) (s .areas .starts) (s .areas .lengths) (w .arena)
+
 abbrev pub takeFrom : World → FinishedSet → List ℕ → ℕ → Taken
 takeFrom w s key h = afterTake (s .cache) h key (s .areas .index) (s .areas .filter) (s .areas .starts) (s .areas .lengths) (w .arena)
 
 abbrev pub lookupStep : World → ℕ → Option FinishedSet → List ℕ → ℕ → ℕ → Step
 lookupStep w j none key h tick = outOfTurn w
 lookupStep w j (some s) key h tick = setLeaves w j s (getFrom w s key h tick .index) (isAccepted (getFrom w s key h tick .answer))
-
-abbrev pub peekFrom : World → FinishedSet → List ℕ → ℕ → ℕ → Got
-peekFrom w s key h tick =
-    afterPeek (s .cache) h key tick (s .areas .index) (s .areas .filter) (s .areas .starts) (s .areas .lengths) (w .arena)
 
 abbrev pub peekStep : World → ℕ → Option FinishedSet → List ℕ → ℕ → ℕ → Step
 peekStep w j none key h tick = outOfTurn w
@@ -176,21 +180,22 @@ abbrev pub clearStep : World → ℕ → Option FinishedSet → List ℕ → ℕ
 clearStep w j none key h = outOfTurn w
 clearStep w j (some s) key h = setLeaves w j s (takeFrom w s key h .index) (isAccepted (takeFrom w s key h .answer))
 
--- ---- probe, a step of the walk, statistics: they leave the world as it is
+-- ---- probe, a step of the walk, statistics: they have no area to write
 
-abbrev pub probeAccepted : World → Option FinishedSet → List ℕ → ℕ → ℕ → Bool
-probeAccepted w none key h tick = false
-probeAccepted w (some s) key h tick =
-    isAccepted (probeAnswer (s .cache) h key tick (s .areas .index) (s .areas .filter) (s .areas .starts) (s .areas .lengths) (w .arena))
+abbrev pub probeStep : World → Option FinishedSet → List ℕ → ℕ → ℕ → Step
+probeStep w none key h tick = outOfTurn w
+probeStep w (some s) key h tick =
+    unchanged w
+    (isAccepted (probeAnswer (s .cache) h key tick (s .areas .index) (s .areas .filter) (s .areas .starts) (s .areas .lengths) (w .arena)))
 
-abbrev pub visitAccepted : World → Option FinishedSet → ℕ → ℕ → Bool
-visitAccepted w none slot tick = false
-visitAccepted w (some s) slot tick =
-    isAccepted (walkAnswer (s .cache) slot tick (s .areas .index) (s .areas .starts) (s .areas .lengths) (w .arena))
+abbrev pub walkStep : World → Option FinishedSet → ℕ → ℕ → Step
+walkStep w none slot tick = outOfTurn w
+walkStep w (some s) slot tick =
+    unchanged w (isAccepted (walkAnswer (s .cache) slot tick (s .areas .index) (s .areas .starts) (s .areas .lengths) (w .arena)))
 
-abbrev pub statsAccepted : Option FinishedSet → Bool
-statsAccepted none = false
-statsAccepted (some s) = isAccepted (statsAnswer (s .cache))
+abbrev pub statsStep : World → Option FinishedSet → Step
+statsStep w none = outOfTurn w
+statsStep w (some s) = unchanged w (isAccepted (statsAnswer (s .cache)))
 
 -- ---- rebuild open: refused, it leaves an unfinished rebuild open
 
@@ -286,9 +291,9 @@ step w (finish target scratch) = finishStep w (w .current) target scratch
 step w (lookup j key h tick) = lookupStep w j (getElem? (w .sets) j) key h tick
 step w (peek j key h tick) = peekStep w j (getElem? (w .sets) j) key h tick
 step w (clear j key h) = clearStep w j (getElem? (w .sets) j) key h
-step w (probe j key h tick) = record { after = w; accepted = probeAccepted w (getElem? (w .sets) j) key h tick }
-step w (visit j slot tick) = record { after = w; accepted = visitAccepted w (getElem? (w .sets) j) slot tick }
-step w (stats j) = record { after = w; accepted = statsAccepted (getElem? (w .sets) j) }
+step w (probe j key h tick) = probeStep w (getElem? (w .sets) j) key h tick
+step w (walk j slot tick) = walkStep w (getElem? (w .sets) j) slot tick
+step w (stats j) = statsStep w (getElem? (w .sets) j)
 step w (reopen records copied flags tick index filter starts lengths) =
     reopenStep w (newest (w .sets)) records copied flags tick index filter starts lengths
 step w (reuse key v h location header) = reuseStep w (w .current) key v h record { location = location; «header_bytes» = header }
@@ -319,7 +324,7 @@ abbrev pub peekedFrom : World → Option FinishedSet → List ℕ → ℕ → �
 peekedFrom w none key h tick = absent
 peekedFrom w (some s) key h tick = answerOf (w .arena) (peekFrom w s key h tick .answer)
 
--- a lookup answers, other calls do not
+-- lookups and peeks answer by the book, of other calls it says nothing
 abbrev pub answered : World → Call (List ℕ) → List Answer
 answered w (opening config records arena index filter starts lengths) = []
 answered w (push key v h ttl) = []
@@ -328,14 +333,14 @@ answered w (lookup j key h tick) = answerFrom w (getElem? (w .sets) j) key h tic
 answered w (peek j key h tick) = peekedFrom w (getElem? (w .sets) j) key h tick ∷ []
 answered w (clear j key h) = []
 answered w (probe j key h tick) = []
-answered w (visit j slot tick) = []
+answered w (walk j slot tick) = []
 answered w (stats j) = []
 answered w (reopen records copied flags tick index filter starts lengths) = []
 answered w (reuse key v h location header) = []
 answered w (copy key v h ttl) = []
 answered w (refinish scratch) = []
 
--- the answers of the lookups in a list of calls
+-- the answers of the lookups and peeks in a list of calls
 abbrev pub answers : World → List (Call (List ℕ)) → List Answer
 answers w [] = []
 answers w (c ∷ cs) = answered w c ++ answers (step w c .after) cs

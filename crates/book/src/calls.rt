@@ -1,6 +1,8 @@
-// Each call of a list as code. A function makes the call; its contract says which step of the world
-// that is, whatever else stands in the world: what the call answered and what its areas then hold is
-// the world after the step. Areas that a call does not take stand by, to be named in the contract.
+// Each call of a list, as code. A function makes one call of crates/sets; its contract, for every input,
+// says that the call is this step of the world, whatever else stands in the world: what the call was
+// answered and what its areas then hold is what `step` leaves, and accepted is what `step` accepts.
+// So the definitions that contracts cite and those that the claim on lists is made of are held together
+// by proof. Areas that a call does not take are lent all the same, for the contract to name them.
 use hash_parts::duration::Lifetime;
 use hash_parts::setting::SegmentCacheConfig;
 use sets::builder::FinishAnswer;
@@ -20,14 +22,11 @@ use sets::rebuild::SegmentRecordLocation;
 use sets::rebuild::SharedSegmentCacheBuilder;
 ghost use mathlib.Core.Path.{_≡_};
 ghost use mathlib.Core.List.{List};
-ghost use mathlib.Core.Option.{some};
-ghost use Prim.Native.Nat.{ℕ};
-ghost use lib.ListN.{getElem?, set};
-ghost use Rattle.book.specs.Calls.{opening, push, finish, lookup, peek, clear, probe, visit, stats, reopen, reuse, copy, refinish, newest};
-ghost use Rattle.book.specs.World.{Current, building, rebuilding, FinishedSet, World, step, answered};
-ghost use Rattle.book.specs.Made.{areasOf, setOf, worldOf, left, openLeft, pushLeft, finishLeft, getAccepted, getGives, takeAccepted, probeTold, walkTold, statsTold, reopenLeft, repushLeft, refinishLeft};
+ghost use Rattle.book.specs.Calls.{opening, push, finish, lookup, peek, clear, probe, walk, stats, reopen, reuse, copy, refinish};
+ghost use Rattle.book.specs.World.{building, rebuilding, FinishedSet, World, step, answered};
+ghost use Rattle.book.specs.Made.{areasOf, setOf, worldOf, left, Wherever, WhereNewest, openLeft, pushLeft, finishLeft, setLeft, getAccepted, getGives, takeAccepted, probeAccepted, walkAccepted, statsAccepted, reopenLeft, repushLeft, refinishLeft};
 
-// Open.
+// Open, in any world.
 pub fn make_open(
     config: SegmentCacheConfig,
     entry_count: usize,
@@ -42,7 +41,7 @@ pub fn make_open(
     SegmentCacheBuilder::try_new(config, entry_count, index, filter, starts, lengths, arena)
 }
 
-// Push; the segment areas stand by.
+// Push, whatever sets are finished. The segment areas are only named.
 pub fn make_push(
     builder: SegmentCacheBuilder,
     hash: u64,
@@ -60,7 +59,7 @@ pub fn make_push(
     builder.push(hash, key, value, ttl, index, filter, arena)
 }
 
-// Finish; the filter stands by.
+// Finish, whatever sets are finished. The filter is only named.
 pub fn make_finish(
     builder: SegmentCacheBuilder,
     target: usize,
@@ -76,7 +75,7 @@ pub fn make_finish(
     builder.finish(target, index, starts, lengths, scratch, arena)
 }
 
-// Lookup.
+// Lookup, in a set anywhere among others; what it gives is what the world answers.
 pub fn make_lookup(
     cache: FrozenSegmentCache,
     hash: u64,
@@ -88,7 +87,7 @@ pub fn make_lookup(
     lengths: &[u64],
     arena: &[u8],
 ) -> GetAnswer
-    ensures { λ r. ⌜ ((current : Current) (sets : List FinishedSet) (j : ℕ) → getElem? sets j ≡ some (setOf cache (areasOf (now (index .entry)) (now (filter .entry)) (now (starts .entry)) (now (lengths .entry)))) → (left (getAccepted r) (worldOf (now (arena .entry)) current (set sets j (setOf cache (areasOf (now (index .exit)) (now (filter .entry)) (now (starts .entry)) (now (lengths .entry)))))) ≡ step (worldOf (now (arena .entry)) current sets) (lookup j (now (key .entry)) hash «now_tick»)) × (getGives (now (arena .entry)) r ≡ answered (worldOf (now (arena .entry)) current sets) (lookup j (now (key .entry)) hash «now_tick»))) ⌝ }
+    ensures { λ r. ⌜ Wherever (setOf cache (areasOf (now (index .entry)) (now (filter .entry)) (now (starts .entry)) (now (lengths .entry)))) (now (arena .entry)) (λ w j. (setLeft w j (setOf cache (areasOf (now (index .exit)) (now (filter .entry)) (now (starts .entry)) (now (lengths .entry)))) (getAccepted r) ≡ step w (lookup j (now (key .entry)) hash «now_tick»)) × (getGives (now (arena .entry)) r ≡ answered w (lookup j (now (key .entry)) hash «now_tick»))) ⌝ }
 {
     cache.get_at_tick(hash, key, now_tick, index, filter, starts, lengths, arena)
 }
@@ -105,7 +104,7 @@ pub fn make_peek(
     lengths: &[u64],
     arena: &[u8],
 ) -> GetAnswer
-    ensures { λ r. ⌜ ((current : Current) (sets : List FinishedSet) (j : ℕ) → getElem? sets j ≡ some (setOf cache (areasOf (now (index .entry)) (now (filter .entry)) (now (starts .entry)) (now (lengths .entry)))) → (left (getAccepted r) (worldOf (now (arena .entry)) current (set sets j (setOf cache (areasOf (now (index .entry)) (now (filter .entry)) (now (starts .entry)) (now (lengths .entry)))))) ≡ step (worldOf (now (arena .entry)) current sets) (peek j (now (key .entry)) hash «now_tick»)) × (getGives (now (arena .entry)) r ≡ answered (worldOf (now (arena .entry)) current sets) (peek j (now (key .entry)) hash «now_tick»))) ⌝ }
+    ensures { λ r. ⌜ Wherever (setOf cache (areasOf (now (index .entry)) (now (filter .entry)) (now (starts .entry)) (now (lengths .entry)))) (now (arena .entry)) (λ w j. (setLeft w j (setOf cache (areasOf (now (index .entry)) (now (filter .entry)) (now (starts .entry)) (now (lengths .entry)))) (getAccepted r) ≡ step w (peek j (now (key .entry)) hash «now_tick»)) × (getGives (now (arena .entry)) r ≡ answered w (peek j (now (key .entry)) hash «now_tick»))) ⌝ }
 {
     cache.peek_at_tick(hash, key, now_tick, index, filter, starts, lengths, arena)
 }
@@ -121,7 +120,7 @@ pub fn make_clear(
     lengths: &[u64],
     arena: &[u8],
 ) -> TakeAnswer
-    ensures { λ r. ⌜ ((current : Current) (sets : List FinishedSet) (j : ℕ) → getElem? sets j ≡ some (setOf cache (areasOf (now (index .entry)) (now (filter .entry)) (now (starts .entry)) (now (lengths .entry)))) → left (takeAccepted r) (worldOf (now (arena .entry)) current (set sets j (setOf cache (areasOf (now (index .exit)) (now (filter .entry)) (now (starts .entry)) (now (lengths .entry)))))) ≡ step (worldOf (now (arena .entry)) current sets) (clear j (now (key .entry)) hash)) ⌝ }
+    ensures { λ r. ⌜ Wherever (setOf cache (areasOf (now (index .entry)) (now (filter .entry)) (now (starts .entry)) (now (lengths .entry)))) (now (arena .entry)) (λ w j. setLeft w j (setOf cache (areasOf (now (index .exit)) (now (filter .entry)) (now (starts .entry)) (now (lengths .entry)))) (takeAccepted r) ≡ step w (clear j (now (key .entry)) hash)) ⌝ }
 {
     cache.take_accessed(hash, key, index, filter, starts, lengths, arena)
 }
@@ -138,13 +137,13 @@ pub fn make_probe(
     lengths: &[u64],
     arena: &[u8],
 ) -> ProbeAnswer
-    ensures { λ r. ⌜ ((current : Current) (sets : List FinishedSet) (j : ℕ) → getElem? sets j ≡ some (setOf cache (areasOf (now (index .entry)) (now (filter .entry)) (now (starts .entry)) (now (lengths .entry)))) → left (probeTold r) (worldOf (now (arena .entry)) current sets) ≡ step (worldOf (now (arena .entry)) current sets) (probe j (now (key .entry)) hash «now_tick»)) ⌝ }
+    ensures { λ r. ⌜ Wherever (setOf cache (areasOf (now (index .entry)) (now (filter .entry)) (now (starts .entry)) (now (lengths .entry)))) (now (arena .entry)) (λ w j. left (probeAccepted r) w ≡ step w (probe j (now (key .entry)) hash «now_tick»)) ⌝ }
 {
     cache.probe_hashed_at_tick(hash, key, now_tick, index, filter, starts, lengths, arena)
 }
 
-// A step of the walk; the filter stands by.
-pub fn make_visit(
+// A step of the walk. The filter is only named.
+pub fn make_walk(
     cache: FrozenSegmentCache,
     from: usize,
     now_tick: u64,
@@ -154,12 +153,12 @@ pub fn make_visit(
     lengths: &[u64],
     arena: &[u8],
 ) -> WalkAnswer
-    ensures { λ r. ⌜ ((current : Current) (sets : List FinishedSet) (j : ℕ) → getElem? sets j ≡ some (setOf cache (areasOf (now (index .entry)) (now (filter .entry)) (now (starts .entry)) (now (lengths .entry)))) → left (walkTold r) (worldOf (now (arena .entry)) current sets) ≡ step (worldOf (now (arena .entry)) current sets) (visit j from «now_tick»)) ⌝ }
+    ensures { λ r. ⌜ Wherever (setOf cache (areasOf (now (index .entry)) (now (filter .entry)) (now (starts .entry)) (now (lengths .entry)))) (now (arena .entry)) (λ w j. left (walkAccepted r) w ≡ step w (walk j from «now_tick»)) ⌝ }
 {
     cache.next_physical_entry_at_tick(from, now_tick, index, starts, lengths, arena)
 }
 
-// Statistics; all areas stand by.
+// Statistics. All areas are only named.
 pub fn make_stats(
     cache: FrozenSegmentCache,
     index: &[u64],
@@ -168,12 +167,12 @@ pub fn make_stats(
     lengths: &[u64],
     arena: &[u8],
 ) -> StatsAnswer
-    ensures { λ r. ⌜ ((current : Current) (sets : List FinishedSet) (j : ℕ) → getElem? sets j ≡ some (setOf cache (areasOf (now (index .entry)) (now (filter .entry)) (now (starts .entry)) (now (lengths .entry)))) → left (statsTold r) (worldOf (now (arena .entry)) current sets) ≡ step (worldOf (now (arena .entry)) current sets) (stats j)) ⌝ }
+    ensures { λ r. ⌜ Wherever (setOf cache (areasOf (now (index .entry)) (now (filter .entry)) (now (starts .entry)) (now (lengths .entry)))) (now (arena .entry)) (λ w j. left (statsAccepted r) w ≡ step w (stats j)) ⌝ }
 {
     cache.stats()
 }
 
-// Rebuild open; the source's index and filter stand by.
+// Rebuild open, of the newest set, whatever is open. The source's index and filter are only named.
 pub fn make_reopen(
     source: FrozenSegmentCache,
     source_index: &[u64],
@@ -190,7 +189,7 @@ pub fn make_reopen(
     starts: &mut [u64],
     lengths: &mut [u64],
 ) -> RebuildOpenAnswer
-    ensures { λ r. ⌜ ((current : Current) (sets : List FinishedSet) → newest sets ≡ some (setOf source (areasOf (now («source_index» .entry)) (now («source_filter» .entry)) (now («source_starts» .entry)) (now («source_lengths» .entry)))) → reopenLeft current sets (now (arena .entry)) (areasOf (now (index .exit)) (now (filter .exit)) (now (starts .exit)) (now (lengths .exit))) r ≡ step (worldOf (now (arena .entry)) current sets) (reopen «entry_count» «copied_record_capacity» (now («used_source_segments» .entry)) «source_now_tick» (now (index .entry)) (now (filter .entry)) (now (starts .entry)) (now (lengths .entry)))) ⌝ }
+    ensures { λ r. ⌜ WhereNewest (setOf source (areasOf (now («source_index» .entry)) (now («source_filter» .entry)) (now («source_starts» .entry)) (now («source_lengths» .entry)))) (now (arena .entry)) (λ w. reopenLeft w (areasOf (now (index .exit)) (now (filter .exit)) (now (starts .exit)) (now (lengths .exit))) r ≡ step w (reopen «entry_count» «copied_record_capacity» (now («used_source_segments» .entry)) «source_now_tick» (now (index .entry)) (now (filter .entry)) (now (starts .entry)) (now (lengths .entry)))) ⌝ }
 {
     SharedSegmentCacheBuilder::try_new(
         source,
@@ -254,7 +253,7 @@ pub fn make_copy(
     builder.push_copied(hash, key, value, ttl, index, filter, starts, lengths, arena)
 }
 
-// Rebuild finish; the filter stands by.
+// Rebuild finish. The filter is only named.
 pub fn make_refinish(
     builder: SharedSegmentCacheBuilder,
     index: &mut [u64],
