@@ -7,7 +7,7 @@ use mathlib.Core.Option.{Option}
 use Prim.Native.Nat.{ℕ}
 use Rattle.hash_parts.specs.declared.duration.Lifetime.{Lifetime}
 use Rattle.hash_parts.specs.declared.setting.SegmentCacheConfig.{SegmentCacheConfig}
-use Rattle.sets.specs.Answers.{pushReply, rebuildPushReply, getReply, takeReply, probeReply, walkReply, statsReply}
+use Rattle.sets.specs.Answers.{getReply, takeReply, probeReply, walkReply, statsReply}
 use Rattle.sets.specs.Build.{Opened, openResult, afterOpen, Pushed, pushResult, afterPush, Finished, finishResult, afterFinish}
 use Rattle.sets.specs.Lookup.{Got, getResult, afterGet, afterPeek, Taken, takeResult, afterTake, probeAnswer, walkAnswer, statsAnswer}
 use Rattle.sets.specs.Rebuild.{RebuildOpened, rebuildOpenResult, afterRebuildOpen, Reused, reusedResult, afterReused, Copied, copiedResult, afterCopied, RebuildFinished, rebuildFinishResult, afterRebuildFinish}
@@ -39,7 +39,7 @@ use Rattle.sets.specs.declared.rebuild.SegmentRecordLocation.{SegmentRecordLoca
 use Rattle.sets.specs.declared.rebuild.SharedSegmentCacheBuilder.{SharedSegmentCacheBuilder}
 use Rattle.book.specs.Calls.{opening, push, finish, lookup, peek, clear, probe, walk, stats, reopen, reuse, copy, refinish, Answer, newest}
 use Rattle.book.specs.Made.{areasOf, worldOf, left, Wherever, WhereNewest, openLeft, pushLeft, finishLeft, setLeft, getAccepted, getGives, takeAccepted, probeAccepted, walkAccepted, statsAccepted, reopenLeft, repushLeft, refinishLeft}
-use Rattle.book.specs.World.{Areas, building, rebuilding, FinishedSet, World, Step, isAccepted, openLeaves, openedOr, builderIn, rebuildIn, pushLeaves, finishLeaves, withIndex, setLeaves, lookupStep, peekStep, clearStep, probeStep, walkStep, statsStep, reopenLeaves, reopenStep, reuseLeaves, copyLeaves, refinishLeaves, step, answerOf, answerFrom, peekedFrom, answered}
+use Rattle.book.specs.World.{Areas, building, rebuilding, FinishedSet, World, Step, isAccepted, openLeaves, openedOr, pushLeaves, finishLeaves, withIndex, setLeaves, lookupStep, peekStep, clearStep, probeStep, walkStep, statsStep, reopenLeaves, reopenStep, reuseLeaves, copyLeaves, refinishLeaves, step, answerOf, answerFrom, peekedFrom, answered}
 
 -- ---- open, push, finish
 
@@ -208,15 +208,3 @@ module _ (b : SharedSegmentCacheBuilder) (a : Areas) (arena : List ℕ) where
           → refinishLeft sets arena (areasOf index (a .filter) starts lengths) r ≡ refinishLeaves (Rebuilt sets) a (rebuildFinishResult r index starts lengths used)
       go (refinishes.Finished s) = refl
       go (refinishes.Refused n c) = refl
-
--- ---- what a push leaves open, for lists that go on after it whether it was accepted or not
-
-pub pushed-on : (sets : List FinishedSet) (arena : List ℕ) (a : Areas) (r : PushAnswer)
-    → worldOf arena (building (builderIn (pushReply r)) a) sets ≡ pushLeft sets arena a r .after
-pushed-on sets arena a (pushes.Pushed b slot location) = refl
-pushed-on sets arena a (pushes.Refused n b) = refl
-
-pub repushed-on : (sets : List FinishedSet) (arena : List ℕ) (a : Areas) (r : RebuildPushAnswer)
-    → worldOf arena (rebuilding (rebuildIn (rebuildPushReply r)) a) sets ≡ repushLeft sets arena a r .after
-repushed-on sets arena a (repushes.Pushed b slot location) = refl
-repushed-on sets arena a (repushes.Refused n b) = refl

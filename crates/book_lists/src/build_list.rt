@@ -1,6 +1,7 @@
-// A list of calls as a program makes it: open, two pushes, finish, a lookup. Each function makes its
-// call and hands what the call leaves to the next; its contract is the answer that the world of the
-// claim gives to the calls from there on.
+// A whole list of calls as a program makes it: open, two pushes, finish, a lookup. The contract of
+// `build_and_ask` says, for every input, that the answer is the one in `answers` of this list, from
+// nothing on. Each function makes one call and hands what it leaves to the next; its contract is the
+// same of the rest of the list.
 use book::calls::make_finish;
 use book::calls::make_lookup;
 use book::calls::make_open;
@@ -16,17 +17,14 @@ use sets::builder::SegmentCacheBuilder;
 use sets::cache::FrozenSegmentCache;
 use sets::cache::GetAnswer;
 ghost use mathlib.Core.Path.{_≡_};
-ghost use mathlib.Core.List.{List, [], _∷_};
-ghost use mathlib.Core.Option.{some};
-ghost use Prim.Native.Nat.{ℕ};
-ghost use lib.ListN.{getElem?};
+ghost use mathlib.Core.List.{[], _∷_};
 ghost use Rattle.sets.specs.Answers.{pushReply};
 ghost use Rattle.book.specs.Calls.{opening, push, finish, lookup};
-ghost use Rattle.book.specs.World.{Current, building, FinishedSet, nowhere, builderIn, opened, answers};
-ghost use Rattle.book.specs.Made.{areasOf, setOf, worldOf};
+ghost use Rattle.book.specs.World.{building, unopened, builderIn, answers};
+ghost use Rattle.book.specs.Made.{areasOf, setOf, worldOf, Wherever};
 ghost use Rattle.book_lists.specs.Gives.{gives};
 
-// What a lookup in a list answers; a value's bytes are what `value_slice` hands out.
+// What the lookup of a list answers; a value's bytes are what `value_slice` hands out for the span.
 pub enum ListAnswer {
     Value(Span),
     Nothing,
@@ -35,7 +33,7 @@ pub enum ListAnswer {
     Absent,
 }
 
-// The list, from open on, with any arguments and areas of any content. A refused push leaves its
+// The list from open on, with any arguments and with areas of any content. A refused push leaves its
 // record out; where open or finish is refused there is no set to ask.
 pub fn build_and_ask(
     config: SegmentCacheConfig,
@@ -59,7 +57,7 @@ pub fn build_and_ask(
     scratch: &mut [u64],
     arena: &mut [u8],
 ) -> ListAnswer
-    ensures { λ r. ⌜ (gives (now (arena .exit)) r ≡ answers (opened config «entry_count» (now (arena .entry)) (areasOf (now (index .entry)) (now (filter .entry)) (now (starts .entry)) (now (lengths .entry)))) (push (now (key .entry)) (now (value .entry)) hash ttl ∷ push (now («second_key» .entry)) (now («second_value» .entry)) «second_hash» «second_ttl» ∷ finish target (now (scratch .entry)) ∷ lookup 0 (now («asked_key» .entry)) «asked_hash» «now_tick» ∷ [])) × (gives (now (arena .exit)) r ≡ answers nowhere (opening config «entry_count» (now (arena .entry)) (now (index .entry)) (now (filter .entry)) (now (starts .entry)) (now (lengths .entry)) ∷ push (now (key .entry)) (now (value .entry)) hash ttl ∷ push (now («second_key» .entry)) (now («second_value» .entry)) «second_hash» «second_ttl» ∷ finish target (now (scratch .entry)) ∷ lookup 0 (now («asked_key» .entry)) «asked_hash» «now_tick» ∷ [])) ⌝ }
+    ensures { λ r. ⌜ gives (now (arena .exit)) r ≡ answers (unopened (now (arena .entry))) (opening config «entry_count» (now (arena .entry)) (now (index .entry)) (now (filter .entry)) (now (starts .entry)) (now (lengths .entry)) ∷ push (now (key .entry)) (now (value .entry)) hash ttl ∷ push (now («second_key» .entry)) (now («second_value» .entry)) «second_hash» «second_ttl» ∷ finish target (now (scratch .entry)) ∷ lookup 0 (now («asked_key» .entry)) «asked_hash» «now_tick» ∷ []) ⌝ }
 {
     let OpenAnswer::Opened(builder) = make_open(
         config,
@@ -267,7 +265,7 @@ pub(crate) fn ask(
     lengths: &[u64],
     arena: &[u8],
 ) -> ListAnswer
-    ensures { λ r. ⌜ ((current : Current) (sets : List FinishedSet) (j : ℕ) → getElem? sets j ≡ some (setOf cache (areasOf (now (index .entry)) (now (filter .entry)) (now (starts .entry)) (now (lengths .entry)))) → gives (now (arena .entry)) r ≡ answers (worldOf (now (arena .entry)) current sets) (lookup j (now (key .entry)) hash «now_tick» ∷ [])) ⌝ }
+    ensures { λ r. ⌜ Wherever (setOf cache (areasOf (now (index .entry)) (now (filter .entry)) (now (starts .entry)) (now (lengths .entry)))) (now (arena .entry)) (λ w j. gives (now (arena .entry)) r ≡ answers w (lookup j (now (key .entry)) hash «now_tick» ∷ [])) ⌝ }
 {
     match make_lookup(
         cache,

@@ -1,5 +1,5 @@
-// A list of calls with a rebuild: rebuild open of a finished set, a reused push, a copied push, rebuild
-// finish, a lookup in the new set. As in `build_list`.
+// A whole list of calls with a rebuild: rebuild open of a finished set, a reused push, a copied push,
+// rebuild finish, a lookup in the new set. Contracts and functions are as in `build_list`.
 use crate::build_list::ListAnswer;
 use crate::build_list::ask;
 use book::calls::make_copy;
@@ -21,8 +21,8 @@ ghost use Rattle.book.specs.World.{idle, rebuilding, FinishedSet, rebuildIn, an
 ghost use Rattle.book.specs.Made.{areasOf, setOf, worldOf};
 ghost use Rattle.book_lists.specs.Gives.{gives};
 
-// The list, from rebuild open on; the source is any set in areas of any content. A refused push
-// leaves its record out; where open or finish is refused there is no second set to ask.
+// The list from rebuild open on; the source is any set, in areas of any content. A refused push leaves
+// its record out; where rebuild open or rebuild finish is refused there is no second set to ask.
 pub fn rebuild_and_ask(
     source: FrozenSegmentCache,
     source_index: &[u64],

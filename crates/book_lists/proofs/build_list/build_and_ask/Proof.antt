@@ -1,11 +1,10 @@
 -- `build_and_ask` meets its contract. Assumes nothing.
-use mathlib.Core.Path.{sym, ap, _∙_}
+use mathlib.Core.Path.{_∙_}
 use mathlib.Core.List.{[], _∷_}
-use Rattle.sets.specs.declared.builder.OpenAnswer.{OpenAnswer}
 use Rattle.book.specs.Calls.{push, finish, lookup}
-use Rattle.book.specs.Made.{areasOf, worldOf, openLeft}
-use Rattle.book.specs.World.{idle, World, nowhere, Step, answers}
-use Rattle.book.proofs.Making.{opened-is}
+use Rattle.book.specs.Made.{areasOf, openLeft}
+use Rattle.book.specs.World.{unopened}
+use Rattle.book_lists.proofs.GoingOn.{goes-on}
 use borrow.Author.Needs.{needs}
 use Rattle.book_lists.proofs.build_list.build_and_ask.Statement.{statement}
 use Rattle.book_lists.proofs.build_list.build_and_ask.Tie as tie
@@ -36,18 +35,15 @@ same-length-5 c = search needs
 
 returns : tie.Need-returns
 returns c =
-    let a = c .before .before .before .before .before .before .before .before .before .before .before .before .before .before .before .before .before .before .before .before .before .before .before .args in
-    let calls = push (a .key .now) (a .value .now) (a .hash) (a .ttl) ∷ push (a .second-key .now) (a .second-value .now) (a .second-hash) (a .second-ttl) ∷ finish (a .target) (a .scratch .now) ∷ lookup 0 (a .asked-key .now) (a .asked-hash) (a .now-tick) ∷ [] in
-    let m = c .before .before .before .before .before .before .make-open in
-    let before = areasOf (a .index .now) (a .filter .now) (a .starts .now) (a .lengths .now) in
+    let k = c .before .before .before .before .before .before in
+    let a = k .before .before .before .before .before .before .before .before .before .before .before .before .before .before .before .before .before .args in
+    let asked = lookup 0 (a .asked-key .now) (a .asked-hash) (a .now-tick) ∷ [] in
+    let second = push (a .second-key .now) (a .second-value .now) (a .second-hash) (a .second-ttl) in
+    let calls = push (a .key .now) (a .value .now) (a .hash) (a .ttl) ∷ second ∷ finish (a .target) (a .scratch .now) ∷ asked in
+    let m = k .make-open in
     let areas = areasOf (m .last .1 .1 .0) (m .last .1 .1 .1 .0) (a .starts .now) (a .lengths .now) in
-    let bare = worldOf (a .arena .now) idle [] in (
-      ap (λ (r : OpenAnswer). answers (openLeft bare (a .arena .now) areas r .after) calls) (sym (c .enum-told .given .1))
-          ∙ ap (λ (s : Step). answers (s .after) calls) (m .ensures bare)
-          ∙ ap (λ (w : World). answers w calls) (opened-is (a .config) (a .entry-count) (a .arena .now) before),
-      ap (λ (r : OpenAnswer). answers (openLeft nowhere (a .arena .now) areas r .after) calls) (sym (c .enum-told .given .1))
-          ∙ ap (λ (s : Step). answers (s .after) calls) (m .ensures nowhere),
-    )
+    let w = unopened (a .arena .now) in
+    goes-on calls (openLeft w (a .arena .now) areas) (c .enum-told .given .1) (m .ensures w)
 
 push-twice-requires : tie.Need-push-twice-requires
 push-twice-requires c κs = search needs
@@ -72,18 +68,17 @@ same-length-11 c = search needs
 
 returns-2 : tie.Need-returns-2
 returns-2 c =
-    let a = c .before .before .before .before .before .before .before .before .before .before .before .before .before .before .before .before .before .before .before .before .before .before .before .before .before .before .before .before .before .before .before .before .before .before .before .before .before .before .before .before .before .before .before .args in
-    let calls = push (a .key .now) (a .value .now) (a .hash) (a .ttl) ∷ push (a .second-key .now) (a .second-value .now) (a .second-hash) (a .second-ttl) ∷ finish (a .target) (a .scratch .now) ∷ lookup 0 (a .asked-key .now) (a .asked-hash) (a .now-tick) ∷ [] in
-    let m = c .before .before .before .before .before .before .before .before .before .before .before .before .before .before .before .before .before .before .before .before .before .before .before .before .before .before .make-open in
-    let before = areasOf (a .index .now) (a .filter .now) (a .starts .now) (a .lengths .now) in
+    let k = c .before .before .before .before .before .before .before .before .before .before .before .before in
+    let l = k .before .before .before .before .before .before .before .before in
+    let n = l .before .before .before .before .before .before in
+    let a = n .before .before .before .before .before .before .before .before .before .before .before .before .before .before .before .before .before .args in
+    let asked = lookup 0 (a .asked-key .now) (a .asked-hash) (a .now-tick) ∷ [] in
+    let second = push (a .second-key .now) (a .second-value .now) (a .second-hash) (a .second-ttl) in
+    let calls = push (a .key .now) (a .value .now) (a .hash) (a .ttl) ∷ second ∷ finish (a .target) (a .scratch .now) ∷ asked in
+    let m = n .make-open in
     let areas = areasOf (m .last .1 .1 .0) (m .last .1 .1 .1 .0) (a .starts .now) (a .lengths .now) in
-    let bare = worldOf (a .arena .now) idle [] in (
-      c .before .before .before .before .before .before .before .before .before .before .before .before .push-twice .ensures ∙ ap (λ (r : OpenAnswer). answers (openLeft bare (a .arena .now) areas r .after) calls) (sym (c .before .before .before .before .before .before .before .before .before .before .before .before .before .before .before .before .before .before .before .before .builder .given .1))
-          ∙ ap (λ (s : Step). answers (s .after) calls) (m .ensures bare)
-          ∙ ap (λ (w : World). answers w calls) (opened-is (a .config) (a .entry-count) (a .arena .now) before),
-      c .before .before .before .before .before .before .before .before .before .before .before .before .push-twice .ensures ∙ ap (λ (r : OpenAnswer). answers (openLeft nowhere (a .arena .now) areas r .after) calls) (sym (c .before .before .before .before .before .before .before .before .before .before .before .before .before .before .before .before .before .before .before .before .builder .given .1))
-          ∙ ap (λ (s : Step). answers (s .after) calls) (m .ensures nowhere),
-    )
+    let w = unopened (a .arena .now) in
+    k .push-twice .ensures ∙ goes-on calls (openLeft w (a .arena .now) areas) (l .builder .given .1) (m .ensures w)
 
 pub build-and-ask-spec : {M : Type 1} → statement M
 build-and-ask-spec =

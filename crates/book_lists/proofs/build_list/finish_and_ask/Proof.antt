@@ -1,10 +1,10 @@
 -- `finish_and_ask` meets its contract. Assumes nothing.
-use mathlib.Core.Path.{refl, sym, ap, _∙_}
+use mathlib.Core.Path.{refl, _∙_}
 use mathlib.Core.List.{[], _∷_}
-use Rattle.sets.specs.declared.builder.FinishAnswer.{FinishAnswer}
 use Rattle.book.specs.Calls.{lookup}
 use Rattle.book.specs.Made.{areasOf, setOf, finishLeft}
-use Rattle.book.specs.World.{idle, Step, answers}
+use Rattle.book.specs.World.{idle}
+use Rattle.book_lists.proofs.GoingOn.{goes-on}
 use borrow.Author.Needs.{needs}
 use Rattle.book_lists.proofs.build_list.finish_and_ask.Statement.{statement}
 use Rattle.book_lists.proofs.build_list.finish_and_ask.Tie as tie
@@ -32,12 +32,12 @@ same-length-4 c = search needs
 
 returns : tie.Need-returns
 returns c =
-    let a = c .before .before .before .before .before .before .before .before .before .before .before .before .before .before .before .before .before .before .before .before .before .before .args in
+    let k = c .before .before .before .before .before .before .before .before .before .before in
+    let a = k .before .before .before .before .before .before .before .before .before .before .before .before .args in
+    let m = k .make-finish in
     let calls = lookup 0 (a .asked-key .now) (a .asked-hash) (a .now-tick) ∷ [] in
-    let m = c .before .before .before .before .before .before .before .before .before .before .make-finish in
     let areas = areasOf (m .last .1 .1 .0) (a .filter .now) (m .last .1 .1 .1 .1 .0) (m .last .1 .1 .1 .1 .1 .0) in
-    ap (λ (r : FinishAnswer). answers (finishLeft [] (a .arena .now) areas r .after) calls) (sym (c .enum-told .given .1))
-    ∙ ap (λ (s : Step). answers (s .after) calls) (m .ensures [])
+    goes-on calls (finishLeft [] (a .arena .now) areas) (c .enum-told .given .1) (m .ensures [])
 
 ask-requires : tie.Need-ask-requires
 ask-requires c κs = search needs
@@ -56,13 +56,13 @@ same-length-8 c = search needs
 
 returns-2 : tie.Need-returns-2
 returns-2 c =
-    let a = c .before .before .before .before .before .before .before .before .before .before .before .before .before .before .before .before .before .before .before .before .before .before .before .before .before .before .before .before .before .args in
+    let k = c .before .before .before .before .before .before .before in
+    let n = k .before .before .before .before .before .before .before .before .before .before in
+    let a = n .before .before .before .before .before .before .before .before .before .before .before .before .args in
+    let m = n .make-finish in
     let calls = lookup 0 (a .asked-key .now) (a .asked-hash) (a .now-tick) ∷ [] in
-    let m = c .before .before .before .before .before .before .before .before .before .before .before .before .before .before .before .before .before .make-finish in
     let areas = areasOf (m .last .1 .1 .0) (a .filter .now) (m .last .1 .1 .1 .1 .0) (m .last .1 .1 .1 .1 .1 .0) in
-    c .before .before .ask .ensures idle (setOf (c .before .before .before .before .before .before .before .cache .given .0 .0) areas ∷ []) 0 refl
-    ∙ ap (λ (r : FinishAnswer). answers (finishLeft [] (a .arena .now) areas r .after) calls) (sym (c .before .before .before .before .before .before .before .cache .given .1))
-    ∙ ap (λ (s : Step). answers (s .after) calls) (m .ensures [])
+    c .before .before .ask .ensures idle (setOf (k .cache .given .0 .0) areas ∷ []) 0 refl ∙ goes-on calls (finishLeft [] (a .arena .now) areas) (k .cache .given .1) (m .ensures [])
 
 pub finish-and-ask-spec : {M : Type 1} → statement M
 finish-and-ask-spec =

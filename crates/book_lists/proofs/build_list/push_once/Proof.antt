@@ -1,11 +1,9 @@
 -- `push_once` meets its contract. Assumes nothing.
-use mathlib.Core.Path.{ap, _∙_}
+use mathlib.Core.Path.{_∙_}
 use mathlib.Core.List.{[], _∷_}
-use Rattle.sets.specs.declared.builder.SegmentCacheBuilder.{SegmentCacheBuilder}
 use Rattle.book.specs.Calls.{finish, lookup}
-use Rattle.book.specs.Made.{areasOf, worldOf}
-use Rattle.book.specs.World.{building, World, Step, answers}
-use Rattle.book.proofs.Making.{pushed-on}
+use Rattle.book.specs.Made.{areasOf}
+use Rattle.book_lists.proofs.GoingOn.{push-goes-on}
 use borrow.Author.Needs.{needs}
 use Rattle.book_lists.proofs.build_list.push_once.Statement.{statement}
 use Rattle.book_lists.proofs.build_list.push_once.Tie as tie
@@ -39,14 +37,14 @@ same-length-6 c = search needs
 
 returns : tie.Need-returns
 returns c =
-    let a = c .before .before .before .before .before .before .before .before .before .before .before .before .before .before .before .before .before .before .before .before .before .before .before .before .before .before .before .before .before .before .before .before .before .before .before .before .before .args in
+    let k = c .before .before .before .before .before .before .before .before in
+    let l = k .before .before .before .before .before .before .before in
+    let n = l .before .before .before .before .before .before .before in
+    let a = n .before .before .before .before .before .before .before .before .before .before .before .before .before .before .before .args in
+    let m = n .make-push in
     let calls = finish (a .target) (a .scratch .now) ∷ lookup 0 (a .asked-key .now) (a .asked-hash) (a .now-tick) ∷ [] in
-    let m = c .before .before .before .before .before .before .before .before .before .before .before .before .before .before .before .before .before .before .before .before .before .before .make-push in
     let areas = areasOf (m .last .1 .1 .1 .1 .1 .0) (m .last .1 .1 .1 .1 .1 .1 .0) (a .starts .now) (a .lengths .now) in
-    c .before .before .before .before .before .before .before .before .finish-and-ask .ensures
-    ∙ ap (λ (b : SegmentCacheBuilder). answers (worldOf (m .last .1 .1 .1 .1 .1 .1 .1 .1 .1 .0) (building b areas) []) calls) (c .before .before .before .before .before .before .before .before .before .before .before .before .before .before .before .builder-after .ensures)
-    ∙ ap (λ (w : World). answers w calls) (pushed-on [] (m .last .1 .1 .1 .1 .1 .1 .1 .1 .1 .0) areas (m .result))
-    ∙ ap (λ (s : Step). answers (s .after) calls) (m .ensures [])
+    k .finish-and-ask .ensures ∙ push-goes-on calls [] (m .last .1 .1 .1 .1 .1 .1 .1 .1 .1 .0) areas (m .result) (l .builder-after .ensures) (m .ensures [])
 
 pub push-once-spec : {M : Type 1} → statement M
 push-once-spec =

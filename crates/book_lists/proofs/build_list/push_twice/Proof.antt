@@ -1,11 +1,9 @@
 -- `push_twice` meets its contract. Assumes nothing.
-use mathlib.Core.Path.{ap, _∙_}
+use mathlib.Core.Path.{_∙_}
 use mathlib.Core.List.{[], _∷_}
-use Rattle.sets.specs.declared.builder.SegmentCacheBuilder.{SegmentCacheBuilder}
 use Rattle.book.specs.Calls.{push, finish, lookup}
-use Rattle.book.specs.Made.{areasOf, worldOf}
-use Rattle.book.specs.World.{building, World, Step, answers}
-use Rattle.book.proofs.Making.{pushed-on}
+use Rattle.book.specs.Made.{areasOf}
+use Rattle.book_lists.proofs.GoingOn.{push-goes-on}
 use borrow.Author.Needs.{needs}
 use Rattle.book_lists.proofs.build_list.push_twice.Statement.{statement}
 use Rattle.book_lists.proofs.build_list.push_twice.Tie as tie
@@ -39,14 +37,15 @@ same-length-6 c = search needs
 
 returns : tie.Need-returns
 returns c =
-    let a = c .before .before .before .before .before .before .before .before .before .before .before .before .before .before .before .before .before .before .before .before .before .before .before .before .before .before .before .before .before .before .before .before .before .before .before .before .before .before .before .before .before .before .before .args in
-    let calls = push (a .second-key .now) (a .second-value .now) (a .second-hash) (a .second-ttl) ∷ finish (a .target) (a .scratch .now) ∷ lookup 0 (a .asked-key .now) (a .asked-hash) (a .now-tick) ∷ [] in
-    let m = c .before .before .before .before .before .before .before .before .before .before .before .before .before .before .before .before .before .before .before .before .before .before .before .before .before .before .make-push in
+    let k = c .before .before .before .before .before .before .before .before .before .before .before .before in
+    let l = k .before .before .before .before .before .before .before in
+    let n = l .before .before .before .before .before .before .before in
+    let a = n .before .before .before .before .before .before .before .before .before .before .before .before .before .before .before .before .before .args in
+    let m = n .make-push in
+    let asked = lookup 0 (a .asked-key .now) (a .asked-hash) (a .now-tick) ∷ [] in
+    let calls = push (a .second-key .now) (a .second-value .now) (a .second-hash) (a .second-ttl) ∷ finish (a .target) (a .scratch .now) ∷ asked in
     let areas = areasOf (m .last .1 .1 .1 .1 .1 .0) (m .last .1 .1 .1 .1 .1 .1 .0) (a .starts .now) (a .lengths .now) in
-    c .before .before .before .before .before .before .before .before .before .before .before .before .push-once .ensures
-    ∙ ap (λ (b : SegmentCacheBuilder). answers (worldOf (m .last .1 .1 .1 .1 .1 .1 .1 .1 .1 .0) (building b areas) []) calls) (c .before .before .before .before .before .before .before .before .before .before .before .before .before .before .before .before .before .before .before .builder-after .ensures)
-    ∙ ap (λ (w : World). answers w calls) (pushed-on [] (m .last .1 .1 .1 .1 .1 .1 .1 .1 .1 .0) areas (m .result))
-    ∙ ap (λ (s : Step). answers (s .after) calls) (m .ensures [])
+    k .push-once .ensures ∙ push-goes-on calls [] (m .last .1 .1 .1 .1 .1 .1 .1 .1 .1 .0) areas (m .result) (l .builder-after .ensures) (m .ensures [])
 
 pub push-twice-spec : {M : Type 1} → statement M
 push-twice-spec =

@@ -1,11 +1,9 @@
 -- `copy_and_finish` meets its contract. Assumes nothing.
-use mathlib.Core.Path.{ap, _∙_}
+use mathlib.Core.Path.{_∙_}
 use mathlib.Core.List.{[], _∷_}
-use Rattle.sets.specs.declared.rebuild.SharedSegmentCacheBuilder.{SharedSegmentCacheBuilder}
 use Rattle.book.specs.Calls.{refinish, lookup}
-use Rattle.book.specs.Made.{areasOf, worldOf}
-use Rattle.book.specs.World.{rebuilding, World, Step, answers}
-use Rattle.book.proofs.Making.{repushed-on}
+use Rattle.book.specs.Made.{areasOf}
+use Rattle.book_lists.proofs.GoingOn.{repush-goes-on}
 use borrow.Author.Needs.{needs}
 use Rattle.book_lists.proofs.rebuild_list.copy_and_finish.Statement.{statement}
 use Rattle.book_lists.proofs.rebuild_list.copy_and_finish.Tie as tie
@@ -39,14 +37,14 @@ same-length-6 c = search needs
 
 returns : tie.Need-returns
 returns c = λ source.
-    let a = c .before .before .before .before .before .before .before .before .before .before .before .before .before .before .before .before .before .before .before .before .before .before .before .before .before .before .before .before .before .before .before .before .before .before .before .before .before .args in
+    let k = c .before .before .before .before .before .before .before .before in
+    let l = k .before .before .before .before .before .before .before in
+    let n = l .before .before .before .before .before .before .before in
+    let a = n .before .before .before .before .before .before .before .before .before .before .before .before .before .before .before .args in
+    let m = n .make-copy in
     let calls = refinish (a .scratch .now) ∷ lookup 1 (a .asked-key .now) (a .asked-hash) (a .now-tick) ∷ [] in
-    let m = c .before .before .before .before .before .before .before .before .before .before .before .before .before .before .before .before .before .before .before .before .before .before .make-copy in
     let areas = areasOf (m .last .1 .1 .1 .1 .1 .0) (m .last .1 .1 .1 .1 .1 .1 .0) (a .starts .now) (a .lengths .now) in
-    c .before .before .before .before .before .before .before .before .refinish-and-ask .ensures source
-    ∙ ap (λ (b : SharedSegmentCacheBuilder). answers (worldOf (m .last .1 .1 .1 .1 .1 .1 .1 .1 .1 .0) (rebuilding b areas) (source ∷ [])) calls) (c .before .before .before .before .before .before .before .before .before .before .before .before .before .before .before .rebuild-after .ensures)
-    ∙ ap (λ (w : World). answers w calls) (repushed-on (source ∷ []) (m .last .1 .1 .1 .1 .1 .1 .1 .1 .1 .0) areas (m .result))
-    ∙ ap (λ (s : Step). answers (s .after) calls) (m .ensures (source ∷ []))
+    k .refinish-and-ask .ensures source ∙ repush-goes-on calls (source ∷ []) (m .last .1 .1 .1 .1 .1 .1 .1 .1 .1 .0) areas (m .result) (l .rebuild-after .ensures) (m .ensures (source ∷ []))
 
 pub copy-and-finish-spec : {M : Type 1} → statement M
 copy-and-finish-spec =

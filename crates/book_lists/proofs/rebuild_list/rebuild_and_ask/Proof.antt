@@ -1,10 +1,10 @@
 -- `rebuild_and_ask` meets its contract. Assumes nothing.
-use mathlib.Core.Path.{refl, sym, ap, _∙_}
+use mathlib.Core.Path.{refl, _∙_}
 use mathlib.Core.List.{[], _∷_}
-use Rattle.sets.specs.declared.rebuild.RebuildOpenAnswer.{RebuildOpenAnswer}
 use Rattle.book.specs.Calls.{reuse, copy, refinish, lookup}
-use Rattle.book.specs.Made.{areasOf, setOf, reopenLeft}
-use Rattle.book.specs.World.{idle, Step, answers}
+use Rattle.book.specs.Made.{areasOf, setOf, worldOf, reopenLeft}
+use Rattle.book.specs.World.{idle}
+use Rattle.book_lists.proofs.GoingOn.{goes-on}
 use borrow.Author.Needs.{needs}
 use Rattle.book_lists.proofs.rebuild_list.rebuild_and_ask.Statement.{statement}
 use Rattle.book_lists.proofs.rebuild_list.rebuild_and_ask.Tie as tie
@@ -35,19 +35,25 @@ same-length-5 c = search needs
 
 returns : tie.Need-returns
 returns c =
-    let a = c .before .before .before .before .before .before .before .before .before .before .before .before .before .before .before .before .before .before .before .before .before .before .before .before .before .before .before .before .before .before .before .before .args in
-    let calls = reuse (a .reused-key .now) (a .reused-value .now) (a .reused-hash) (a .reused-at .location) (a .reused-at .«header_bytes») ∷ copy (a .key .now) (a .value .now) (a .hash) (a .ttl) ∷ refinish (a .scratch .now) ∷ lookup 1 (a .asked-key .now) (a .asked-hash) (a .now-tick) ∷ [] in
-    let m = c .before .before .before .before .before .before .before .before .before .before .make-reopen in
-    let areas = areasOf (m .last .1 .1 .1 .1 .1 .1 .1 .1 .1 .1 .0) (m .last .1 .1 .1 .1 .1 .1 .1 .1 .1 .1 .1 .0) (m .last .1 .1 .1 .1 .1 .1 .1 .1 .1 .1 .1 .1 .0) (m .last .1 .1 .1 .1 .1 .1 .1 .1 .1 .1 .1 .1 .1 .0) in
+    let k = c .before .before .before .before .before .before .before .before .before .before in
+    let a = k .before .before .before .before .before .before .before .before .before .before .before .before .before .before .before .before .before .before .before .before .before .before .args in
+    let m = k .make-reopen in
+    let asked = lookup 1 (a .asked-key .now) (a .asked-hash) (a .now-tick) ∷ [] in
+    let reused = reuse (a .reused-key .now) (a .reused-value .now) (a .reused-hash) (a .reused-at .location) (a .reused-at .«header_bytes») in
+    let calls = reused ∷ copy (a .key .now) (a .value .now) (a .hash) (a .ttl) ∷ refinish (a .scratch .now) ∷ asked in
+    let lent = m .last .1 .1 .1 .1 .1 .1 .1 .1 .1 .1 in
+    let areas = areasOf (lent .0) (lent .1 .0) (lent .1 .1 .0) (lent .1 .1 .1 .0) in
     let source = setOf (a .source) (areasOf (a .source-index .now) (a .source-filter .now) (a .source-starts .now) (a .source-lengths .now)) in
-    ap (λ (r : RebuildOpenAnswer). answers (reopenLeft idle (source ∷ []) (a .arena .now) areas r .after) calls) (sym (c .enum-told .given .1))
-    ∙ ap (λ (s : Step). answers (s .after) calls) (m .ensures idle (source ∷ []) refl)
+    let w = worldOf (a .arena .now) idle (source ∷ []) in
+    goes-on calls (reopenLeft w areas) (c .enum-told .given .1) (m .ensures idle (source ∷ []) refl)
 
 reuse-and-copy-requires : tie.Need-reuse-and-copy-requires
 reuse-and-copy-requires c κs = search needs
 
 same-length-6 : tie.Need-same-length-6
-same-length-6 c = c .before .before .before .before .before .before .before .before .before .before .before .index2 .given ∙ c .before .before .before .before .before .before .before .before .before .before .before .before .before .before .before .before .before .before .before .before .before .before .before .before .before .before .before .before .before .index .given
+same-length-6 c =
+    let k = c .before .before .before .before .before .before .before .before .before .before .before in
+    k .index2 .given ∙ k .before .before .before .before .before .before .before .before .before .before .before .before .before .before .before .before .before .before .index .given
 
 same-length-7 : tie.Need-same-length-7
 same-length-7 c = search needs
@@ -66,14 +72,19 @@ same-length-11 c = search needs
 
 returns-2 : tie.Need-returns-2
 returns-2 c =
-    let a = c .before .before .before .before .before .before .before .before .before .before .before .before .before .before .before .before .before .before .before .before .before .before .before .before .before .before .before .before .before .before .before .before .before .before .before .before .before .before .before .before .before .before .before .before .before .before .before .before .before .before .before .before .args in
-    let calls = reuse (a .reused-key .now) (a .reused-value .now) (a .reused-hash) (a .reused-at .location) (a .reused-at .«header_bytes») ∷ copy (a .key .now) (a .value .now) (a .hash) (a .ttl) ∷ refinish (a .scratch .now) ∷ lookup 1 (a .asked-key .now) (a .asked-hash) (a .now-tick) ∷ [] in
-    let m = c .before .before .before .before .before .before .before .before .before .before .before .before .before .before .before .before .before .before .before .before .before .before .before .before .before .before .before .before .before .before .make-reopen in
-    let areas = areasOf (m .last .1 .1 .1 .1 .1 .1 .1 .1 .1 .1 .0) (m .last .1 .1 .1 .1 .1 .1 .1 .1 .1 .1 .1 .0) (m .last .1 .1 .1 .1 .1 .1 .1 .1 .1 .1 .1 .1 .0) (m .last .1 .1 .1 .1 .1 .1 .1 .1 .1 .1 .1 .1 .1 .0) in
+    let k = c .before .before .before .before .before .before .before .before .before .before .before .before in
+    let l = k .before .before .before .before .before .before .before .before in
+    let n = l .before .before .before .before .before .before .before .before .before .before in
+    let a = n .before .before .before .before .before .before .before .before .before .before .before .before .before .before .before .before .before .before .before .before .before .before .args in
+    let m = n .make-reopen in
+    let asked = lookup 1 (a .asked-key .now) (a .asked-hash) (a .now-tick) ∷ [] in
+    let reused = reuse (a .reused-key .now) (a .reused-value .now) (a .reused-hash) (a .reused-at .location) (a .reused-at .«header_bytes») in
+    let calls = reused ∷ copy (a .key .now) (a .value .now) (a .hash) (a .ttl) ∷ refinish (a .scratch .now) ∷ asked in
+    let lent = m .last .1 .1 .1 .1 .1 .1 .1 .1 .1 .1 in
+    let areas = areasOf (lent .0) (lent .1 .0) (lent .1 .1 .0) (lent .1 .1 .1 .0) in
     let source = setOf (a .source) (areasOf (a .source-index .now) (a .source-filter .now) (a .source-starts .now) (a .source-lengths .now)) in
-    c .before .before .before .before .before .before .before .before .before .before .before .before .reuse-and-copy .ensures source
-    ∙ ap (λ (r : RebuildOpenAnswer). answers (reopenLeft idle (source ∷ []) (a .arena .now) areas r .after) calls) (sym (c .before .before .before .before .before .before .before .before .before .before .before .before .before .before .before .before .before .before .before .before .builder .given .1))
-    ∙ ap (λ (s : Step). answers (s .after) calls) (m .ensures idle (source ∷ []) refl)
+    let w = worldOf (a .arena .now) idle (source ∷ []) in
+    k .reuse-and-copy .ensures source ∙ goes-on calls (reopenLeft w areas) (l .builder .given .1) (m .ensures idle (source ∷ []) refl)
 
 pub rebuild-and-ask-spec : {M : Type 1} → statement M
 rebuild-and-ask-spec =

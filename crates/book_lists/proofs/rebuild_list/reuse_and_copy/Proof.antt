@@ -1,11 +1,9 @@
 -- `reuse_and_copy` meets its contract. Assumes nothing.
-use mathlib.Core.Path.{ap, _∙_}
+use mathlib.Core.Path.{_∙_}
 use mathlib.Core.List.{[], _∷_}
-use Rattle.sets.specs.declared.rebuild.SharedSegmentCacheBuilder.{SharedSegmentCacheBuilder}
 use Rattle.book.specs.Calls.{copy, refinish, lookup}
-use Rattle.book.specs.Made.{areasOf, worldOf}
-use Rattle.book.specs.World.{rebuilding, World, Step, answers}
-use Rattle.book.proofs.Making.{repushed-on}
+use Rattle.book.specs.Made.{areasOf}
+use Rattle.book_lists.proofs.GoingOn.{repush-goes-on}
 use borrow.Author.Needs.{needs}
 use Rattle.book_lists.proofs.rebuild_list.reuse_and_copy.Statement.{statement}
 use Rattle.book_lists.proofs.rebuild_list.reuse_and_copy.Tie as tie
@@ -39,14 +37,15 @@ same-length-6 c = search needs
 
 returns : tie.Need-returns
 returns c = λ source.
-    let a = c .before .before .before .before .before .before .before .before .before .before .before .before .before .before .before .before .before .before .before .before .before .before .before .before .before .before .before .before .before .before .before .before .before .before .before .before .before .before .before .before .before .args in
-    let calls = copy (a .key .now) (a .value .now) (a .hash) (a .ttl) ∷ refinish (a .scratch .now) ∷ lookup 1 (a .asked-key .now) (a .asked-hash) (a .now-tick) ∷ [] in
-    let m = c .before .before .before .before .before .before .before .before .before .before .before .before .before .before .before .before .before .before .before .before .before .before .before .before .make-reuse in
+    let k = c .before .before .before .before .before .before .before .before .before .before .before .before in
+    let l = k .before .before .before .before .before .before .before in
+    let n = l .before .before .before .before .before in
+    let a = n .before .before .before .before .before .before .before .before .before .before .before .before .before .before .before .before .before .args in
+    let m = n .make-reuse in
+    let asked = lookup 1 (a .asked-key .now) (a .asked-hash) (a .now-tick) ∷ [] in
+    let calls = copy (a .key .now) (a .value .now) (a .hash) (a .ttl) ∷ refinish (a .scratch .now) ∷ asked in
     let areas = areasOf (m .last .1 .1 .1 .1 .1 .0) (m .last .1 .1 .1 .1 .1 .1 .0) (a .starts .now) (a .lengths .now) in
-    c .before .before .before .before .before .before .before .before .before .before .before .before .copy-and-finish .ensures source
-    ∙ ap (λ (b : SharedSegmentCacheBuilder). answers (worldOf (a .arena .now) (rebuilding b areas) (source ∷ [])) calls) (c .before .before .before .before .before .before .before .before .before .before .before .before .before .before .before .before .before .before .before .rebuild-after .ensures)
-    ∙ ap (λ (w : World). answers w calls) (repushed-on (source ∷ []) (a .arena .now) areas (m .result))
-    ∙ ap (λ (s : Step). answers (s .after) calls) (m .ensures (source ∷ []))
+    k .copy-and-finish .ensures source ∙ repush-goes-on calls (source ∷ []) (a .arena .now) areas (m .result) (l .rebuild-after .ensures) (m .ensures (source ∷ []))
 
 pub reuse-and-copy-spec : {M : Type 1} → statement M
 reuse-and-copy-spec =
