@@ -20,6 +20,7 @@ soak:
 	tests/wrong_answers/run records
 	tests/wrong_answers/run index
 	tests/wrong_answers/run sets
+	tests/wrong_answers/run book
 	tests/wrong_answers/run passage_lines
 
 # Speed beside the Rust, as ratios; what a poor hash costs.
