@@ -11,11 +11,10 @@ use Rattle.index.specs.Segments as cuts
 use Rattle.index.proofs.Contents.{storedIn}
 use Rattle.index.proofs.Filling.{filled-back}
 use Rattle.index.proofs.Kept.{one-start, split-indexed}
-use Rattle.sets.specs.Build.{setOf}
+use Rattle.sets.specs.Build.{setOf, segmentStarts, finishMade}
 use Rattle.sets.specs.Lookup.{areasHoldLookup, viewOf}
 use Rattle.sets.specs.Questions.{scratchHolds}
 use Rattle.sets.specs.declared.builder.SegmentCacheBuilder.{SegmentCacheBuilder}
-use Rattle.sets.proofs.Accepted.{startsMade, finishMade}
 use Rattle.sets.proofs.Asked.{FinishAsked}
 use Rattle.book.specs.Book.{Entry, Book, startsOf}
 use Rattle.book.specs.World.{Areas}
@@ -34,21 +33,21 @@ every-both f (every-cons x r) (every-cons y s) = every-cons (f _ x y) (every-bot
 
 module _ (H : List ℕ → ℕ) where
   pub builder-finish : (b : SegmentCacheBuilder) (a : Areas) (arena scratch : List ℕ) (target : ℕ) (k : Book) → BuilderHolds H b a (length arena) k
-      → FinishAsked b target (a .index) (length (a .starts)) (length (a .lengths)) (length scratch) (length arena) → length (startsMade b target (a .index) (a .starts) (a .lengths) scratch arena) ≤ 256
+      → FinishAsked b target (a .index) (length (a .starts)) (length (a .lengths)) (length scratch) (length arena) → length (segmentStarts b target (a .index)) ≤ 256
       → take (length (k .tape)) arena ≡ k .tape
-      → areasHoldLookup (setOf b (length (startsMade b target (a .index) (a .starts) (a .lengths) scratch arena)))
-      (length (finishMade b target (a .index) (a .starts) (a .lengths) scratch arena .index)) (length (a .filter))
-      (length (finishMade b target (a .index) (a .starts) (a .lengths) scratch arena .starts))
-      (length (finishMade b target (a .index) (a .starts) (a .lengths) scratch arena .lengths)) (length arena) ≡ true
+      → areasHoldLookup (setOf b (length (segmentStarts b target (a .index))))
+      (length (finishMade b target (a .index) (a .starts) (a .lengths) scratch .index)) (length (a .filter))
+      (length (finishMade b target (a .index) (a .starts) (a .lengths) scratch .starts))
+      (length (finishMade b target (a .index) (a .starts) (a .lengths) scratch .lengths)) (length arena) ≡ true
       → SetHolds H (k .expiry) arena (length (k .tape))
       record {
-        cache = setOf b (length (startsMade b target (a .index) (a .starts) (a .lengths) scratch arena));
+        cache = setOf b (length (segmentStarts b target (a .index)));
         areas =
             record {
-              index = finishMade b target (a .index) (a .starts) (a .lengths) scratch arena .index;
+              index = finishMade b target (a .index) (a .starts) (a .lengths) scratch .index;
               filter = a .filter;
-              starts = finishMade b target (a .index) (a .starts) (a .lengths) scratch arena .starts;
-              lengths = finishMade b target (a .index) (a .starts) (a .lengths) scratch arena .lengths;
+              starts = finishMade b target (a .index) (a .starts) (a .lengths) scratch .starts;
+              lengths = finishMade b target (a .index) (a .starts) (a .lengths) scratch .lengths;
             };
       }
       record { list = k .list; starts = startsOf (length (k .tape)) target (k .list); filled = length (k .tape) }

@@ -11,7 +11,7 @@ use Rattle.hash_parts.specs.Hash.{tagOf}
 use Rattle.hash_parts.specs.declared.setting.SegmentExpiry.{SegmentExpiry}
 use Rattle.records.specs.Area.{part}
 use Rattle.records.specs.Record.{recordBytes, storedAt}
-use Rattle.index.specs.Build.{emptySlot, never}
+use Rattle.index.specs.Build.{never, slotFor}
 use Rattle.index.specs.Filter.{displacedMarked}
 use Rattle.index.specs.Word.{wordOf}
 use Rattle.index.specs.declared.build.BuildSlot.the-variants.{Empty}
@@ -41,7 +41,7 @@ rests-on {x} {tape} new l e (rests-copied p w) = rests-copied p (written-on x ta
 module _ (H : List ℕ → ℕ) where
   -- the slot found, the entry's deadline, how many bytes it takes, and how long the arena is then
   pub rebuild-copy : (r : SharedSegmentCacheBuilder) (a : Areas) (arena : ℕ) (k : Book) → RebuildHolds H r a arena k
-      → (key value : List ℕ) (h slot deadline size after : ℕ) → h ≡ H key → h < 2 ^ 64 → emptySlot (a .index) (r .«bucket_count») h ≡ Empty slot
+      → (key value : List ℕ) (h slot deadline size after : ℕ) → h ≡ H key → h < 2 ^ 64 → slotFor never (a .index) (r .«bucket_count») h ≡ Empty slot
       → storedAt (k .expiry) (recordBytes (k .expiry) key value deadline) 0 ≡ some record { key = key; value = value; deadline = deadline }
       → size ≡ length (recordBytes (k .expiry) key value deadline) → r .«copied_bytes» ≤ 1_073_741_824 → retained (r .kept) < 256
       → rebuildPasses (copiedGrown r size (length key) (length value)) (length (set (a .index) slot (wordOf (tagOf h) (copiedLocation r)))) (length (displacedMarked (a .filter) (r .«filter_words») h slot (r .«bucket_count»))) (a .starts) (a .lengths) after ≡ true

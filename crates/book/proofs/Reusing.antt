@@ -14,7 +14,6 @@ use Rattle.index.specs.Build.{emptySlot, never}
 use Rattle.index.specs.Filter.{displacedMarked}
 use Rattle.index.specs.Word.{wordOf}
 use Rattle.index.proofs.Pushes.{pushed}
-use Rattle.sets.specs.Build.{slotIn}
 use Rattle.sets.specs.Kept.{newNumber, retained}
 use Rattle.sets.specs.Rebuild.{keptView, movedLocation, reusedGrown}
 use Rattle.sets.specs.declared.rebuild.SegmentRecordLocation.{SegmentRecordLocation}
@@ -32,12 +31,12 @@ module _ (H : List ℕ → ℕ) where
   pub rebuild-reuse : (r : SharedSegmentCacheBuilder) (a : Areas) (arena : List ℕ) (k : Book) → RebuildHolds H r a (length arena) k → take (length (k .tape)) arena ≡ k .tape
       → (key value : List ℕ) (h : ℕ) (source : SegmentRecordLocation) → h ≡ H key → h < 2 ^ 64 → ReusedAsked r h key value source (a .index) (length (a .filter)) (a .starts) (a .lengths) arena
       → rebuildPasses (reusedGrown r (source .«header_bytes») (length key) (length value))
-      (length (set (a .index) (slotIn (emptySlot (a .index) (r .«bucket_count») h)) (wordOf (tagOf h) (movedLocation r (source .location)))))
-      (length (displacedMarked (a .filter) (r .«filter_words») h (slotIn (emptySlot (a .index) (r .«bucket_count») h)) (r .«bucket_count»))) (a .starts) (a .lengths) (length arena) ≡ true
+      (length (set (a .index) (emptySlot (a .index) (r .«bucket_count») h .value) (wordOf (tagOf h) (movedLocation r (source .location)))))
+      (length (displacedMarked (a .filter) (r .«filter_words») h (emptySlot (a .index) (r .«bucket_count») h .value) (r .«bucket_count»))) (a .starts) (a .lengths) (length arena) ≡ true
       → RebuildHolds H (reusedGrown r (source .«header_bytes») (length key) (length value))
       record {
-        index = set (a .index) (slotIn (emptySlot (a .index) (r .«bucket_count») h)) (wordOf (tagOf h) (movedLocation r (source .location)));
-        filter = displacedMarked (a .filter) (r .«filter_words») h (slotIn (emptySlot (a .index) (r .«bucket_count») h)) (r .«bucket_count»);
+        index = set (a .index) (emptySlot (a .index) (r .«bucket_count») h .value) (wordOf (tagOf h) (movedLocation r (source .location)));
+        filter = displacedMarked (a .filter) (r .«filter_words») h (emptySlot (a .index) (r .«bucket_count») h .value) (r .«bucket_count»);
         starts = a .starts;
         lengths = a .lengths;
       }
@@ -53,7 +52,7 @@ module _ (H : List ℕ → ℕ) where
         kept = ok .kept;
         sourced = ok .sourced;
         index =
-            pushed (a .index) (r .«bucket_count») (a .filter) (r .«filter_words») (ok .index) never h (slotIn (emptySlot (a .index) (r .«bucket_count») h)) bound (asked .place) e
+            pushed (a .index) (r .«bucket_count») (a .filter) (r .«filter_words») (ok .index) never h (emptySlot (a .index) (r .«bucket_count») h .value) bound (asked .place) e
             (movedLocation r (source .location)) hash rests (location-small g o (retained (r .kept)) (shown .number) (omega (arith, asked .areas .numbers .few)) short);
       }
     where

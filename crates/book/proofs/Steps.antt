@@ -61,15 +61,15 @@ module _ (H : List ℕ → ℕ) where
           → ((p : Placed) → r .answer ≡ accept p → builderPasses (p .builder) (length (r .index)) (length (r .filter)) (length (a .starts)) (length (a .lengths)) (length (r .arena)) ≡ true)
           → Holds H (pushLeaves w a r .after) (pick (isAccepted (r .answer)) (joined k key value d) k)
       go (push-refused n) passes = record { memory = m .memory; top = m .top; current = is-building ok; sets = m .sets }
-      go (push-made acc fits) passes =
+      go (push-made acc) passes =
           let bytes : List ℕ = recordBytes (b .config .expiry) key value (encodedExpiry (b .config .expiry) ttl 0 .value) in
           let size : ℕ = recordSize (b .config .expiry) (length key) (length value) in
           let content : bytes ≡ recordBytes x key value d = ap (λ (y : SegmentExpiry). recordBytes y key value (encodedExpiry y ttl 0 .value)) (ok .expiry) in
           let long : size ≡ length bytes = sym (size-is (b .config .expiry) key value (encodedExpiry (b .config .expiry) ttl 0 .value)) in
           let number : encodedExpiry x ttl 0 .number ≡ 0 = ap (λ (y : SegmentExpiry). encodedExpiry y ttl 0 .number) (sym (ok .expiry)) ∙ acc .deadline in
           let small : recordSize x (length key) (length value) ≤ 1_073_741_824 =
-          rw (← ok .expiry) (omega (arith, fits, acc .areas .arena-short)) in
-          appended H w k m (b .filled) bytes key value d (ok .filled) content (omega (arith, fits)) _
+          rw (← ok .expiry) (omega (arith, acc .fits, acc .areas .arena-short)) in
+          appended H w k m (b .filled) bytes key value d (ok .filled) content (omega (arith, acc .fits)) _
           (is-building
           (builder-push H b a (w .arena) k ok key value h _ d size (length (pasted (b .filled) bytes (w .arena))) hash bound (acc .place) (new-back x key value ttl 0 number small) (long ∙ ap length content)
           (omega (arith, acc .areas .filled-held, acc .areas .arena-short)) (passes _ refl)))
