@@ -13,8 +13,6 @@ use Rattle.hash_parts.specs.declared.duration.SegmentRemainingTtl.{SegmentRemai
 use Rattle.hash_parts.specs.declared.duration.SegmentRemainingTtl.the-variants as left
 use Rattle.hash_parts.specs.declared.setting.SegmentExpiry.{SegmentExpiry}
 use Rattle.hash_parts.specs.declared.setting.SegmentExpiry.the-variants.{None, Relative16}
-use Rattle.index.specs.declared.build.BuildSlot.{BuildSlot}
-use Rattle.index.specs.declared.build.BuildSlot.the-variants as slot
 use Rattle.index.specs.declared.find.FindAnswer.{FindAnswer}
 use Rattle.index.specs.declared.find.FindAnswer.the-variants as found
 use Rattle.index.specs.declared.view.SegmentView.{SegmentView}
@@ -49,10 +47,8 @@ unfoldable pub codeOf : ℕ → Outcome → ℕ
 codeOf base o = pick (eqb (o .number) 0) (o .value) (base + o .number)
 
 -- a slot as one number: itself, or 2^63 and 4 for a duplicate, 3 for a full index
-abbrev pub slotCode : BuildSlot → ℕ
-slotCode (slot.Empty i) = i
-slotCode slot.Duplicate = 2 ^ 63 + 4
-slotCode slot.Full = 2 ^ 63 + 3
+abbrev pub slotCode : Outcome → ℕ
+slotCode o = codeOf (2 ^ 63) o
 
 -- lent words with these written over their front where all of them fit; else as they were
 unfoldable pub placed : List ℕ → List ℕ → List ℕ

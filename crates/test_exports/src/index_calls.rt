@@ -9,7 +9,7 @@ ghost use Prim.Native.Nat.{_*_, _%_, _^_};
 ghost use lib.Dec.{leb};
 ghost use Rattle.hash_parts.specs.Duration.{ceilDiv};
 ghost use Rattle.hash_parts.specs.ZeroBytes.{numberOf};
-ghost use Rattle.index.specs.Build.{bucketsFor, buildSlot, cleared, emptySlot, nextBucket};
+ghost use Rattle.index.specs.Build.{bucketsFor, buildSlot, cleared, emptySlot, nextBucket, slotOutcome};
 ghost use Rattle.index.specs.Filter.{displaced, filterHas, filterMarked, filterMask, filterWord};
 ghost use Rattle.index.specs.Find.{findIn};
 ghost use Rattle.index.specs.Packed.{markedByte, packedIndex, packedScratch, referenceIn, unmarkedByte, withByte};
@@ -91,7 +91,7 @@ pub extern "C" fn test_clear_words(words: &mut [u64], count: usize)
 // A slot, or 2^63 and the number of the refusal that a build then gives: 4 for a key that stands in
 // the index, 3 for a full one.
 fn slot_code(slot: BuildSlot) -> u64
-    ensures { λ r. ⌜ r ≡ slotCode slot ⌝ }
+    ensures { λ r. ⌜ r ≡ slotCode (slotOutcome slot) ⌝ }
 {
     match slot {
         BuildSlot::Empty(at) => at as u64,

@@ -6,6 +6,7 @@ use hash_parts::duration::Duration;
 use hash_parts::duration::EncodedExpiry;
 use hash_parts::duration::Lifetime;
 use hash_parts::duration::SegmentRemainingTtl;
+use hash_parts::error::SegmentCacheBuildError;
 use hash_parts::setting::SegmentExpiry;
 use records::record::RecordAnswer;
 use records::record::SizeAnswer;
@@ -241,13 +242,13 @@ pub extern "C" fn test_append_record(
     ensures { λ r. ⌜ (told r (now (out .exit)) ≡ lent (outcomeTold (written (recordBytes (expiryOf on 1 0) (now (key .entry)) (now (value .entry)) «expires_at») (now (rest .entry)) .answer)) (now (out .entry))) × (now (rest .exit) ≡ written (recordBytes (expiryOf on 1 0) (now (key .entry)) (now (value .entry)) «expires_at») (now (rest .entry)) .area) ⌝ }
 {
     let expiry = expiry_of(on, 1, 0);
-    match records::record::append_record(rest, expiry, key, value, expires_at) {
-        WriteAnswer::Written(bytes) => {
-            put_words(out, &[bytes as u64]);
-            0
-        }
-        WriteAnswer::Refused(refusal) => refusal.number() as u64,
+    let bytes = records::record::append_record(rest, expiry, key, value, expires_at);
+    if bytes == 0 {
+        let refusal = SegmentCacheBuildError::AreaTooShort;
+        return refusal.number() as u64;
     }
+    put_words(out, &[bytes as u64]);
+    0
 }
 
 // The words: location, bytes before the key, key's place and length, value's place and length,
