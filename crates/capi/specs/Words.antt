@@ -1,5 +1,5 @@
 -- Settings, states, lifetimes and statistics as words. Assumes nothing.
-use mathlib.Core.Bool.{Bool}
+use mathlib.Core.Bool.{Bool, true}
 use mathlib.Core.List.{List, [], _∷_}
 use Prim.Native.Nat.{ℕ, _-_, _^_, min}
 use lib.Dec.{eqb, leb}
@@ -64,8 +64,11 @@ unfoldable pub settingIn : List ℕ → LoadedSetting
 settingIn w = pick (settingForm w) (setting.Is (settingOf w)) setting.Malformed
 
 -- nanoseconds and an occupancy that no setting can hold, each with its question's number: asked by the call that takes any setting
+abbrev pub tickNanosFit : ℕ → ℕ → Bool
+tickNanosFit flag nanos = pick (eqb flag 1) (leb nanos 0xffff_ffff) true
+
 unfoldable pub askWidths : List ℕ → List (Bool × ℕ)
-askWidths w = (pick (eqb (getD w 0 0) 1) (leb (getD w 2 0) 0xffff_ffff) true, 9) ∷ (leb (getD w 3 0) 255, 1) ∷ []
+askWidths w = (tickNanosFit (getD w 0 0) (getD w 2 0), 9) ∷ (leb (getD w 3 0) 255, 1) ∷ []
 
 -- a setting that is lent by itself
 unfoldable pub settingAlone : List ℕ → LoadedSetting

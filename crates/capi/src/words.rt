@@ -13,7 +13,7 @@ ghost use mathlib.Core.Path.{_≡_};
 ghost use Prim.Native.Nat.{_≤_};
 ghost use lib.ListN.{length};
 ghost use Rattle.sets.specs.Questions.{firstNo};
-ghost use Rattle.capi.specs.Words.{askWidths, builderIn, builderWords, expiryFlag, expiryOf, flagOf, lifetimeIn, nanosCapped, occupancyCapped, rebuildIn, rebuildWords, setIn, setWords, settingAlone, settingIn, statsIn, tickNanos, tickSecs};
+ghost use Rattle.capi.specs.Words.{askWidths, builderIn, builderWords, expiryFlag, expiryOf, flagOf, lifetimeIn, nanosCapped, occupancyCapped, rebuildIn, rebuildWords, setIn, setWords, settingAlone, settingIn, statsIn, tickNanos, tickNanosFit, tickSecs};
 
 pub(crate) const BUILDER_WORDS: usize = 13;
 
@@ -109,15 +109,23 @@ pub(crate) fn width_refusal(words: &[u64]) -> u64
     requires { ⌜ 6 ≤ length (now words) ⌝ }
     ensures { λ r. ⌜ r ≡ firstNo (askWidths (now (words .entry))) ⌝ }
 {
-    if words[0] == 1 {
-        if words[2] > MAX_NANOS {
-            return INVALID_NANOSECONDS;
-        }
+    if !tick_nanos_fit(words[0], words[2]) {
+        return INVALID_NANOSECONDS;
     }
     if words[3] > MAX_OCCUPANCY {
         return INVALID_BUCKET_OCCUPANCY;
     }
     0
+}
+
+// Whether a tick can hold the nanoseconds; without expiry there is no tick.
+fn tick_nanos_fit(flag: u64, nanos: u64) -> bool
+    ensures { λ r. ⌜ r ≡ tickNanosFit flag nanos ⌝ }
+{
+    if flag == 1 {
+        return nanos <= MAX_NANOS;
+    }
+    true
 }
 
 // A setting that is lent by itself.

@@ -50,11 +50,16 @@ unfolding exportedSize
 returns-2 c = rw (eq-eqb _ _ (c .before .before .before .if1 .left), sym (c .before .before .load-setting .ensures) ∙ c .enum-told .given .1)
 
 width-refusal-requires : tie.Need-width-refusal-requires
-width-refusal-requires c κs = ?
+width-refusal-requires c κs =
+    let a = c .before .before .before .before .before .before .before .args in
+    six (a .setting .now) (c .before .config .given .0 .0) (sym (c .before .before .before .load-setting .ensures) ∙ c .before .config .given .1)
 
 returns-3 : tie.Need-returns-3
 unfolding exportedSize
-returns-3 c = ?
+returns-3 c =
+    let length-is = eq-eqb _ _ (c .before .before .before .before .before .before .if1 .left) in
+    let loaded = sym (c .before .before .before .before .before .load-setting .ensures) ∙ c .before .before .before .config .given .1 in
+    rw (length-is, loaded, ← (c .before .width-refusal .ensures)) (refuses (c .before .width-refusal .result) _ _ (c .if2 .taken))
 
 encoded-record-bytes-requires : tie.Need-encoded-record-bytes-requires
 encoded-record-bytes-requires c κs = search needs
@@ -67,7 +72,11 @@ same-length c = search needs
 
 returns-4 : tie.Need-returns-4
 unfolding exportedSize
-returns-4 c = ?
+returns-4 c =
+    let length-is = eq-eqb _ _ (c .before .before .before .before .before .before .before .before .before .before .before .if1 .left) in
+    let loaded = sym (c .before .before .before .before .before .before .before .before .before .before .load-setting .ensures) ∙ c .before .before .before .before .before .before .before .before .config .given .1 in
+    let fit = sym (c .before .before .before .before .before .before .width-refusal .ensures) ∙ c .before .before .before .before .before .if2 .left in
+    rw (length-is, loaded, fit, sym (c .before .before .before .before .encoded-record-bytes .ensures), sym (c .before .before .tell-size .ensures))
 
 pub segment-cache-encoded-record-bytes-spec : {M : Type 1} → statement M
 segment-cache-encoded-record-bytes-spec =

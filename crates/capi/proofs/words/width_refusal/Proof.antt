@@ -1,0 +1,43 @@
+-- `width_refusal` meets its contract. Assumes nothing.
+use mathlib.Core.Path.{sym, _∙_}
+use borrow.Author.Tests.{le-leb, lt-leb, not-true, not-false}
+use Rattle.capi.specs.Words.{askWidths}
+use borrow.Author.Needs.{needs}
+use Rattle.capi.proofs.words.width_refusal.Statement.{statement}
+use Rattle.capi.proofs.words.width_refusal.Tie as tie
+
+shared-slice-read-tick-nanos-fit : tie.Need-shared-slice-read-tick-nanos-fit
+shared-slice-read-tick-nanos-fit c = search needs
+
+shared-slice-read-tick-nanos-fit-2 : tie.Need-shared-slice-read-tick-nanos-fit-2
+shared-slice-read-tick-nanos-fit-2 c = search needs
+
+tick-nanos-fit-requires : tie.Need-tick-nanos-fit-requires
+tick-nanos-fit-requires c κs = search needs
+
+returns : tie.Need-returns
+unfolding askWidths
+returns c = rw (sym (c .before .tick-nanos-fit .ensures) ∙ not-true _ (c .if1 .taken))
+
+shared-slice-read-if2 : tie.Need-shared-slice-read-if2
+shared-slice-read-if2 c = search needs
+
+returns-2 : tie.Need-returns-2
+unfolding askWidths
+returns-2 c = rw (sym (c .before .before .before .tick-nanos-fit .ensures) ∙ not-false _ (c .before .before .if1 .left), lt-leb _ _ (c .if2 .taken))
+
+returns-3 : tie.Need-returns-3
+unfolding askWidths
+returns-3 c = rw (sym (c .before .before .before .tick-nanos-fit .ensures) ∙ not-false _ (c .before .before .if1 .left), le-leb _ _ (c .if2 .left))
+
+pub width-refusal-spec : {M : Type 1} → statement M
+width-refusal-spec =
+    tie.close
+    (tie.spec
+    shared-slice-read-tick-nanos-fit
+    shared-slice-read-tick-nanos-fit-2
+    tick-nanos-fit-requires
+    returns
+    shared-slice-read-if2
+    returns-2
+    returns-3)
