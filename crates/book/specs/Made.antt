@@ -39,8 +39,9 @@ use Rattle.book.specs.World.{Areas, Current, idle, building, rebuilding,
 abbrev pub areasOf : List ℕ → List ℕ → List ℕ → List ℕ → Areas
 areasOf index filter starts lengths = record { index = index; filter = filter; starts = starts; lengths = lengths }
 
-abbrev pub setOf : FrozenSegmentCache → Areas → FinishedSet
-setOf s a = record { cache = s; areas = a }
+-- a set with its areas
+abbrev pub setWith : FrozenSegmentCache → Areas → FinishedSet
+setWith s a = record { cache = s; areas = a }
 
 abbrev pub worldOf : List ℕ → Current → List FinishedSet → World
 worldOf arena current sets = record { arena = arena; current = current; sets = sets }
@@ -70,7 +71,7 @@ pushLeft sets arena a (pushes.Refused e b) = left false (worldOf arena (building
 
 -- a finish that is accepted leaves one set more, refused the builder
 abbrev pub finishLeft : List FinishedSet → List ℕ → Areas → FinishAnswer → Step
-finishLeft sets arena a (finishes.Finished s) = left true (worldOf arena idle (sets ++ (setOf s a ∷ [])))
+finishLeft sets arena a (finishes.Finished s) = left true (worldOf arena idle (sets ++ (setWith s a ∷ [])))
 finishLeft sets arena a (finishes.Refused e b) = left false (worldOf arena (building b a) sets)
 
 -- ---- calls on a finished set
@@ -122,5 +123,5 @@ repushLeft sets arena a (repushes.Refused e r) = left false (worldOf arena (rebu
 
 -- a rebuild finish that is accepted leaves one set more, refused the rebuild
 abbrev pub refinishLeft : List FinishedSet → List ℕ → Areas → RebuildFinishAnswer → Step
-refinishLeft sets arena a (refinishes.Finished s) = left true (worldOf arena idle (sets ++ (setOf (s .cache) a ∷ [])))
+refinishLeft sets arena a (refinishes.Finished s) = left true (worldOf arena idle (sets ++ (setWith (s .cache) a ∷ [])))
 refinishLeft sets arena a (refinishes.Refused e r) = left false (worldOf arena (rebuilding r a) sets)

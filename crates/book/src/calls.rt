@@ -1,8 +1,9 @@
-// Each call of a list, as code. A function makes one call of crates/sets; its contract, for every input,
-// says that the call is this step of the world, whatever else stands in the world: what the call was
-// answered and what its areas then hold is what `step` leaves, and accepted is what `step` accepts.
-// So the definitions that contracts cite and those that the claim on lists is made of are held together
-// by proof. Areas that a call does not take are lent all the same, for the contract to name them.
+// Each call of a list, as code. A function makes one call of crates/sets, and its first clause is that
+// call's contract. The second says, for every input, that the call is this step of the world, whatever
+// else stands in the world: what the call was answered and what its areas then hold is what `step`
+// leaves, and accepted is what `step` accepts. So the definitions that contracts cite and those that the
+// claim on lists is made of are held together by proof. Areas that a call does not take are lent all the
+// same, for the contract to name them.
 use hash_parts::duration::Lifetime;
 use hash_parts::setting::SegmentCacheConfig;
 use sets::builder::FinishAnswer;
@@ -22,9 +23,13 @@ use sets::rebuild::SegmentRecordLocation;
 use sets::rebuild::SharedSegmentCacheBuilder;
 ghost use mathlib.Core.Path.{_≡_};
 ghost use mathlib.Core.List.{List};
+ghost use Rattle.sets.specs.Answers.{probeReply, walkReply, statsReply};
+ghost use Rattle.sets.specs.Build.{openResult, afterOpen, pushResult, afterPush, finishResult, afterFinish};
+ghost use Rattle.sets.specs.Lookup.{getResult, afterGet, afterPeek, takeResult, afterTake, probeAnswer, walkAnswer, statsAnswer};
+ghost use Rattle.sets.specs.Rebuild.{rebuildOpenResult, afterRebuildOpen, reusedResult, afterReused, copiedResult, afterCopied, rebuildFinishResult, afterRebuildFinish};
 ghost use Rattle.book.specs.Calls.{opening, push, finish, lookup, peek, clear, probe, walk, stats, reopen, reuse, copy, refinish};
 ghost use Rattle.book.specs.World.{building, rebuilding, FinishedSet, World, step, answered};
-ghost use Rattle.book.specs.Made.{areasOf, setOf, worldOf, left, Wherever, WhereNewest, openLeft, pushLeft, finishLeft, setLeft, getAccepted, getGives, takeAccepted, probeAccepted, walkAccepted, statsAccepted, reopenLeft, repushLeft, refinishLeft};
+ghost use Rattle.book.specs.Made.{areasOf, setWith, worldOf, left, Wherever, WhereNewest, openLeft, pushLeft, finishLeft, setLeft, getAccepted, getGives, takeAccepted, probeAccepted, walkAccepted, statsAccepted, reopenLeft, repushLeft, refinishLeft};
 
 // Open, in any world.
 pub fn make_open(
@@ -36,6 +41,7 @@ pub fn make_open(
     lengths: &[u64],
     arena: &[u8],
 ) -> OpenAnswer
+    ensures { λ r. ⌜ openResult r (now (index .exit)) (now (filter .exit)) ≡ afterOpen config «entry_count» (now (index .entry)) (now (filter .entry)) (now (starts .entry)) (now (lengths .entry)) (now (arena .entry)) ⌝ }
     ensures { λ r. ⌜ ((w : World) → openLeft w (now (arena .entry)) (areasOf (now (index .exit)) (now (filter .exit)) (now (starts .entry)) (now (lengths .entry))) r ≡ step w (opening config «entry_count» (now (arena .entry)) (now (index .entry)) (now (filter .entry)) (now (starts .entry)) (now (lengths .entry)))) ⌝ }
 {
     SegmentCacheBuilder::try_new(config, entry_count, index, filter, starts, lengths, arena)
@@ -54,6 +60,7 @@ pub fn make_push(
     lengths: &[u64],
     arena: &mut [u8],
 ) -> PushAnswer
+    ensures { λ r. ⌜ pushResult r (now (index .exit)) (now (filter .exit)) (now (arena .exit)) ≡ afterPush builder hash (now (key .entry)) (now (value .entry)) ttl (now (index .entry)) (now (filter .entry)) (now (arena .entry)) ⌝ }
     ensures { λ r. ⌜ ((sets : List FinishedSet) → pushLeft sets (now (arena .exit)) (areasOf (now (index .exit)) (now (filter .exit)) (now (starts .entry)) (now (lengths .entry))) r ≡ step (worldOf (now (arena .entry)) (building builder (areasOf (now (index .entry)) (now (filter .entry)) (now (starts .entry)) (now (lengths .entry)))) sets) (push (now (key .entry)) (now (value .entry)) hash ttl)) ⌝ }
 {
     builder.push(hash, key, value, ttl, index, filter, arena)
@@ -70,6 +77,7 @@ pub fn make_finish(
     scratch: &mut [u64],
     arena: &[u8],
 ) -> FinishAnswer
+    ensures { λ r. ⌜ finishResult r (now (index .exit)) (now (starts .exit)) (now (lengths .exit)) (now (scratch .exit)) ≡ afterFinish builder target (now (index .entry)) (now (starts .entry)) (now (lengths .entry)) (now (scratch .entry)) (now (arena .entry)) ⌝ }
     ensures { λ r. ⌜ ((sets : List FinishedSet) → finishLeft sets (now (arena .entry)) (areasOf (now (index .exit)) (now (filter .entry)) (now (starts .exit)) (now (lengths .exit))) r ≡ step (worldOf (now (arena .entry)) (building builder (areasOf (now (index .entry)) (now (filter .entry)) (now (starts .entry)) (now (lengths .entry)))) sets) (finish target (now (scratch .entry)))) ⌝ }
 {
     builder.finish(target, index, starts, lengths, scratch, arena)
@@ -87,7 +95,8 @@ pub fn make_lookup(
     lengths: &[u64],
     arena: &[u8],
 ) -> GetAnswer
-    ensures { λ r. ⌜ Wherever (setOf cache (areasOf (now (index .entry)) (now (filter .entry)) (now (starts .entry)) (now (lengths .entry)))) (now (arena .entry)) (λ w j. (setLeft w j (setOf cache (areasOf (now (index .exit)) (now (filter .entry)) (now (starts .entry)) (now (lengths .entry)))) (getAccepted r) ≡ step w (lookup j (now (key .entry)) hash «now_tick»)) × (getGives (now (arena .entry)) r ≡ answered w (lookup j (now (key .entry)) hash «now_tick»))) ⌝ }
+    ensures { λ r. ⌜ getResult r (now (index .exit)) ≡ afterGet cache hash (now (key .entry)) «now_tick» (now (index .entry)) (now (filter .entry)) (now (starts .entry)) (now (lengths .entry)) (now (arena .entry)) ⌝ }
+    ensures { λ r. ⌜ Wherever (setWith cache (areasOf (now (index .entry)) (now (filter .entry)) (now (starts .entry)) (now (lengths .entry)))) (now (arena .entry)) (λ w j. (setLeft w j (setWith cache (areasOf (now (index .exit)) (now (filter .entry)) (now (starts .entry)) (now (lengths .entry)))) (getAccepted r) ≡ step w (lookup j (now (key .entry)) hash «now_tick»)) × (getGives (now (arena .entry)) r ≡ answered w (lookup j (now (key .entry)) hash «now_tick»))) ⌝ }
 {
     cache.get_at_tick(hash, key, now_tick, index, filter, starts, lengths, arena)
 }
@@ -104,7 +113,8 @@ pub fn make_peek(
     lengths: &[u64],
     arena: &[u8],
 ) -> GetAnswer
-    ensures { λ r. ⌜ Wherever (setOf cache (areasOf (now (index .entry)) (now (filter .entry)) (now (starts .entry)) (now (lengths .entry)))) (now (arena .entry)) (λ w j. (setLeft w j (setOf cache (areasOf (now (index .entry)) (now (filter .entry)) (now (starts .entry)) (now (lengths .entry)))) (getAccepted r) ≡ step w (peek j (now (key .entry)) hash «now_tick»)) × (getGives (now (arena .entry)) r ≡ answered w (peek j (now (key .entry)) hash «now_tick»))) ⌝ }
+    ensures { λ r. ⌜ getResult r (now (index .exit)) ≡ afterPeek cache hash (now (key .entry)) «now_tick» (now (index .entry)) (now (filter .entry)) (now (starts .entry)) (now (lengths .entry)) (now (arena .entry)) ⌝ }
+    ensures { λ r. ⌜ Wherever (setWith cache (areasOf (now (index .entry)) (now (filter .entry)) (now (starts .entry)) (now (lengths .entry)))) (now (arena .entry)) (λ w j. (setLeft w j (setWith cache (areasOf (now (index .entry)) (now (filter .entry)) (now (starts .entry)) (now (lengths .entry)))) (getAccepted r) ≡ step w (peek j (now (key .entry)) hash «now_tick»)) × (getGives (now (arena .entry)) r ≡ answered w (peek j (now (key .entry)) hash «now_tick»))) ⌝ }
 {
     cache.peek_at_tick(hash, key, now_tick, index, filter, starts, lengths, arena)
 }
@@ -120,7 +130,8 @@ pub fn make_clear(
     lengths: &[u64],
     arena: &[u8],
 ) -> TakeAnswer
-    ensures { λ r. ⌜ Wherever (setOf cache (areasOf (now (index .entry)) (now (filter .entry)) (now (starts .entry)) (now (lengths .entry)))) (now (arena .entry)) (λ w j. setLeft w j (setOf cache (areasOf (now (index .exit)) (now (filter .entry)) (now (starts .entry)) (now (lengths .entry)))) (takeAccepted r) ≡ step w (clear j (now (key .entry)) hash)) ⌝ }
+    ensures { λ r. ⌜ takeResult r (now (index .exit)) ≡ afterTake cache hash (now (key .entry)) (now (index .entry)) (now (filter .entry)) (now (starts .entry)) (now (lengths .entry)) (now (arena .entry)) ⌝ }
+    ensures { λ r. ⌜ Wherever (setWith cache (areasOf (now (index .entry)) (now (filter .entry)) (now (starts .entry)) (now (lengths .entry)))) (now (arena .entry)) (λ w j. setLeft w j (setWith cache (areasOf (now (index .exit)) (now (filter .entry)) (now (starts .entry)) (now (lengths .entry)))) (takeAccepted r) ≡ step w (clear j (now (key .entry)) hash)) ⌝ }
 {
     cache.take_accessed(hash, key, index, filter, starts, lengths, arena)
 }
@@ -137,7 +148,8 @@ pub fn make_probe(
     lengths: &[u64],
     arena: &[u8],
 ) -> ProbeAnswer
-    ensures { λ r. ⌜ Wherever (setOf cache (areasOf (now (index .entry)) (now (filter .entry)) (now (starts .entry)) (now (lengths .entry)))) (now (arena .entry)) (λ w j. left (probeAccepted r) w ≡ step w (probe j (now (key .entry)) hash «now_tick»)) ⌝ }
+    ensures { λ r. ⌜ probeReply r ≡ probeAnswer cache hash (now (key .entry)) «now_tick» (now (index .entry)) (now (filter .entry)) (now (starts .entry)) (now (lengths .entry)) (now (arena .entry)) ⌝ }
+    ensures { λ r. ⌜ Wherever (setWith cache (areasOf (now (index .entry)) (now (filter .entry)) (now (starts .entry)) (now (lengths .entry)))) (now (arena .entry)) (λ w j. left (probeAccepted r) w ≡ step w (probe j (now (key .entry)) hash «now_tick»)) ⌝ }
 {
     cache.probe_hashed_at_tick(hash, key, now_tick, index, filter, starts, lengths, arena)
 }
@@ -153,7 +165,8 @@ pub fn make_walk(
     lengths: &[u64],
     arena: &[u8],
 ) -> WalkAnswer
-    ensures { λ r. ⌜ Wherever (setOf cache (areasOf (now (index .entry)) (now (filter .entry)) (now (starts .entry)) (now (lengths .entry)))) (now (arena .entry)) (λ w j. left (walkAccepted r) w ≡ step w (walk j from «now_tick»)) ⌝ }
+    ensures { λ r. ⌜ walkReply r ≡ walkAnswer cache from «now_tick» (now (index .entry)) (now (starts .entry)) (now (lengths .entry)) (now (arena .entry)) ⌝ }
+    ensures { λ r. ⌜ Wherever (setWith cache (areasOf (now (index .entry)) (now (filter .entry)) (now (starts .entry)) (now (lengths .entry)))) (now (arena .entry)) (λ w j. left (walkAccepted r) w ≡ step w (walk j from «now_tick»)) ⌝ }
 {
     cache.next_physical_entry_at_tick(from, now_tick, index, starts, lengths, arena)
 }
@@ -167,7 +180,8 @@ pub fn make_stats(
     lengths: &[u64],
     arena: &[u8],
 ) -> StatsAnswer
-    ensures { λ r. ⌜ Wherever (setOf cache (areasOf (now (index .entry)) (now (filter .entry)) (now (starts .entry)) (now (lengths .entry)))) (now (arena .entry)) (λ w j. left (statsAccepted r) w ≡ step w (stats j)) ⌝ }
+    ensures { λ r. ⌜ statsReply r ≡ statsAnswer cache ⌝ }
+    ensures { λ r. ⌜ Wherever (setWith cache (areasOf (now (index .entry)) (now (filter .entry)) (now (starts .entry)) (now (lengths .entry)))) (now (arena .entry)) (λ w j. left (statsAccepted r) w ≡ step w (stats j)) ⌝ }
 {
     cache.stats()
 }
@@ -189,7 +203,8 @@ pub fn make_reopen(
     starts: &mut [u64],
     lengths: &mut [u64],
 ) -> RebuildOpenAnswer
-    ensures { λ r. ⌜ WhereNewest (setOf source (areasOf (now («source_index» .entry)) (now («source_filter» .entry)) (now («source_starts» .entry)) (now («source_lengths» .entry)))) (now (arena .entry)) (λ w. reopenLeft w (areasOf (now (index .exit)) (now (filter .exit)) (now (starts .exit)) (now (lengths .exit))) r ≡ step w (reopen «entry_count» «copied_record_capacity» (now («used_source_segments» .entry)) «source_now_tick» (now (index .entry)) (now (filter .entry)) (now (starts .entry)) (now (lengths .entry)))) ⌝ }
+    ensures { λ r. ⌜ rebuildOpenResult r (now (index .exit)) (now (filter .exit)) (now (starts .exit)) (now (lengths .exit)) ≡ afterRebuildOpen source (now («source_starts» .entry)) (now («source_lengths» .entry)) (now (arena .entry)) «entry_count» «copied_record_capacity» (now («used_source_segments» .entry)) «source_now_tick» (now (index .entry)) (now (filter .entry)) (now (starts .entry)) (now (lengths .entry)) ⌝ }
+    ensures { λ r. ⌜ WhereNewest (setWith source (areasOf (now («source_index» .entry)) (now («source_filter» .entry)) (now («source_starts» .entry)) (now («source_lengths» .entry)))) (now (arena .entry)) (λ w. reopenLeft w (areasOf (now (index .exit)) (now (filter .exit)) (now (starts .exit)) (now (lengths .exit))) r ≡ step w (reopen «entry_count» «copied_record_capacity» (now («used_source_segments» .entry)) «source_now_tick» (now (index .entry)) (now (filter .entry)) (now (starts .entry)) (now (lengths .entry)))) ⌝ }
 {
     SharedSegmentCacheBuilder::try_new(
         source,
@@ -220,6 +235,7 @@ pub fn make_reuse(
     lengths: &[u64],
     arena: &[u8],
 ) -> RebuildPushAnswer
+    ensures { λ r. ⌜ reusedResult r (now (index .exit)) (now (filter .exit)) ≡ afterReused builder hash (now (key .entry)) (now (value .entry)) source (now (index .entry)) (now (filter .entry)) (now (starts .entry)) (now (lengths .entry)) (now (arena .entry)) ⌝ }
     ensures { λ r. ⌜ ((sets : List FinishedSet) → repushLeft sets (now (arena .entry)) (areasOf (now (index .exit)) (now (filter .exit)) (now (starts .entry)) (now (lengths .entry))) r ≡ step (worldOf (now (arena .entry)) (rebuilding builder (areasOf (now (index .entry)) (now (filter .entry)) (now (starts .entry)) (now (lengths .entry)))) sets) (reuse (now (key .entry)) (now (value .entry)) hash (source .location) (source .«header_bytes»))) ⌝ }
 {
     builder.push_reused(
@@ -248,6 +264,7 @@ pub fn make_copy(
     lengths: &[u64],
     arena: &mut [u8],
 ) -> RebuildPushAnswer
+    ensures { λ r. ⌜ copiedResult r (now (index .exit)) (now (filter .exit)) (now (arena .exit)) ≡ afterCopied builder hash (now (key .entry)) (now (value .entry)) ttl (now (index .entry)) (now (filter .entry)) (now (starts .entry)) (now (lengths .entry)) (now (arena .entry)) ⌝ }
     ensures { λ r. ⌜ ((sets : List FinishedSet) → repushLeft sets (now (arena .exit)) (areasOf (now (index .exit)) (now (filter .exit)) (now (starts .entry)) (now (lengths .entry))) r ≡ step (worldOf (now (arena .entry)) (rebuilding builder (areasOf (now (index .entry)) (now (filter .entry)) (now (starts .entry)) (now (lengths .entry)))) sets) (copy (now (key .entry)) (now (value .entry)) hash ttl)) ⌝ }
 {
     builder.push_copied(hash, key, value, ttl, index, filter, starts, lengths, arena)
@@ -263,6 +280,7 @@ pub fn make_refinish(
     scratch: &mut [u64],
     arena: &[u8],
 ) -> RebuildFinishAnswer
+    ensures { λ r. ⌜ rebuildFinishResult r (now (index .exit)) (now (starts .exit)) (now (lengths .exit)) (now (scratch .exit)) ≡ afterRebuildFinish builder (now (index .entry)) (now (starts .entry)) (now (lengths .entry)) (now (scratch .entry)) (now (arena .entry)) ⌝ }
     ensures { λ r. ⌜ ((sets : List FinishedSet) → refinishLeft sets (now (arena .entry)) (areasOf (now (index .exit)) (now (filter .entry)) (now (starts .exit)) (now (lengths .exit))) r ≡ step (worldOf (now (arena .entry)) (rebuilding builder (areasOf (now (index .entry)) (now (filter .entry)) (now (starts .entry)) (now (lengths .entry)))) sets) (refinish (now (scratch .entry)))) ⌝ }
 {
     builder.finish(index, starts, lengths, scratch, arena)

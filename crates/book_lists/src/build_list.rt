@@ -21,7 +21,7 @@ ghost use mathlib.Core.List.{[], _∷_};
 ghost use Rattle.sets.specs.Answers.{pushReply};
 ghost use Rattle.book.specs.Calls.{opening, push, finish, lookup};
 ghost use Rattle.book.specs.World.{building, unopened, builderIn, answers};
-ghost use Rattle.book.specs.Made.{areasOf, setOf, worldOf, Wherever};
+ghost use Rattle.book.specs.Made.{areasOf, setWith, worldOf, Wherever};
 ghost use Rattle.book_lists.specs.Gives.{gives};
 
 // What the lookup of a list answers; a value's bytes are what `value_slice` hands out for the span.
@@ -35,7 +35,7 @@ pub enum ListAnswer {
 
 // The list from open on, with any arguments and with areas of any content. A refused push leaves its
 // record out; where open or finish is refused there is no set to ask.
-pub fn build_and_ask(
+pub(crate) fn build_and_ask(
     config: SegmentCacheConfig,
     entry_count: usize,
     hash: u64,
@@ -265,7 +265,7 @@ pub(crate) fn ask(
     lengths: &[u64],
     arena: &[u8],
 ) -> ListAnswer
-    ensures { λ r. ⌜ Wherever (setOf cache (areasOf (now (index .entry)) (now (filter .entry)) (now (starts .entry)) (now (lengths .entry)))) (now (arena .entry)) (λ w j. gives (now (arena .entry)) r ≡ answers w (lookup j (now (key .entry)) hash «now_tick» ∷ [])) ⌝ }
+    ensures { λ r. ⌜ Wherever (setWith cache (areasOf (now (index .entry)) (now (filter .entry)) (now (starts .entry)) (now (lengths .entry)))) (now (arena .entry)) (λ w j. gives (now (arena .entry)) r ≡ answers w (lookup j (now (key .entry)) hash «now_tick» ∷ [])) ⌝ }
 {
     match make_lookup(
         cache,

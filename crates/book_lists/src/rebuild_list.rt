@@ -18,12 +18,12 @@ ghost use mathlib.Core.List.{[], _∷_};
 ghost use Rattle.sets.specs.Answers.{rebuildPushReply};
 ghost use Rattle.book.specs.Calls.{reopen, reuse, copy, refinish, lookup};
 ghost use Rattle.book.specs.World.{idle, rebuilding, FinishedSet, rebuildIn, answers};
-ghost use Rattle.book.specs.Made.{areasOf, setOf, worldOf};
+ghost use Rattle.book.specs.Made.{areasOf, setWith, worldOf};
 ghost use Rattle.book_lists.specs.Gives.{gives};
 
 // The list from rebuild open on; the source is any set, in areas of any content. A refused push leaves
 // its record out; where rebuild open or rebuild finish is refused there is no second set to ask.
-pub fn rebuild_and_ask(
+pub(crate) fn rebuild_and_ask(
     source: FrozenSegmentCache,
     source_index: &[u64],
     source_filter: &[u64],
@@ -51,7 +51,7 @@ pub fn rebuild_and_ask(
     scratch: &mut [u64],
     arena: &mut [u8],
 ) -> ListAnswer
-    ensures { λ r. ⌜ gives (now (arena .exit)) r ≡ answers (worldOf (now (arena .entry)) idle ((setOf source (areasOf (now («source_index» .entry)) (now («source_filter» .entry)) (now («source_starts» .entry)) (now («source_lengths» .entry)))) ∷ [])) (reopen «entry_count» «copied_record_capacity» (now («used_source_segments» .entry)) «source_now_tick» (now (index .entry)) (now (filter .entry)) (now (starts .entry)) (now (lengths .entry)) ∷ reuse (now («reused_key» .entry)) (now («reused_value» .entry)) «reused_hash» («reused_at» .location) («reused_at» .«header_bytes») ∷ copy (now (key .entry)) (now (value .entry)) hash ttl ∷ refinish (now (scratch .entry)) ∷ lookup 1 (now («asked_key» .entry)) «asked_hash» «now_tick» ∷ []) ⌝ }
+    ensures { λ r. ⌜ gives (now (arena .exit)) r ≡ answers (worldOf (now (arena .entry)) idle ((setWith source (areasOf (now («source_index» .entry)) (now («source_filter» .entry)) (now («source_starts» .entry)) (now («source_lengths» .entry)))) ∷ [])) (reopen «entry_count» «copied_record_capacity» (now («used_source_segments» .entry)) «source_now_tick» (now (index .entry)) (now (filter .entry)) (now (starts .entry)) (now (lengths .entry)) ∷ reuse (now («reused_key» .entry)) (now («reused_value» .entry)) «reused_hash» («reused_at» .location) («reused_at» .«header_bytes») ∷ copy (now (key .entry)) (now (value .entry)) hash ttl ∷ refinish (now (scratch .entry)) ∷ lookup 1 (now («asked_key» .entry)) «asked_hash» «now_tick» ∷ []) ⌝ }
 {
     let RebuildOpenAnswer::Opened(builder) = make_reopen(
         source,

@@ -1,5 +1,5 @@
 -- `make_clear` meets its contract. Assumes nothing.
-use Rattle.book.specs.Made.{areasOf, setOf}
+use Rattle.book.specs.Made.{areasOf, setWith}
 use Rattle.book.proofs.Making.{make-clear}
 use borrow.Author.Needs.{needs}
 use Rattle.book.proofs.calls.make_clear.Statement.{statement}
@@ -16,7 +16,7 @@ returns c =
     let a = c .before .before .before .before .before .before .before .before .before .before .args in
     let areas = areasOf (a .index .now) (a .filter .now) (a .starts .now) (a .lengths .now) in
     let m = c .before .before .take-accessed in
-    make-clear (setOf (a .cache) areas) (a .arena .now) (a .hash) (a .key .now) (m .result) (m .last .1 .1 .1 .0) (m .ensures)
+    (m .ensures, make-clear (setWith (a .cache) areas) (a .arena .now) (a .hash) (a .key .now) (m .result) (m .last .1 .1 .1 .0) (m .ensures))
 
 pub make-clear-spec : {M : Type 1} → statement M
 make-clear-spec = tie.close (tie.spec take-accessed-requires same-length returns)

@@ -25,7 +25,8 @@ returns c =
     let a = c .before .before .before .before .before .before .before .before .before .before .before .before .before .before .before .before .before .before .before .args in
     let areas = areasOf (a .index .now) (a .filter .now) (a .starts .now) (a .lengths .now) in
     let m = c .before .before .before .before .before .before .before .before .finish in
-    make-finish (a .builder) areas (a .arena .now) (a .target) (a .scratch .now) (m .result) (m .last .1 .1 .0) (m .last .1 .1 .1 .0) (m .last .1 .1 .1 .1 .0) (m .last .1 .1 .1 .1 .1 .0) (m .ensures)
+    let left = m .last .1 .1 in
+    (m .ensures, make-finish (a .builder) areas (a .arena .now) (a .target) (a .scratch .now) (m .result) (left .0) (left .1 .0) (left .1 .1 .0) (left .1 .1 .1 .0) (m .ensures))
 
 pub make-finish-spec : {M : Type 1} → statement M
 make-finish-spec =

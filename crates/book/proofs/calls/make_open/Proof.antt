@@ -19,7 +19,7 @@ returns c =
     let a = c .before .before .before .before .before .before .before .before .before .before .before .before .args in
     let areas = areasOf (a .index .now) (a .filter .now) (a .starts .now) (a .lengths .now) in
     let m = c .before .before .before .before .try-new in
-    make-open (a .config) (a .entry-count) (a .arena .now) areas (m .result) (m .last .1 .1 .0) (m .last .1 .1 .1 .0) (m .ensures)
+    (m .ensures, make-open (a .config) (a .entry-count) (a .arena .now) areas (m .result) (m .last .1 .1 .0) (m .last .1 .1 .1 .0) (m .ensures))
 
 pub make-open-spec : {M : Type 1} → statement M
 make-open-spec = tie.close (tie.spec try-new-requires same-length same-length-2 returns)

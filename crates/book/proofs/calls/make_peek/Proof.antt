@@ -1,5 +1,5 @@
 -- `make_peek` meets its contract. Assumes nothing.
-use Rattle.book.specs.Made.{areasOf, setOf}
+use Rattle.book.specs.Made.{areasOf, setWith}
 use Rattle.book.proofs.Making.{make-peek}
 use borrow.Author.Needs.{needs}
 use Rattle.book.proofs.calls.make_peek.Statement.{statement}
@@ -13,7 +13,7 @@ returns c =
     let a = c .before .before .before .before .before .before .before .args in
     let areas = areasOf (a .index .now) (a .filter .now) (a .starts .now) (a .lengths .now) in
     let m = c .peek-at-tick in
-    make-peek (setOf (a .cache) areas) (a .arena .now) (a .hash) (a .key .now) (a .now-tick) (m .result) (a .index .now) (m .ensures)
+    (m .ensures, make-peek (setWith (a .cache) areas) (a .arena .now) (a .hash) (a .key .now) (a .now-tick) (m .result) (a .index .now) (m .ensures))
 
 pub make-peek-spec : {M : Type 1} → statement M
 make-peek-spec = tie.close (tie.spec peek-at-tick-requires returns)

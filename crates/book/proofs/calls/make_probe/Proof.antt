@@ -1,5 +1,5 @@
 -- `make_probe` meets its contract. Assumes nothing.
-use Rattle.book.specs.Made.{areasOf, setOf}
+use Rattle.book.specs.Made.{areasOf, setWith}
 use Rattle.book.proofs.Making.{make-probe}
 use borrow.Author.Needs.{needs}
 use Rattle.book.proofs.calls.make_probe.Statement.{statement}
@@ -13,7 +13,7 @@ returns c =
     let a = c .before .before .before .before .before .before .before .args in
     let areas = areasOf (a .index .now) (a .filter .now) (a .starts .now) (a .lengths .now) in
     let m = c .probe-hashed-at-tick in
-    make-probe (setOf (a .cache) areas) (a .arena .now) (a .hash) (a .key .now) (a .now-tick) (m .result) (m .ensures .0)
+    (m .ensures .0, make-probe (setWith (a .cache) areas) (a .arena .now) (a .hash) (a .key .now) (a .now-tick) (m .result) (m .ensures .0))
 
 pub make-probe-spec : {M : Type 1} → statement M
 make-probe-spec = tie.close (tie.spec probe-hashed-at-tick-requires returns)

@@ -22,7 +22,8 @@ returns c =
     let a = c .before .before .before .before .before .before .before .before .before .before .before .before .before .before .before .before .before .args in
     let areas = areasOf (a .index .now) (a .filter .now) (a .starts .now) (a .lengths .now) in
     let m = c .before .before .before .before .before .before .push in
-    make-push (a .builder) areas (a .arena .now) (a .hash) (a .key .now) (a .value .now) (a .ttl) (m .result) (m .last .1 .1 .1 .1 .1 .0) (m .last .1 .1 .1 .1 .1 .1 .0) (m .last .1 .1 .1 .1 .1 .1 .1 .0) (m .ensures)
+    let left = m .last .1 .1 .1 .1 .1 in
+    (m .ensures, make-push (a .builder) areas (a .arena .now) (a .hash) (a .key .now) (a .value .now) (a .ttl) (m .result) (left .0) (left .1 .0) (left .1 .1 .0) (m .ensures))
 
 pub make-push-spec : {M : Type 1} → statement M
 make-push-spec = tie.close (tie.spec push-requires same-length same-length-2 same-length-3 returns)

@@ -25,7 +25,7 @@ returns c =
     let a = c .before .before .before .before .before .before .before .before .before .before .before .before .before .before .before .before .before .before .before .args in
     let areas = areasOf (a .index .now) (a .filter .now) (a .starts .now) (a .lengths .now) in
     let m = c .before .before .before .before .before .before .before .before .finish in
-    make-refinish (a .builder) areas (a .arena .now) (a .scratch .now) (m .result) (m .last .1 .0) (m .last .1 .1 .0) (m .last .1 .1 .1 .0) (m .last .1 .1 .1 .1 .0) (m .ensures)
+    (m .ensures, make-refinish (a .builder) areas (a .arena .now) (a .scratch .now) (m .result) (m .last .1 .0) (m .last .1 .1 .0) (m .last .1 .1 .1 .0) (m .last .1 .1 .1 .1 .0) (m .ensures))
 
 pub make-refinish-spec : {M : Type 1} → statement M
 make-refinish-spec =

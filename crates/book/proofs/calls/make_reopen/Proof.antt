@@ -1,5 +1,5 @@
 -- `make_reopen` meets its contract. Assumes nothing.
-use Rattle.book.specs.Made.{areasOf, setOf}
+use Rattle.book.specs.Made.{areasOf, setWith}
 use Rattle.book.proofs.Making.{make-reopen}
 use borrow.Author.Needs.{needs}
 use Rattle.book.proofs.calls.make_reopen.Statement.{statement}
@@ -22,10 +22,16 @@ same-length-4 c = search needs
 
 returns : tie.Need-returns
 returns c =
-    let a = c .before .before .before .before .before .before .before .before .before .before .before .before .before .before .before .before .before .before .before .before .before .before .before .args in
+    let k = c .before .before .before .before .before .before .before .before in
+    let a = k .before .before .before .before .before .before .before .before .before .before .before .before .before .before .before .args in
     let areas = areasOf (a .index .now) (a .filter .now) (a .starts .now) (a .lengths .now) in
-    let m = c .before .before .before .before .before .before .before .before .try-new in
-    make-reopen (setOf (a .source) (areasOf (a .source-index .now) (a .source-filter .now) (a .source-starts .now) (a .source-lengths .now))) (a .arena .now) (a .entry-count) (a .copied-record-capacity) (a .used-source-segments .now) (a .source-now-tick) areas (m .result) (m .last .1 .1 .1 .1 .1 .1 .1 .1 .0) (m .last .1 .1 .1 .1 .1 .1 .1 .1 .1 .0) (m .last .1 .1 .1 .1 .1 .1 .1 .1 .1 .1 .0) (m .last .1 .1 .1 .1 .1 .1 .1 .1 .1 .1 .1 .0) (m .ensures)
+    let m = k .try-new in
+    let left = m .last .1 .1 .1 .1 .1 .1 .1 .1 in
+    let source = setWith (a .source) (areasOf (a .source-index .now) (a .source-filter .now) (a .source-starts .now) (a .source-lengths .now)) in (
+      m .ensures,
+      make-reopen source (a .arena .now) (a .entry-count) (a .copied-record-capacity) (a .used-source-segments .now) (a .source-now-tick) areas (m .result) (left .0) (left .1 .0)
+          (left .1 .1 .0) (left .1 .1 .1 .0) (m .ensures),
+    )
 
 pub make-reopen-spec : {M : Type 1} → statement M
 make-reopen-spec =

@@ -19,7 +19,7 @@ returns c =
     let a = c .before .before .before .before .before .before .before .before .before .before .before .before .before .before .args in
     let areas = areasOf (a .index .now) (a .filter .now) (a .starts .now) (a .lengths .now) in
     let m = c .before .before .before .before .push-reused in
-    make-reuse (a .builder) areas (a .arena .now) (a .hash) (a .key .now) (a .value .now) (a .source) (m .result) (m .last .1 .1 .1 .1 .1 .0) (m .last .1 .1 .1 .1 .1 .1 .0) (m .ensures)
+    (m .ensures, make-reuse (a .builder) areas (a .arena .now) (a .hash) (a .key .now) (a .value .now) (a .source) (m .result) (m .last .1 .1 .1 .1 .1 .0) (m .last .1 .1 .1 .1 .1 .1 .0) (m .ensures))
 
 pub make-reuse-spec : {M : Type 1} → statement M
 make-reuse-spec = tie.close (tie.spec push-reused-requires same-length same-length-2 returns)

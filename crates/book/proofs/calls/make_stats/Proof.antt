@@ -1,5 +1,5 @@
 -- `make_stats` meets its contract. Assumes nothing.
-use Rattle.book.specs.Made.{areasOf, setOf}
+use Rattle.book.specs.Made.{areasOf, setWith}
 use Rattle.book.proofs.Making.{make-stats}
 use borrow.Author.Needs.{needs}
 use Rattle.book.proofs.calls.make_stats.Statement.{statement}
@@ -13,7 +13,7 @@ returns c =
     let a = c .before .before .before .before .before .before .args in
     let areas = areasOf (a .index .now) (a .filter .now) (a .starts .now) (a .lengths .now) in
     let m = c .stats in
-    make-stats (setOf (a .cache) areas) (a .arena .now) (m .result) (m .ensures)
+    (m .ensures, make-stats (setWith (a .cache) areas) (a .arena .now) (m .result) (m .ensures))
 
 pub make-stats-spec : {M : Type 1} → statement M
 make-stats-spec = tie.close (tie.spec stats-requires returns)

@@ -1,5 +1,5 @@
 -- `make_walk` meets its contract. Assumes nothing.
-use Rattle.book.specs.Made.{areasOf, setOf}
+use Rattle.book.specs.Made.{areasOf, setWith}
 use Rattle.book.proofs.Making.{make-walk}
 use borrow.Author.Needs.{needs}
 use Rattle.book.proofs.calls.make_walk.Statement.{statement}
@@ -13,7 +13,7 @@ returns c =
     let a = c .before .before .before .before .before .before .args in
     let areas = areasOf (a .index .now) (a .filter .now) (a .starts .now) (a .lengths .now) in
     let m = c .next-physical-entry-at-tick in
-    make-walk (setOf (a .cache) areas) (a .arena .now) (a .from) (a .now-tick) (m .result) (m .ensures .0)
+    (m .ensures .0, make-walk (setWith (a .cache) areas) (a .arena .now) (a .from) (a .now-tick) (m .result) (m .ensures .0))
 
 pub make-walk-spec : {M : Type 1} → statement M
 make-walk-spec = tie.close (tie.spec next-physical-entry-at-tick-requires returns)

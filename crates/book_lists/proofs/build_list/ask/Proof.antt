@@ -23,7 +23,7 @@ same-length c = search needs
 returns : tie.Need-returns
 returns c = λ current sets j stands.
     let k = c .before .before .before .before .before in
-    ap (getGives (k .before .before .before .before .before .before .before .before .args .arena .now)) (sym (c .before .span .given .1)) ∙ k .make-lookup .ensures current sets j stands .1
+    ap (getGives (k .before .before .before .before .before .before .before .before .args .arena .now)) (sym (c .before .span .given .1)) ∙ k .make-lookup .ensures .1 current sets j stands .1
 
 same-length-2 : tie.Need-same-length-2
 same-length-2 c = search needs
@@ -31,7 +31,7 @@ same-length-2 c = search needs
 returns-2 : tie.Need-returns-2
 returns-2 c = λ current sets j stands.
     let k = c .before .before .before .before in
-    ap (getGives (k .before .before .before .before .before .before .before .before .args .arena .now)) (sym (c .enum-told .given .1)) ∙ k .make-lookup .ensures current sets j stands .1
+    ap (getGives (k .before .before .before .before .before .before .before .before .args .arena .now)) (sym (c .enum-told .given .1)) ∙ k .make-lookup .ensures .1 current sets j stands .1
 
 same-length-3 : tie.Need-same-length-3
 same-length-3 c = search needs
@@ -39,7 +39,7 @@ same-length-3 c = search needs
 returns-3 : tie.Need-returns-3
 returns-3 c = λ current sets j stands.
     let k = c .before .before .before .before .before in
-    ap (getGives (k .before .before .before .before .before .before .before .before .args .arena .now)) (sym (c .before .refusal .given .1)) ∙ k .make-lookup .ensures current sets j stands .1
+    ap (getGives (k .before .before .before .before .before .before .before .before .args .arena .now)) (sym (c .before .refusal .given .1)) ∙ k .make-lookup .ensures .1 current sets j stands .1
 
 pub ask-spec : {M : Type 1} → statement M
 ask-spec =

@@ -43,7 +43,7 @@ returns c =
     let m = k .make-open in
     let areas = areasOf (m .last .1 .1 .0) (m .last .1 .1 .1 .0) (a .starts .now) (a .lengths .now) in
     let w = unopened (a .arena .now) in
-    goes-on calls (openLeft w (a .arena .now) areas) (c .enum-told .given .1) (m .ensures w)
+    goes-on calls (openLeft w (a .arena .now) areas) (c .enum-told .given .1) (m .ensures .1 w)
 
 push-twice-requires : tie.Need-push-twice-requires
 push-twice-requires c κs = search needs
@@ -78,7 +78,7 @@ returns-2 c =
     let m = n .make-open in
     let areas = areasOf (m .last .1 .1 .0) (m .last .1 .1 .1 .0) (a .starts .now) (a .lengths .now) in
     let w = unopened (a .arena .now) in
-    k .push-twice .ensures ∙ goes-on calls (openLeft w (a .arena .now) areas) (l .builder .given .1) (m .ensures w)
+    k .push-twice .ensures ∙ goes-on calls (openLeft w (a .arena .now) areas) (l .builder .given .1) (m .ensures .1 w)
 
 pub build-and-ask-spec : {M : Type 1} → statement M
 build-and-ask-spec =

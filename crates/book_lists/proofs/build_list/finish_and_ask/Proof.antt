@@ -2,7 +2,7 @@
 use mathlib.Core.Path.{refl, _∙_}
 use mathlib.Core.List.{[], _∷_}
 use Rattle.book.specs.Calls.{lookup}
-use Rattle.book.specs.Made.{areasOf, setOf, finishLeft}
+use Rattle.book.specs.Made.{areasOf, setWith, finishLeft}
 use Rattle.book.specs.World.{idle}
 use Rattle.book_lists.proofs.GoingOn.{goes-on}
 use borrow.Author.Needs.{needs}
@@ -37,7 +37,7 @@ returns c =
     let m = k .make-finish in
     let calls = lookup 0 (a .asked-key .now) (a .asked-hash) (a .now-tick) ∷ [] in
     let areas = areasOf (m .last .1 .1 .0) (a .filter .now) (m .last .1 .1 .1 .1 .0) (m .last .1 .1 .1 .1 .1 .0) in
-    goes-on calls (finishLeft [] (a .arena .now) areas) (c .enum-told .given .1) (m .ensures [])
+    goes-on calls (finishLeft [] (a .arena .now) areas) (c .enum-told .given .1) (m .ensures .1 [])
 
 ask-requires : tie.Need-ask-requires
 ask-requires c κs = search needs
@@ -62,7 +62,7 @@ returns-2 c =
     let m = n .make-finish in
     let calls = lookup 0 (a .asked-key .now) (a .asked-hash) (a .now-tick) ∷ [] in
     let areas = areasOf (m .last .1 .1 .0) (a .filter .now) (m .last .1 .1 .1 .1 .0) (m .last .1 .1 .1 .1 .1 .0) in
-    c .before .before .ask .ensures idle (setOf (k .cache .given .0 .0) areas ∷ []) 0 refl ∙ goes-on calls (finishLeft [] (a .arena .now) areas) (k .cache .given .1) (m .ensures [])
+    c .before .before .ask .ensures idle (setWith (k .cache .given .0 .0) areas ∷ []) 0 refl ∙ goes-on calls (finishLeft [] (a .arena .now) areas) (k .cache .given .1) (m .ensures .1 [])
 
 pub finish-and-ask-spec : {M : Type 1} → statement M
 finish-and-ask-spec =

@@ -2,7 +2,7 @@
 use mathlib.Core.Path.{refl, _∙_}
 use mathlib.Core.List.{[], _∷_}
 use Rattle.book.specs.Calls.{reuse, copy, refinish, lookup}
-use Rattle.book.specs.Made.{areasOf, setOf, worldOf, reopenLeft}
+use Rattle.book.specs.Made.{areasOf, setWith, worldOf, reopenLeft}
 use Rattle.book.specs.World.{idle}
 use Rattle.book_lists.proofs.GoingOn.{goes-on}
 use borrow.Author.Needs.{needs}
@@ -43,9 +43,9 @@ returns c =
     let calls = reused ∷ copy (a .key .now) (a .value .now) (a .hash) (a .ttl) ∷ refinish (a .scratch .now) ∷ asked in
     let lent = m .last .1 .1 .1 .1 .1 .1 .1 .1 .1 .1 in
     let areas = areasOf (lent .0) (lent .1 .0) (lent .1 .1 .0) (lent .1 .1 .1 .0) in
-    let source = setOf (a .source) (areasOf (a .source-index .now) (a .source-filter .now) (a .source-starts .now) (a .source-lengths .now)) in
+    let source = setWith (a .source) (areasOf (a .source-index .now) (a .source-filter .now) (a .source-starts .now) (a .source-lengths .now)) in
     let w = worldOf (a .arena .now) idle (source ∷ []) in
-    goes-on calls (reopenLeft w areas) (c .enum-told .given .1) (m .ensures idle (source ∷ []) refl)
+    goes-on calls (reopenLeft w areas) (c .enum-told .given .1) (m .ensures .1 idle (source ∷ []) refl)
 
 reuse-and-copy-requires : tie.Need-reuse-and-copy-requires
 reuse-and-copy-requires c κs = search needs
@@ -82,9 +82,9 @@ returns-2 c =
     let calls = reused ∷ copy (a .key .now) (a .value .now) (a .hash) (a .ttl) ∷ refinish (a .scratch .now) ∷ asked in
     let lent = m .last .1 .1 .1 .1 .1 .1 .1 .1 .1 .1 in
     let areas = areasOf (lent .0) (lent .1 .0) (lent .1 .1 .0) (lent .1 .1 .1 .0) in
-    let source = setOf (a .source) (areasOf (a .source-index .now) (a .source-filter .now) (a .source-starts .now) (a .source-lengths .now)) in
+    let source = setWith (a .source) (areasOf (a .source-index .now) (a .source-filter .now) (a .source-starts .now) (a .source-lengths .now)) in
     let w = worldOf (a .arena .now) idle (source ∷ []) in
-    k .reuse-and-copy .ensures source ∙ goes-on calls (reopenLeft w areas) (l .builder .given .1) (m .ensures idle (source ∷ []) refl)
+    k .reuse-and-copy .ensures source ∙ goes-on calls (reopenLeft w areas) (l .builder .given .1) (m .ensures .1 idle (source ∷ []) refl)
 
 pub rebuild-and-ask-spec : {M : Type 1} → statement M
 rebuild-and-ask-spec =
