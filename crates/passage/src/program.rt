@@ -45,22 +45,20 @@ struct Response {
     waiting: usize,
 }
 
-// Answers every line of standard input on standard output. The block is longer than a line may be,
-// and out than a line of output; key and value have 4,096 bytes or more. No contract can speak of
-// what is read, so what the areas hold in the end is left open; that of one line is fixed by
-// answer_line.
-pub fn run(
-    block: &mut [u8],
-    key: &mut [u8],
-    value: &mut [u8],
-    out: &mut [u8],
-    index: &mut [u64],
-    filter: &mut [u64],
-    starts: &mut [u64],
-    lengths: &mut [u64],
-    scratch: &mut [u64],
-    arena: &mut [u8],
-) {
+// Answers every line of standard input on standard output, with the areas that document 01 says; of
+// what is read no contract can speak, that of one line is fixed by answer_line. The block is longer
+// than a line may be, and out than a line of output; key and value have room for every line's bytes.
+pub fn run() {
+    let mut block = [0u8; 65536];
+    let mut out = [0u8; 65536];
+    let mut key = [0u8; 4096];
+    let mut value = [0u8; 4096];
+    let mut arena = [0u8; 32768];
+    let mut index = [0u64; 1024];
+    let mut filter = [0u64; 256];
+    let mut scratch = [0u64; 128];
+    let mut starts = [0u64; 256];
+    let mut lengths = [0u64; 256];
     let mut state = State {
         stage: Stage::Fresh,
         input: Input {
@@ -74,16 +72,16 @@ pub fn run(
     while left > 0 {
         let Turn::More(next) = take_turn(
             state,
-            block,
-            key,
-            value,
-            out,
-            index,
-            filter,
-            starts,
-            lengths,
-            scratch,
-            arena,
+            &mut block,
+            &mut key,
+            &mut value,
+            &mut out,
+            &mut index,
+            &mut filter,
+            &mut starts,
+            &mut lengths,
+            &mut scratch,
+            &mut arena,
         ) else {
             return;
         };
@@ -148,30 +146,29 @@ fn take_turn(
             input: rest,
             waiting,
         }),
-        NextLine::More(rest) => {
-            write_waiting(waiting, &out[..]);
-            next_block(
-                stage,
-                rest,
-                block,
-                key,
-                value,
-                out,
-                index,
-                filter,
-                starts,
-                lengths,
-                scratch,
-                arena,
-            )
-        }
+        NextLine::More(rest) => next_block(
+            stage,
+            rest,
+            waiting,
+            block,
+            key,
+            value,
+            out,
+            index,
+            filter,
+            starts,
+            lengths,
+            scratch,
+            arena,
+        ),
     }
 }
 
-// Reads more input; where there is none, answers the last line.
+// Writes what waits and reads more input; where there is none, answers the last line.
 fn next_block(
     stage: Stage,
     input: Input,
+    waiting: usize,
     block: &mut [u8],
     key: &mut [u8],
     value: &mut [u8],
@@ -183,9 +180,10 @@ fn next_block(
     scratch: &mut [u64],
     arena: &mut [u8],
 ) -> Turn
+    requires { ⌜ waiting ≤ length (now out) ⌝ }
     ensures { λ r. ⌜ waitingIn r ≡ 0 ⌝ }
 {
-    match read_more(block, input) {
+    match read_more(block, input, waiting, &out[..]) {
         Refill::Read(next) => Turn::More(State {
             stage,
             input: next,
@@ -248,11 +246,16 @@ fn answer_last(
     write_waiting(response.waiting, &out[..]);
 }
 
-// Moves what is unread to the front of the block and reads after it. Where the input has ended, the
-// bytes of a last line without a line feed stand at the front.
-fn read_more(block: &mut [u8], input: Input) -> Refill
+// Writes what waits, moves what is unread to the front of the block and reads after it. Where the
+// input has ended, the bytes of a last line without a line feed stand at the front. Where a write
+// fails, the input is taken as ended.
+fn read_more(block: &mut [u8], input: Input, waiting: usize, out: &[u8]) -> Refill
+    requires { ⌜ waiting ≤ length (now out) ⌝ }
     ensures { λ r. ⌜ endedWith r ≤ length (now (block .entry)) ⌝ }
 {
+    if !write_waiting(waiting, out) {
+        return Refill::Ended(0);
+    }
     let kept = keep_unread(block, input);
     let end = kept.end;
     let skipping = kept.skipping;
@@ -336,8 +339,8 @@ fn make_room(waiting: usize, out: &[u8]) -> usize
     0
 }
 
-fn write_waiting(waiting: usize, out: &[u8])
+fn write_waiting(waiting: usize, out: &[u8]) -> bool
     requires { ⌜ waiting ≤ length (now out) ⌝ }
 {
-    io::write_all(STDOUT_FILENO, &out[0..waiting]);
+    io::write_all(STDOUT_FILENO, &out[0..waiting])
 }

@@ -21,11 +21,11 @@ answer-last-requires c κs = omega (arith, ap endedWith (c .before .before .befo
 same-length : tie.Need-same-length
 same-length c = search needs
 
-returns : tie.Need-returns
-returns c = search needs
-
 same-length-2 : tie.Need-same-length-2
 same-length-2 c = search needs
+
+returns : tie.Need-returns
+returns c = search needs
 
 same-length-3 : tie.Need-same-length-3
 same-length-3 c = search needs
@@ -54,6 +54,9 @@ same-length-10 c = search needs
 same-length-11 : tie.Need-same-length-11
 same-length-11 c = search needs
 
+same-length-12 : tie.Need-same-length-12
+same-length-12 c = search needs
+
 returns-2 : tie.Need-returns-2
 returns-2 c = search needs
 
@@ -66,8 +69,8 @@ next-block-spec =
     enum-known-count
     answer-last-requires
     same-length
-    returns
     same-length-2
+    returns
     same-length-3
     same-length-4
     same-length-5
@@ -77,4 +80,5 @@ next-block-spec =
     same-length-9
     same-length-10
     same-length-11
+    same-length-12
     returns-2)

@@ -45,9 +45,6 @@ enum-known-rest-2 c = search needs
 enum-known-rest-3 : tie.Need-enum-known-rest-3
 enum-known-rest-3 c = search needs
 
-write-waiting-requires : tie.Need-write-waiting-requires
-write-waiting-requires c κs = search needs
-
 next-block-requires : tie.Need-next-block-requires
 next-block-requires c κs = search needs
 
@@ -146,7 +143,6 @@ take-turn-spec =
     respond-bad-requires
     enum-known-rest-2
     enum-known-rest-3
-    write-waiting-requires
     next-block-requires
     same-length
     same-length-2
