@@ -34,8 +34,6 @@ const SETTING_WORDS: usize = 6;
 
 const MAX_NANOS: u64 = 0xffff_ffff;
 
-const MAX_OCCUPANCY: u64 = 255;
-
 pub(crate) enum LoadedSetting {
     Is(SegmentCacheConfig),
     Malformed,
@@ -244,7 +242,7 @@ fn capped_nanos(nanos: u64) -> u32
 fn capped_occupancy(occupied: u64) -> u8
     ensures { λ r. ⌜ r ≡ occupancyCapped occupied ⌝ }
 {
-    if occupied > MAX_OCCUPANCY {
+    if occupied > 255 {
         return 255;
     }
     occupied as u8
