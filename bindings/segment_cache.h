@@ -137,8 +137,8 @@ uint64_t segment_cache_finish(const uint64_t *builder, size_t builder_len, size_
                               uint64_t *scratch, size_t scratch_len, const uint8_t *arena,
                               size_t arena_len, uint64_t *set, size_t set_len);
 
-/* The arena bytes that a record of these lengths takes, in size[0]. Refusals: 11 (of the words alone),
-   3. */
+/* The arena bytes that a record of these lengths takes, in size[0], with any setting. Refusals: 11 (of the
+   words alone), 9 and 1 (nanoseconds and occupancy beyond 32 and 8 bits), 3. */
 uint64_t segment_cache_encoded_record_bytes(const uint64_t *setting, size_t setting_len,
                                             size_t key_bytes, size_t value_bytes, uint64_t *size,
                                             size_t size_len);

@@ -357,10 +357,16 @@ pub fn stats(set: &[u64], stats: &mut [u64]) -> u64 {
     0
 }
 
-pub fn encoded_record_bytes(setting: &[u64], key: usize, value: usize, size: &mut [u64]) -> u64 {
-    let Some(setting) = Setting::of(setting).filter(|_| size.len() == 1) else {
+pub fn encoded_record_bytes(words: &[u64], key: usize, value: usize, size: &mut [u64]) -> u64 {
+    let Some(setting) = Setting::of(words).filter(|_| size.len() == 1) else {
         return FORM;
     };
+    if setting.on && words[2] > u32::MAX.into() {
+        return 9;
+    }
+    if words[3] > u8::MAX.into() {
+        return 1;
+    }
     let prefixes = prefix(key as u64).len() + prefix(value as u64).len();
     let header = prefixes + if setting.on { 2 } else { 0 };
     match u64::try_from(header as u128 + key as u128 + value as u128) {

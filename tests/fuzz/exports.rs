@@ -139,7 +139,7 @@ pub const EXPORTS: [Export; 21] = [
     export!("area_words", [0, 1, 2, 3, 9, 11], segment_cache_area_words(
         words Setting, number count, words_mut Out,
     )),
-    export!("encoded_record_bytes", [0, 3, 11], segment_cache_encoded_record_bytes(
+    export!("encoded_record_bytes", [0, 1, 3, 9, 11], segment_cache_encoded_record_bytes(
         words Setting, number count, number size, words_mut Out,
     )),
     export!("modeled_retained_bytes", [0, 11], segment_cache_modeled_retained_bytes(
