@@ -85,20 +85,14 @@ same-segments (Forall₂·cons y r) =
     ap₂ (λ (p : List ℕ × ℕ) (l : List (List ℕ × ℕ)). p ∷ l) (ap₂ (λ (starts : List ℕ) (filled : ℕ). (starts, filled)) (y .starts) (y .filled)) (same-segments r)
 
 module _ (arena : List ℕ) (config : SegmentCacheConfig) (calls : List (Call (List ℕ))) (equal : EqualHashes calls) (small : Hashes64 calls) where
-  -- the world and the book at the end of the list
-  abbrev pub lastWorld : World
-  lastWorld = worldAfter (unopened arena) calls
-
-  abbrev pub lastBook : Book
-  lastBook = bookAfter (blank config) (told (unopened arena) calls)
-
-  last-holds : (H : List ℕ → ℕ) → AllHashed H calls → Holds H lastWorld lastBook
+  last-holds : (H : List ℕ → ℕ) → AllHashed H calls → Holds H (worldAfter (unopened arena) calls) (bookAfter (blank config) (told (unopened arena) calls))
   last-holds H hs = at-end H calls (unopened arena) (blank config) (unopened-holds H arena config) hs
 
   -- each set's starts and filled bytes are the book's
-  pub segments-by-the-book : map segmentsOf (lastWorld .sets) ≡ map segmentsIn (lastBook .sets)
+  pub segments-by-the-book : map segmentsOf (worldAfter (unopened arena) calls .sets) ≡ map segmentsIn (bookAfter (blank config) (told (unopened arena) calls) .sets)
   segments-by-the-book = let h = hashed calls equal small in same-segments (last-holds (h .0) (h .1) .sets)
 
   -- and the tape is what the arena begins with
-  pub tape-in-arena : take (length (lastBook .tape)) (lastWorld .arena) ≡ lastBook .tape
+  pub tape-in-arena : take (length (bookAfter (blank config) (told (unopened arena) calls) .tape)) (worldAfter (unopened arena) calls .arena)
+      ≡ bookAfter (blank config) (told (unopened arena) calls) .tape
   tape-in-arena = let h = hashed calls equal small in last-holds (h .0) (h .1) .memory

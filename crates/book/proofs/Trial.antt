@@ -112,7 +112,7 @@ buildAnswers = absent ∷ value (65 ∷ 66 ∷ []) ∷ nothing ∷ value [] ∷ 
 -- ---- rebuilds, in both layouts
 
 -- Two segments. A rebuild that is ended; then one that drops the first segment: flags of the wrong number, a record of the dropped segment, another value,
--- a record reused, its key again as a copy, a copy that lapses, one too many. Then a rebuild that keeps all, reuses two records and copies nothing.
+-- a record reused, its key again as a copy, a copy that lapses, one too many; lookups in the new set and in both segments of the old. Then a rebuild that keeps all, reuses two records, copies nothing.
 abbrev rebuildCalls : Bool → List (Call (List ℕ))
 rebuildCalls packed =
     opens (setting 1 packed) 2
@@ -139,6 +139,7 @@ rebuildCalls packed =
     ∷ lookup 1 (2 ∷ []) (2 ^ 63) 0
     ∷ lookup 1 (9 ∷ []) 7 0
     ∷ lookup 0 (2 ∷ []) (2 ^ 63) 0
+    ∷ lookup 0 (1 ∷ []) 3 9
     ∷ reopens 2 0 (1 ∷ 1 ∷ []) 0
     ∷ reuse (4 ∷ []) (68 ∷ []) 6 (2 ^ 32 + 6) 4
     ∷ reuse (1 ∷ []) (65 ∷ 66 ∷ []) 3 0 4
@@ -150,7 +151,18 @@ rebuildCalls packed =
 
 abbrev rebuildAnswers : List Answer
 rebuildAnswers =
-    value (65 ∷ 66 ∷ []) ∷ nothing ∷ value (68 ∷ []) ∷ nothing ∷ nothing ∷ nothing ∷ value [] ∷ value (68 ∷ []) ∷ nothing ∷ value (65 ∷ 66 ∷ []) ∷ []
+    value (65 ∷ 66 ∷ [])
+    ∷ nothing
+    ∷ value (68 ∷ [])
+    ∷ nothing
+    ∷ nothing
+    ∷ nothing
+    ∷ value []
+    ∷ value (65 ∷ 66 ∷ [])
+    ∷ value (68 ∷ [])
+    ∷ nothing
+    ∷ value (65 ∷ 66 ∷ [])
+    ∷ []
 
 -- ---- the filter, in both layouts
 
@@ -206,7 +218,7 @@ trials : (run (buildCalls false) ≡ buildAnswers)
     × (byBook (rebuildCalls true) ≡ rebuildAnswers)
     × (accepted (rebuildCalls true)
     ≡ true ∷ true ∷ false ∷ true ∷ true ∷ true ∷ true ∷ true ∷ false ∷ false ∷ false ∷ true ∷ true ∷ false ∷ true ∷ false ∷ true
-    ∷ true ∷ true ∷ true ∷ true ∷ true ∷ true ∷ true ∷ true ∷ true ∷ true ∷ true ∷ true ∷ true ∷ true ∷ [])
+    ∷ true ∷ true ∷ true ∷ true ∷ true ∷ true ∷ true ∷ true ∷ true ∷ true ∷ true ∷ true ∷ true ∷ true ∷ true ∷ [])
     × (starts (rebuildCalls false) ≡ (0 ∷ 5 ∷ []) ∷ (5 ∷ 12 ∷ []) ∷ (5 ∷ 12 ∷ []) ∷ [])
     × (bookStarts (rebuildCalls false) ≡ (0 ∷ 5 ∷ []) ∷ (5 ∷ 12 ∷ []) ∷ (5 ∷ 12 ∷ []) ∷ [])
     × (run (displacedCalls false) ≡ displacedAnswers)

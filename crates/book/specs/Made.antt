@@ -36,6 +36,7 @@ use Rattle.book.specs.World.{Areas, Current, idle, building, rebuilding,
 
 -- ---- worlds
 
+-- the areas of a builder, a rebuild or a set, by what each holds
 abbrev pub areasOf : List ℕ → List ℕ → List ℕ → List ℕ → Areas
 areasOf index filter starts lengths = record { index = index; filter = filter; starts = starts; lengths = lengths }
 
@@ -43,9 +44,11 @@ areasOf index filter starts lengths = record { index = index; filter = filter; s
 abbrev pub setWith : FrozenSegmentCache → Areas → FinishedSet
 setWith s a = record { cache = s; areas = a }
 
+-- a world, by what its arena holds, what is open and which sets are finished
 abbrev pub worldOf : List ℕ → Current → List FinishedSet → World
 worldOf arena current sets = record { arena = arena; current = current; sets = sets }
 
+-- the step that leaves this world, accepted or not
 abbrev pub left : Bool → World → Step
 left accepted w = record { after = w; accepted = accepted }
 
@@ -80,6 +83,7 @@ finishLeft sets arena a (finishes.Refused e b) = left false (worldOf arena (buil
 abbrev pub setLeft : World → ℕ → FinishedSet → Bool → Step
 setLeft w j s accepted = left accepted (worldOf (w .arena) (w .current) (set (w .sets) j s))
 
+-- a call is accepted that answers anything but a refusal
 abbrev pub getAccepted : GetAnswer → Bool
 getAccepted (gets.Value span) = true
 getAccepted gets.Nothing = true
