@@ -1,6 +1,10 @@
-// Refusals at the boundaries of each number: 9 and 11, which the program passage cannot reach, and others
+// Refusals at the boundaries of each number: 9, 11 and 12, which the program passage cannot reach, and others
 // beside them. Each line names what was changed in a state that passes, and the number of the answer.
 mod pushes;
+mod rebuild_calls;
+mod rebuild_opens;
+mod rebuild_source;
+mod rebuilds_asked;
 mod sets_asked;
 
 use hash_parts::duration::Duration;
@@ -81,4 +85,7 @@ fn main() {
     opens();
     pushes::run();
     sets_asked::run();
+    rebuild_opens::run();
+    rebuilds_asked::run();
+    rebuild_calls::run();
 }
