@@ -1,6 +1,7 @@
 // Document 01's trials, run: each line says what was asked and what came out.
 mod calls;
 mod example;
+mod orders;
 mod seventeen;
 mod targets;
 
@@ -98,5 +99,6 @@ fn main() {
     lives(0, 0);
     example::run();
     targets::run();
+    orders::run();
     seventeen::run();
 }
