@@ -110,7 +110,7 @@ pub(crate) fn width_refusal(words: &[u64]) -> u64
     if !tick_nanos_fit(words[0], words[2]) {
         return INVALID_NANOSECONDS;
     }
-    if words[3] > MAX_OCCUPANCY {
+    if words[3] > 255 {
         return INVALID_BUCKET_OCCUPANCY;
     }
     0
