@@ -75,7 +75,9 @@ module _ (b : SegmentCacheBuilder) (target : ℕ) (index starts lengths scratch 
 
   pub finish-case : FinishCase (afterFinish b target index starts lengths scratch arena)
   unfolding afterFinish
-  finish-case = rw (finish-last b target index (length starts) (length lengths) (length scratch) (length arena)) (go (firstNo (take 6 questions)) refl (leb (length (segmentStarts b target index)) 256) refl)
+  finish-case =
+      rw (finish-last b target index (length starts) (length lengths) (length scratch) (length arena))
+      (go (firstNo (take 6 questions)) refl (leb (length (segmentStarts b target index)) 256) refl)
     where
       go : (n : ℕ) → firstNo (take 6 questions) ≡ n → (t : Bool) → leb (length (segmentStarts b target index)) 256 ≡ t
           → FinishCase (decided (decided n (pick t 0 7) (λ m. m)) (finishMade b target index starts lengths scratch) (finishRefused b target index starts lengths scratch))

@@ -36,10 +36,13 @@ then-own (suc n) r e =
 
 -- ---- the last question
 
--- questions whose numbers are neither 0 nor another
+-- a number that is neither 0 nor another; questions with such numbers
+abbrev Other : ℕ → ℕ → Type 0
+Other m n = (0 < n) × (n ≡ m → ⊥)
+
 abbrev Apart : ℕ → List (Bool × ℕ) → Type 0
 Apart m [] = Unit {0}
-Apart m (q ∷ l) = ((0 < q .1) × (q .1 ≡ m → ⊥)) × Apart m l
+Apart m (q ∷ l) = Other m (q .1) × Apart m l
 
 module _ (m : ℕ) where
   -- one question more after them
@@ -170,8 +173,12 @@ module _ (b : SegmentCacheBuilder) (target : ℕ) (index : List ℕ) (starts len
   others : Apart 7 (take 6 (askFinish b target index starts lengths scratch arena))
   unfolding askFinish
   others =
-      let apart : (n : ℕ) → n < 7 ⊎ 7 < n → n ≡ 7 → ⊥ = λ n h e. ⊎-elim (λ l. omega (arith, l, e)) (λ l. omega (arith, l, e)) h in
-      ((omega arith, apart 11 (inr (omega arith))), ((omega arith, apart 11 (inr (omega arith))), ((omega arith, apart 3 (inl (omega arith))), ((omega arith, apart 8 (inr (omega arith))), ((omega arith, apart 10 (inr (omega arith))), ((omega arith, apart 11 (inr (omega arith))), tt))))))
+      let not : (n : ℕ) → n < 7 ⊎ 7 < n → n ≡ 7 → ⊥ = λ n h e. ⊎-elim (λ l. omega (arith, l, e)) (λ l. omega (arith, l, e)) h in
+      let three : Other 7 3 = (omega arith, not 3 (inl (omega arith))) in
+      let eight : Other 7 8 = (omega arith, not 8 (inr (omega arith))) in
+      let ten : Other 7 10 = (omega arith, not 10 (inr (omega arith))) in
+      let eleven : Other 7 11 = (omega arith, not 11 (inr (omega arith))) in
+      (eleven, (eleven, (three, (eight, (ten, (eleven, tt))))))
 
   pub finish-last : firstNo (askFinish b target index starts lengths scratch arena)
       ≡ decided (firstNo (take 6 (askFinish b target index starts lengths scratch arena))) (pick (leb (length (segmentStarts b target index)) 256) 0 7) (λ n. n)

@@ -43,7 +43,8 @@ module _ (b : SegmentCacheBuilder) (target : ℕ) (index starts lengths scratch 
   finish-stopped e q =
       let other : errorNumber e ≡ 7 → ⊥ =
       λ (z : errorNumber e ≡ 7). finish-not-seven b target index (length starts) (length lengths) (length scratch) (length arena) (sym q ∙ z) in
-      rw (last, ← q, decided-refused e (pick few 0 7) (λ n. n), decided-refused e (finishMade b target index starts lengths scratch) (finishRefused b target index starts lengths scratch), ne-eqb (errorNumber e) 7 other)
+      let refuses = decided-refused e (finishMade b target index starts lengths scratch) (finishRefused b target index starts lengths scratch) in
+      rw (last, ← q, decided-refused e (pick few 0 7) (λ n. n), refuses, ne-eqb (errorNumber e) 7 other)
 
   -- the split, where all of them are answered yes
   splits : checked ≡ 0 → split index (b .«bucket_count») (b .filled) target starts lengths

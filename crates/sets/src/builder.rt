@@ -2,31 +2,17 @@
 // state goes in and comes back by value; index, filter, segment areas and arena are lent to each call.
 use crate::cache::FrozenSegmentCache;
 use crate::questions::Check;
-use crate::questions::arena_holds;
-use crate::questions::bytes_fit;
 use crate::questions::check_open;
-use crate::questions::counts_fit;
-use crate::questions::deadline_refusal;
 use crate::questions::filter_words_for;
-use crate::questions::lifetime_fits;
-use crate::questions::record_fits;
-use crate::questions::scratch_holds;
-use crate::questions::segment_areas_hold;
-use crate::questions::target_fits;
-use hash_parts::duration::EncodedExpiry;
 use hash_parts::duration::Lifetime;
-use hash_parts::duration::encode_expiry_at_tick;
 use hash_parts::error::SegmentCacheBuildError;
 use hash_parts::hash::hash_tag;
 use hash_parts::setting::SegmentCacheConfig;
-use index::build::BuildSlot;
 use index::build::bucket_count;
 use index::build::clear_words;
-use index::build::find_build_slot;
 use index::filter::mark_displaced;
 use index::packed::finish_packed_index;
 use index::segments::SplitAnswer;
-use index::segments::locations_inside;
 use index::segments::split_record_segments;
 use index::word::BUCKET_SLOTS;
 use index::word::encode_index_word;
@@ -34,13 +20,11 @@ use records::record::SizeAnswer;
 use records::record::append_record;
 ghost use mathlib.Core.Path.{_≡_};
 ghost use Prim.Native.Nat.{_+_, _*_, _<_, _≤_, _^_};
-ghost use lib.ListN.{length, take};
+ghost use lib.ListN.{length};
 ghost use Rattle.index.specs.Packed.{packedIndex, packedScratch};
 ghost use Rattle.records.specs.Record.{encodedSize, sizeOutcome};
 ghost use Rattle.hash_parts.specs.Choice.{pick};
-ghost use Rattle.sets.specs.Questions.{checkNumber, firstNo};
-ghost use Rattle.sets.specs.Build.{afterFinish, afterOpen, afterPush, areasHoldBuilder, askFinish, builderFits, builderGrown, builderOpened, finishResult, openResult, pushEnd, pushMade, pushResult, setOf};
-ghost use Rattle.sets.specs.BuildPlans.{planPush, planRecord, planned};
+ghost use Rattle.sets.specs.Build.{afterFinish, afterOpen, afterPush, builderGrown, builderOpened, finishResult, openResult, pushEnd, pushMade, pushResult, setOf};
 
 pub struct SegmentCacheBuilder {
     pub config: SegmentCacheConfig,
@@ -205,117 +189,6 @@ impl SegmentCacheBuilder {
         }
     }
 
-    // Question 1: the state's own numbers.
-    fn fits(self) -> bool
-        ensures { λ r. ⌜ r ≡ builderFits self ⌝ }
-    {
-        if !counts_fit(
-            self.config,
-            self.expected_entries,
-            self.bucket_count,
-            self.filter_words,
-        ) {
-            return false;
-        }
-        let inserted = self.inserted_entries;
-        if inserted > self.expected_entries {
-            return false;
-        }
-        let keys = self.logical_key_bytes;
-        let values = self.logical_value_bytes;
-        if !bytes_fit(inserted, keys) {
-            return false;
-        }
-        if !bytes_fit(inserted, values) {
-            return false;
-        }
-        if keys + values > self.filled {
-            return false;
-        }
-        bytes_fit(inserted, self.filled - keys - values)
-    }
-
-    // Question 1: the index and the arena.
-    fn areas_hold(self, index_len: usize, arena_len: usize) -> bool
-        ensures { λ r. ⌜ r ≡ areasHoldBuilder self «index_len» «arena_len» ⌝ }
-    {
-        if !self.fits() {
-            return false;
-        }
-        if index_len / BUCKET_SLOTS < self.bucket_count {
-            return false;
-        }
-        arena_holds(self.filled, arena_len)
-    }
-
-    // The questions of a push.
-    fn plan_push(
-        self,
-        hash: u64,
-        key: &[u8],
-        value_bytes: usize,
-        ttl: Lifetime,
-        index: &[u64],
-        filter_len: usize,
-        arena: &[u8],
-    ) -> PushPlan
-        ensures { λ r. ⌜ planned r ≡ planPush self hash (now (key .entry)) «value_bytes» ttl (now (index .entry)) «filter_len» (now (arena .entry)) ⌝ }
-    {
-        if !self.areas_hold(index.len(), arena.len()) {
-            return PushPlan::Refused(SegmentCacheBuildError::InvalidState);
-        }
-        if filter_len < self.filter_words {
-            return PushPlan::Refused(SegmentCacheBuildError::InvalidState);
-        }
-        if !lifetime_fits(ttl) {
-            return PushPlan::Refused(SegmentCacheBuildError::InvalidNanoseconds);
-        }
-        if self.inserted_entries >= self.expected_entries {
-            return PushPlan::Refused(SegmentCacheBuildError::CapacityOverflow);
-        }
-        let filled = self.filled;
-        let config = self.config;
-        let expiry = config.expiry;
-        match find_build_slot(
-            index,
-            self.bucket_count,
-            &arena[..filled],
-            expiry,
-            key,
-            hash,
-        ) {
-            BuildSlot::Duplicate => PushPlan::Refused(SegmentCacheBuildError::DuplicateKey),
-            BuildSlot::Full => PushPlan::Refused(SegmentCacheBuildError::CapacityOverflow),
-            BuildSlot::Empty(slot) => {
-                self.plan_record(slot, key.len(), value_bytes, ttl, arena.len())
-            }
-        }
-    }
-
-    // The last of them: the deadline, and room in the arena.
-    fn plan_record(
-        self,
-        slot: usize,
-        key_bytes: usize,
-        value_bytes: usize,
-        ttl: Lifetime,
-        arena_len: usize,
-    ) -> PushPlan
-        requires { ⌜ self .filled ≤ «arena_len» ⌝ }
-        ensures { λ r. ⌜ planned r ≡ planRecord self slot «key_bytes» «value_bytes» ttl «arena_len» ⌝ }
-    {
-        let config = self.config;
-        let expiry = config.expiry;
-        let deadline = encode_expiry_at_tick(expiry, ttl, 0);
-        let EncodedExpiry::At(expires_at) = deadline else {
-            return PushPlan::Refused(deadline_refusal(deadline));
-        };
-        if !record_fits(expiry, key_bytes, value_bytes, arena_len - self.filled) {
-            return PushPlan::Refused(SegmentCacheBuildError::AreaTooShort);
-        }
-        PushPlan::Place(slot, expires_at)
-    }
-
     // Writes the record, then its word and its filter mark.
     fn push_at(
         self,
@@ -354,39 +227,6 @@ impl SegmentCacheBuilder {
         self.logical_key_bytes += key_bytes;
         self.logical_value_bytes += value_bytes;
         self
-    }
-
-    // The questions of finish but the last, the number of segments.
-    fn check_finish(
-        self,
-        target: usize,
-        index: &[u64],
-        starts_len: usize,
-        lengths_len: usize,
-        scratch_len: usize,
-        arena_len: usize,
-    ) -> Check
-        ensures { λ r. ⌜ checkNumber r ≡ firstNo (take 6 (askFinish self target (now (index .entry)) «starts_len» «lengths_len» «scratch_len» «arena_len»)) ⌝ }
-    {
-        if !self.areas_hold(index.len(), arena_len) {
-            return Check::Refused(SegmentCacheBuildError::InvalidState);
-        }
-        if !segment_areas_hold(starts_len, lengths_len) {
-            return Check::Refused(SegmentCacheBuildError::InvalidState);
-        }
-        if self.inserted_entries != self.expected_entries {
-            return Check::Refused(SegmentCacheBuildError::CapacityOverflow);
-        }
-        if !target_fits(target) {
-            return Check::Refused(SegmentCacheBuildError::InvalidSegmentTarget);
-        }
-        if !scratch_holds(self.config, self.bucket_count, scratch_len) {
-            return Check::Refused(SegmentCacheBuildError::AreaTooShort);
-        }
-        if !locations_inside(index, self.bucket_count, self.filled) {
-            return Check::Refused(SegmentCacheBuildError::InvalidState);
-        }
-        Check::Passed
     }
 
     // The finished set.

@@ -2,6 +2,7 @@
 // its rebuild.
 // The fourth of four crates.
 pub mod areas;
+mod build_questions;
 pub mod builder;
 pub mod cache;
 pub mod kept;

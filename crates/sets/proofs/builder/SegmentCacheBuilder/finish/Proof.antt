@@ -24,7 +24,8 @@ same-length : tie.Need-same-length
 same-length c = search needs
 
 -- all questions but the last are answered yes
-yes : (c : tie.After-enum-told) → checked (from c .args .self) (from c .args .target) (from c .args .index .now) (from c .args .starts .now) (from c .args .lengths .now) (from c .args .scratch .now) (from c .args .arena .now) ≡ 0
+yes : (c : tie.After-enum-told) → let a = from c .args in
+    checked (a .self) (a .target) (a .index .now) (a .starts .now) (a .lengths .now) (a .scratch .now) (a .arena .now) ≡ 0
 yes c = sym (c .before .before .check-finish .ensures) ∙ ap checkNumber (c .enum-told .given .1)
 
 returns : tie.Need-returns

@@ -67,7 +67,9 @@ enum-known-slot c = search needs
 plan-record-requires : tie.Need-plan-record-requires
 plan-record-requires c κs =
     let a = c .before .before .before .before .before .before .before .before .before .before .before .before .before .before .before .before .before .args in
-    let holds = said-yes (c .before .before .before .before .before .before .before .before .before .before .before .before .before .areas-hold .ensures) (c .before .before .before .before .before .before .before .before .before .before .before .before .if1 .left) in
+    let areas-hold = c .before .before .before .before .before .before .before .before .before .before .before .before .before .areas-hold in
+    let if1 = c .before .before .before .before .before .before .before .before .before .before .before .before .if1 in
+    let holds = said-yes (areas-hold .ensures) (if1 .left) in
     builder-areas-asked (a .self) (length (a .index .now)) (length (a .arena .now)) holds .filled-held
 
 returns-5 : tie.Need-returns-5
@@ -80,7 +82,8 @@ returns-5 c =
     let if3 = c .before .before .before .before .before .before .before .if3 in
     let if4 = c .before .before .before .before .before .if4 in
     let find-build-slot = c .before .before .find-build-slot in
-    rw (said-yes (areas-hold .ensures) (if1 .left), le-leb _ _ (if2 .left), said-yes (lifetime-fits .ensures) (if3 .left), lt-ltb _ _ (if4 .left), sym (find-build-slot .ensures) ∙ ap slotOutcome (c .enum-told .given .1))
+    let found = sym (find-build-slot .ensures) ∙ ap slotOutcome (c .enum-told .given .1) in
+    rw (said-yes (areas-hold .ensures) (if1 .left), le-leb _ _ (if2 .left), said-yes (lifetime-fits .ensures) (if3 .left), lt-ltb _ _ (if4 .left), found)
 
 returns-6 : tie.Need-returns-6
 unfolding planPush askPush planRecord askRecord
@@ -92,7 +95,8 @@ returns-6 c =
     let if3 = c .before .before .before .before .before .before .before .if3 in
     let if4 = c .before .before .before .before .before .if4 in
     let find-build-slot = c .before .before .find-build-slot in
-    rw (said-yes (areas-hold .ensures) (if1 .left), le-leb _ _ (if2 .left), said-yes (lifetime-fits .ensures) (if3 .left), lt-ltb _ _ (if4 .left), sym (find-build-slot .ensures) ∙ ap slotOutcome (c .enum-told2 .given .1))
+    let found = sym (find-build-slot .ensures) ∙ ap slotOutcome (c .enum-told2 .given .1) in
+    rw (said-yes (areas-hold .ensures) (if1 .left), le-leb _ _ (if2 .left), said-yes (lifetime-fits .ensures) (if3 .left), lt-ltb _ _ (if4 .left), found)
 
 returns-7 : tie.Need-returns-7
 unfolding planPush askPush planRecord askRecord
@@ -106,7 +110,8 @@ returns-7 c =
     let if4 = c .before .before .before .before .before .before .before .if4 in
     let find-build-slot = c .before .before .before .before .find-build-slot in
     let slot = c .before .before .slot in
-    rw (said-yes (areas-hold .ensures) (if1 .left), le-leb _ _ (if2 .left), said-yes (lifetime-fits .ensures) (if3 .left), lt-ltb _ _ (if4 .left), sym (find-build-slot .ensures) ∙ ap slotOutcome (slot .given .1)) (c .plan-record .ensures)
+    let found = sym (find-build-slot .ensures) ∙ ap slotOutcome (slot .given .1) in
+    rw (said-yes (areas-hold .ensures) (if1 .left), le-leb _ _ (if2 .left), said-yes (lifetime-fits .ensures) (if3 .left), lt-ltb _ _ (if4 .left), found) (c .plan-record .ensures)
 
 pub plan-push-spec : {M : Type 1} → statement M
 plan-push-spec =

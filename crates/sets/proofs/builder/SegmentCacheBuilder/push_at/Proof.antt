@@ -80,9 +80,10 @@ returns : tie.Need-returns
 returns c =
     let w = c .before .before .before .before .before .before .before .before .before in
     let a = from w .args in
-    let word = c .before .before .before .before .before .encode-index-word .ensures ∙ ap (λ (t : ℕ). wordOf t (a .self .filled)) (c .before .before .before .before .before .before .hash-tag .ensures) in
-    push-left (a .slot) (a .expires-at) (a .self) (a .hash) (a .key .now) (a .value .now) (a .index .now) (a .filter .now) (a .arena .now) (w .append-record .result) (c .grown .result) _ _ _
-    (size w) (home w) (c .grown .ensures) word (c .before .before .before .mark-displaced .ensures)
+    let tag = ap (λ (t : ℕ). wordOf t (a .self .filled)) (c .before .before .before .before .before .before .hash-tag .ensures) in
+    let word = c .before .before .before .before .before .encode-index-word .ensures ∙ tag in
+    push-left (a .slot) (a .expires-at) (a .self) (a .hash) (a .key .now) (a .value .now) (a .index .now) (a .filter .now) (a .arena .now)
+    (w .append-record .result) (c .grown .result) _ _ _ (size w) (home w) (c .grown .ensures) word (c .before .before .before .mark-displaced .ensures)
 
 pub push-at-spec : {M : Type 1} → statement M
 push-at-spec =

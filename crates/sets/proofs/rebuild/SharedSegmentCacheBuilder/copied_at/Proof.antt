@@ -83,8 +83,8 @@ returns c =
     let counted = c .before .before .before .before .before .before .before .before .before .retained in
     let word = c .before .before .before .before .before .push-index in
     let placed : counted .result * 2 ^ 32 + a .self .«copied_bytes» ≡ copiedLocation (a .self) = omega (arith, counted .ensures) in
-    copied-left (a .slot) (a .expires-at) (a .self) (a .hash) (a .key .now) (a .value .now) (a .index .now) (a .filter .now) (a .arena .now) (w .append-record .result) (c .copied-grown .result) _ _ _ _
-    (size w) (home w) (c .copied-grown .ensures) placed (word .ensures .0) (word .ensures .1)
+    copied-left (a .slot) (a .expires-at) (a .self) (a .hash) (a .key .now) (a .value .now) (a .index .now) (a .filter .now) (a .arena .now)
+    (w .append-record .result) (c .copied-grown .result) _ _ _ _ (size w) (home w) (c .copied-grown .ensures) placed (word .ensures .0) (word .ensures .1)
 
 pub copied-at-spec : {M : Type 1} → statement M
 copied-at-spec =
