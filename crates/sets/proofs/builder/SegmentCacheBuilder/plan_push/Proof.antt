@@ -42,7 +42,9 @@ returns-4 c =
     let if2 = c .before .before .before .before .if2 in
     let lifetime-fits = c .before .before .before .lifetime-fits in
     let if3 = c .before .before .if3 in
-    rw (said-yes (areas-hold .ensures) (if1 .left), le-leb _ _ (if2 .left), said-yes (lifetime-fits .ensures) (if3 .left), le-ltb _ _ (c .if4 .taken))
+    let self = c .before .before .before .before .before .before .before .before .before .before .before .args .self in
+    let full = le-ltb (self .«inserted_entries») (self .«expected_entries») (c .if4 .taken) in
+    rw (said-yes (areas-hold .ensures) (if1 .left), le-leb _ _ (if2 .left), said-yes (lifetime-fits .ensures) (if3 .left), full)
 
 slice-aggregate-find-build-slot : tie.Need-slice-aggregate-find-build-slot
 slice-aggregate-find-build-slot c =
