@@ -197,8 +197,9 @@ static inline void segment_cache_lifetime(uint64_t *lifetime, uint64_t seconds,
 }
 
 /* What is left of a record that probe or next_entry told, as a lifetime to copy it with; its length is
-   returned. Right only if the record was told at the tick that is given to rebuild_open. A record that
-   has lapsed gets a lifetime of 0, so that its copy is lapsed from that tick on; length 0 is never. */
+   returned. Right only if the record was told at the tick that is given to rebuild_open. A record of
+   which nothing is left (it has lapsed, or more than a duration can hold is left) gets a lifetime of 0,
+   so that its copy is lapsed from that tick on; length 0 is never. */
 static inline size_t segment_cache_lifetime_left(uint64_t *lifetime, const uint64_t *record) {
     int finite = record[SEGMENT_CACHE_RECORD_REMAINING] == SEGMENT_CACHE_REMAINING_FINITE;
     lifetime[0] = finite ? record[SEGMENT_CACHE_RECORD_REMAINING_SECONDS] : 0;

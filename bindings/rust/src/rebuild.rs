@@ -140,7 +140,8 @@ impl<'a> Rebuild<'a> {
 
     /// Appends a record that probe or walk told of a set in this line of rebuilds, with its own deadline:
     /// what is left of its time is worked out for the plan's tick, whenever it was asked for. The copy of a
-    /// record that has lapsed by then is lapsed as well.
+    /// record of which nothing is left then (it has lapsed, or more than a duration can hold is left) is
+    /// lapsed as well.
     ///
     /// ```
     /// use segment_cache::{Arena, Builder, Plan, Rebuild, Refusal, Setting};

@@ -1,4 +1,4 @@
--- The calls that a list is made of, all of document 01's, and what a lookup answers.
+-- The calls that a list is made of, all of document 01's and peek, and what a lookup or a peek answers.
 -- Assumes nothing.
 use mathlib.Core.List.{List, [], _∷_}
 use mathlib.Core.Option.{Option, none, some}

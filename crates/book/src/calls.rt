@@ -148,7 +148,7 @@ pub fn make_probe(
     lengths: &[u64],
     arena: &[u8],
 ) -> ProbeAnswer
-    ensures { λ r. ⌜ probeReply r ≡ probeAnswer cache hash (now (key .entry)) «now_tick» (now (index .entry)) (now (filter .entry)) (now (starts .entry)) (now (lengths .entry)) (now (arena .entry)) ⌝ }
+    ensures { λ r. ⌜ (probeReply r ≡ probeAnswer cache hash (now (key .entry)) «now_tick» (now (index .entry)) (now (filter .entry)) (now (starts .entry)) (now (lengths .entry)) (now (arena .entry))) × (now (index .exit) ≡ now (index .entry)) ⌝ }
     ensures { λ r. ⌜ Wherever (setWith cache (areasOf (now (index .entry)) (now (filter .entry)) (now (starts .entry)) (now (lengths .entry)))) (now (arena .entry)) (λ w j. left (probeAccepted r) w ≡ step w (probe j (now (key .entry)) hash «now_tick»)) ⌝ }
 {
     cache.probe_hashed_at_tick(hash, key, now_tick, index, filter, starts, lengths, arena)
@@ -165,7 +165,7 @@ pub fn make_walk(
     lengths: &[u64],
     arena: &[u8],
 ) -> WalkAnswer
-    ensures { λ r. ⌜ walkReply r ≡ walkAnswer cache from «now_tick» (now (index .entry)) (now (starts .entry)) (now (lengths .entry)) (now (arena .entry)) ⌝ }
+    ensures { λ r. ⌜ (walkReply r ≡ walkAnswer cache from «now_tick» (now (index .entry)) (now (starts .entry)) (now (lengths .entry)) (now (arena .entry))) × (now (index .exit) ≡ now (index .entry)) ⌝ }
     ensures { λ r. ⌜ Wherever (setWith cache (areasOf (now (index .entry)) (now (filter .entry)) (now (starts .entry)) (now (lengths .entry)))) (now (arena .entry)) (λ w j. left (walkAccepted r) w ≡ step w (walk j from «now_tick»)) ⌝ }
 {
     cache.next_physical_entry_at_tick(from, now_tick, index, starts, lengths, arena)

@@ -25,7 +25,7 @@ ghost use Rattle.book.specs.Made.{areasOf, setWith, worldOf, Wherever};
 ghost use Rattle.book_lists.specs.Gives.{gives};
 
 // What the lookup of a list answers; a value's bytes are what `value_slice` hands out for the span.
-pub enum ListAnswer {
+pub(crate) enum ListAnswer {
     Value(Span),
     Nothing,
     Refused(SegmentCacheBuildError),

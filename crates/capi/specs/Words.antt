@@ -63,7 +63,8 @@ settingForm w = all (leb (getD w 0 0) 1 ∷ leb (getD w 4 0) 1 ∷ leb (getD w 5
 unfoldable pub settingIn : List ℕ → LoadedSetting
 settingIn w = pick (settingForm w) (setting.Is (settingOf w)) setting.Malformed
 
--- nanoseconds and an occupancy that no setting can hold, each with its question's number: asked by the call that takes any setting
+-- the size of a record depends on no question of document 01; words that no setting can hold are refused all the same, with the numbers of questions 2
+-- and 3
 abbrev pub tickNanosFit : ℕ → ℕ → Bool
 tickNanosFit flag nanos = pick (eqb flag 1) (leb nanos 0xffff_ffff) true
 

@@ -32,7 +32,7 @@ writeOutcome (write.Refused e) = refused e
 abbrev pub writeResult : WriteAnswer → List ℕ → Written
 writeResult r area = record { answer = writeOutcome r; area = area }
 
--- s is written where it fits; else nothing is
+-- s is written where it fits; else nothing is, and the value is 0
 unfoldable pub written : List ℕ → List ℕ → Written
 written s area =
     pick (leb (length s) (length area))

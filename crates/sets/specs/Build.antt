@@ -94,7 +94,8 @@ deadlineFor c ttl = encodedExpiry (c .expiry) ttl 0
 abbrev pub pushEnd : SegmentCacheBuilder → ℕ → ℕ → ℕ
 pushEnd b key value = b .filled + recordSize (b .config .expiry) key value
 
--- questions 1, 2 and 4; value and filter by their lengths
+-- questions 1, 2 and 4; value and filter by their lengths. The fifth line is two questions, 4 and at the walk's end 3, and the sixth two, 5 and 6: the
+-- number is their outcome's
 unfoldable pub askPush : SegmentCacheBuilder → ℕ → List ℕ → ℕ → Lifetime → List ℕ → ℕ → List ℕ → List (Bool × ℕ)
 askPush b h key value ttl index filter arena =
     (areasHoldBuilder b (length index) (length arena), 11)

@@ -113,6 +113,8 @@ askOpen c records index filter starts lengths arena =
     ∷ (leb arena 1_073_741_824, 10)
     ∷ []
 
+-- ---- for private functions alone
+
 -- the refusal in the answer of a deadline; where that has none, any
 abbrev pub deadlineRefusal : EncodedExpiry → SegmentCacheBuildError
 deadlineRefusal (encoded.Refused e) = e

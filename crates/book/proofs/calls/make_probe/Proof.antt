@@ -13,7 +13,7 @@ returns c =
     let a = c .before .before .before .before .before .before .before .args in
     let areas = areasOf (a .index .now) (a .filter .now) (a .starts .now) (a .lengths .now) in
     let m = c .probe-hashed-at-tick in
-    (m .ensures .0, make-probe (setWith (a .cache) areas) (a .arena .now) (a .hash) (a .key .now) (a .now-tick) (m .result) (m .ensures .0))
+    (m .ensures, make-probe (setWith (a .cache) areas) (a .arena .now) (a .hash) (a .key .now) (a .now-tick) (m .result) (m .ensures .0))
 
 pub make-probe-spec : {M : Type 1} → statement M
 make-probe-spec = tie.close (tie.spec probe-hashed-at-tick-requires returns)

@@ -13,7 +13,7 @@ returns c =
     let a = c .before .before .before .before .before .before .args in
     let areas = areasOf (a .index .now) (a .filter .now) (a .starts .now) (a .lengths .now) in
     let m = c .next-physical-entry-at-tick in
-    (m .ensures .0, make-walk (setWith (a .cache) areas) (a .arena .now) (a .from) (a .now-tick) (m .result) (m .ensures .0))
+    (m .ensures, make-walk (setWith (a .cache) areas) (a .arena .now) (a .from) (a .now-tick) (m .result) (m .ensures .0))
 
 pub make-walk-spec : {M : Type 1} → statement M
 make-walk-spec = tie.close (tie.spec next-physical-entry-at-tick-requires returns)

@@ -1,5 +1,7 @@
 -- `mark_live` meets its contract. Assumes nothing.
-use mathlib.Core.Path.{sym, _∙_}
+use mathlib.Core.Path.{_≡_, sym, _∙_}
+use mathlib.Core.Bool.{true}
+use Rattle.hash_parts.specs.Duration.{livesAt}
 use Rattle.sets.specs.Lookup.{liveMarked}
 use borrow.Author.Needs.{needs}
 use Rattle.sets.proofs.lookup.mark_live.Statement.{statement}
@@ -16,7 +18,11 @@ same-length c = search needs
 
 returns : tie.Need-returns
 unfolding liveMarked
-returns c = rw (sym (c .before .before .before .before .before .lives-at-tick .ensures) ∙ c .before .before .before .before .if1 .taken) (c .before .before .mark-accessed .ensures)
+returns c =
+    let a = c .before .before .before .before .before .before .before .before .args in
+    let lives : livesAt (a .found .entry .«expires_at») (a .now-tick) ≡ true =
+    sym (c .before .before .before .before .before .lives-at-tick .ensures) ∙ c .before .before .before .before .if1 .taken in
+    rw lives (c .before .before .mark-accessed .ensures)
 
 returns-2 : tie.Need-returns-2
 unfolding liveMarked
