@@ -5,7 +5,7 @@ use Rattle.index.proofs.find.ends_at_filter.Statement.{statement}
 use Rattle.index.proofs.find.ends_at_filter.Tie as tie
 
 returns : tie.Need-returns
-returns c = simp (ne-eqb _ _ (c .if1 .taken))
+returns c = simp (ne-eqb (c .before .before .args .probe) 1 (c .if1 .taken))
 
 negative-filter-may-contain-requires : tie.Need-negative-filter-may-contain-requires
 negative-filter-may-contain-requires c κs = search needs
