@@ -1,6 +1,6 @@
 -- Lookups and mark clearings in a finished set: the answer is the book's, and the set stands for the same list after them. Assumes nothing.
 use mathlib.Core.Path.{_≡_, refl, sym, ap, _∙_}
-use mathlib.Core.Bool.{Bool, true, false}
+use mathlib.Core.Bool.{Bool, true, false, cond}
 use mathlib.Core.List.{List, [], _∷_, head?}
 use mathlib.Core.Option.{none, some}
 use Prim.Native.Nat.{ℕ, _+_, _-_, _*_, _/_, _%_, _^_, _≤_, _<_}
@@ -9,7 +9,6 @@ use lib.Dec.{eqb, ltb}
 use lib.ListN.{length, take, length-take}
 use lib.Seq.{take-take}
 use borrow.Author.Tests.{le-leb}
-use Rattle.hash_parts.specs.Choice.{pick}
 use Rattle.hash_parts.specs.Duration.{livesAt}
 use Rattle.hash_parts.specs.declared.setting.SegmentExpiry.{SegmentExpiry}
 use Rattle.records.specs.Area.{part, spanned}
@@ -51,7 +50,7 @@ unfolding liveValue livesAt
 live-ruled arena tick y e same bytes = rw same (go (eqb (e .deadline) 65535) (ltb tick (e .deadline)))
   where
     go : (never before : Bool)
-        → answerOf arena (pick (pick never true before) (accept (some (y .entry .value))) (accept none)) ≡ pick never (value (e .value)) (pick before (value (e .value)) nothing)
+        → answerOf arena (cond (cond never true before) (accept (some (y .entry .value))) (accept none)) ≡ cond never (value (e .value)) (cond before (value (e .value)) nothing)
     go true before = ap value bytes
     go false true = ap value bytes
     go false false = refl
@@ -133,7 +132,7 @@ module _ (H : List ℕ → ℕ) (x : SegmentExpiry) (arena : List ℕ) (top : �
         reindexed _ (get-passes (s .cache) h key (s .areas .index) (s .areas .filter) (s .areas .starts) (s .areas .lengths) arena tick ∙ ok .passes)
         (rw (get-asks (s .cache) h key (s .areas .index) (s .areas .filter) (s .areas .starts) (s .areas .lengths) arena (ok .passes) tick) (go (foundIn arena s key h) refl))
       where
-        live : (y : FoundRecord) → foundIn arena s key h ≡ find.Found y → (b : Bool) → Same (pick b (slotMarked (s .cache .config .«packed_bucket_index») (s .areas .index) (y .slot)) (s .areas .index))
+        live : (y : FoundRecord) → foundIn arena s key h ≡ find.Found y → (b : Bool) → Same (cond b (slotMarked (s .cache .config .«packed_bucket_index») (s .areas .index) (y .slot)) (s .areas .index))
         live y f true =
             slot-marked (viewOf (s .cache)) (s .areas .index) (s .cache .buckets) (s .areas .filter) (s .cache .«filter_words») (s .areas .starts) (s .areas .lengths) arena key h y bound
             (s .cache .config .«packed_bucket_index») f (ok .index)

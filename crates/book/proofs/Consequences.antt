@@ -1,13 +1,12 @@
 -- What else holds of every list of calls: no lookup in a finished set is refused, and segments and tape are the book's. Assumes nothing.
 use mathlib.Core.Path.{_≡_, refl, ap₂}
-use mathlib.Core.Bool.{Bool, true, false}
+use mathlib.Core.Bool.{Bool, true, false, cond}
 use mathlib.Core.List.{List, [], _∷_, _++_, map, Forall₂, Forall₂·nil, Forall₂·cons}
 use mathlib.Core.Option.{Option, none, some}
 use Prim.Native.Nat.{ℕ}
 use native.Mathlib.Omega.{arith}
 use lib.Dec.{eqb, ltb}
 use lib.ListN.{length, take, getElem?}
-use Rattle.hash_parts.specs.Choice.{pick}
 use Rattle.hash_parts.specs.declared.setting.SegmentCacheConfig.{SegmentCacheConfig}
 use Rattle.hash_parts.specs.declared.setting.SegmentExpiry.{SegmentExpiry}
 use Rattle.book.specs.Book.{Entry, ListedSet, Book, blank, heard, bookAfter, firstOf, ruled, replyFrom, replied, replies}
@@ -27,7 +26,7 @@ never-ruled : (tick : ℕ) (o : Option Entry) → ruled tick o ≡ refused → �
 never-ruled tick none e = let z : _≡_ {A = ℕ} 0 1 = cc in omega arith
 never-ruled tick (some d) e = go (eqb (d .deadline) 65535) (ltb tick (d .deadline)) e
   where
-    go : (never before : Bool) → pick never (value (d .value)) (pick before (value (d .value)) nothing) ≡ refused → ⊥
+    go : (never before : Bool) → cond never (value (d .value)) (cond before (value (d .value)) nothing) ≡ refused → ⊥
     go true before f = let z : _≡_ {A = ℕ} 0 1 = cc in omega arith
     go false true f = let z : _≡_ {A = ℕ} 0 1 = cc in omega arith
     go false false f = let z : _≡_ {A = ℕ} 0 1 = cc in omega arith

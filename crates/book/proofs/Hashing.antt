@@ -1,10 +1,9 @@
 -- Where equal keys carry equal hashes, one function gives each key's hash. Assumes nothing.
 use mathlib.Core.Path.{_≡_, refl, sym, ap, _∙_}
-use mathlib.Core.Bool.{Bool, true, false}
+use mathlib.Core.Bool.{Bool, true, false, cond}
 use mathlib.Core.List.{List, [], _∷_, List·Memᴰ, List·Memᴰ·head, List·Memᴰ·tail, List·Memᴰ·cases-cons, List·Memᴰ·not-nil}
 use mathlib.Core.Logic.{_⊎_, inl, inr}
 use Prim.Native.Nat.{ℕ, _^_, _<_}
-use Rattle.hash_parts.specs.Choice.{pick}
 use Rattle.index.proofs.Table.{true≢false}
 use Rattle.book.specs.Book.{sameKey}
 use Rattle.book.specs.Calls.{Call, opening, push, finish, lookup, peek, clear, probe, walk, stats, reopen, reuse, copy, refinish}
@@ -15,7 +14,7 @@ use Rattle.book.proofs.Steps.{Hashed}
 -- the hash of the first of the pairs that has the key; 0 where none has
 hashIn : List (List ℕ × ℕ) → List ℕ → ℕ
 hashIn [] key = 0
-hashIn (p ∷ l) key = pick (sameKey key (p .0)) (p .1) (hashIn l key)
+hashIn (p ∷ l) key = cond (sameKey key (p .0)) (p .1) (hashIn l key)
 
 hash-or : (l : List (List ℕ × ℕ)) (key : List ℕ) → List·Memᴰ (key, hashIn l key) l ⊎ (((h : ℕ) → ¬ List·Memᴰ (key, h) l) × (hashIn l key ≡ 0))
 unfolding hashIn
@@ -23,7 +22,7 @@ hash-or [] key = inr (λ h. List·Memᴰ·not-nil, refl)
 hash-or (p ∷ l) key = go (sameKey key (p .0)) refl (hash-or l key)
   where
     go : (b : Bool) → sameKey key (p .0) ≡ b → List·Memᴰ (key, hashIn l key) l ⊎ (((h : ℕ) → ¬ List·Memᴰ (key, h) l) × (hashIn l key ≡ 0))
-        → List·Memᴰ (key, pick b (p .1) (hashIn l key)) (p ∷ l) ⊎ (((h : ℕ) → ¬ List·Memᴰ (key, h) (p ∷ l)) × (pick b (p .1) (hashIn l key) ≡ 0))
+        → List·Memᴰ (key, cond b (p .1) (hashIn l key)) (p ∷ l) ⊎ (((h : ℕ) → ¬ List·Memᴰ (key, h) (p ∷ l)) × (cond b (p .1) (hashIn l key) ≡ 0))
     go true e r = inl (List·Memᴰ·head (λ i. (key-true key (p .0) e i, p .1)))
     go false e (inl y) = inl (List·Memᴰ·tail y)
     go false e (inr y) = inr (λ h z. other h (List·Memᴰ·cases-cons z), y .1)

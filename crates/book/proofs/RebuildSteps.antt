@@ -1,13 +1,12 @@
 -- The four calls of a rebuild keep the relation of world and book. Assumes nothing.
 use mathlib.Core.Path.{_≡_, refl, sym, ap, _∙_}
-use mathlib.Core.Bool.{true}
+use mathlib.Core.Bool.{true, cond}
 use mathlib.Core.List.{List}
 use mathlib.Core.Option.{Option}
 use Prim.Native.Nat.{ℕ, _+_, _^_, _≤_, _<_}
 use native.Mathlib.Omega.{arith}
 use lib.ListN.{length, take}
 use lib.Seq.{take-take, length-take-le}
-use Rattle.hash_parts.specs.Choice.{pick}
 use Rattle.hash_parts.specs.Duration.{encodedExpiry}
 use Rattle.hash_parts.specs.declared.duration.Lifetime.{Lifetime}
 use Rattle.hash_parts.specs.declared.setting.SegmentExpiry.{SegmentExpiry}
@@ -57,7 +56,7 @@ module _ (H : List ℕ → ℕ) where
       where
         go : {o : RebuildOpened} → ReopenCase (s .cache) (s .areas .starts) (s .areas .lengths) (w .arena) records copied flags tick index filter starts lengths o
             → ((r : SharedSegmentCacheBuilder) → o .answer ≡ accept r → rebuildPasses r (length (o .index)) (length (o .filter)) (o .starts) (o .lengths) (length (w .arena)) ≡ true)
-            → Holds H (reopenLeaves w o .after) (pick (isAccepted (o .answer)) (reopened k flags tick) k)
+            → Holds H (reopenLeaves w o .after) (cond (isAccepted (o .answer)) (reopened k flags tick) k)
         go (reopen-refused n) passes = record { memory = m .memory; top = m .top; current = m .current; sets = m .sets }
         go (reopen-made asked) passes =
             record {
@@ -84,7 +83,7 @@ module _ (H : List ℕ → ℕ) where
     where
       go : {p : Reused} → ReusedCase r h key value source (a .index) (a .filter) (a .starts) (a .lengths) (w .arena) p
           → ((q : RebuildPlaced) → p .answer ≡ accept q → rebuildPasses (q .builder) (length (p .index)) (length (p .filter)) (a .starts) (a .lengths) (length (w .arena)) ≡ true)
-          → Holds H (reuseLeaves w a p .after) (pick (isAccepted (p .answer)) (rejoined k key value (placeOf (startsIn (newest (k .sets))) (source .location))) k)
+          → Holds H (reuseLeaves w a p .after) (cond (isAccepted (p .answer)) (rejoined k key value (placeOf (startsIn (newest (k .sets))) (source .location))) k)
       go (reused-refused n) passes = record { memory = m .memory; top = m .top; current = is-rebuilding ok; sets = m .sets }
       go (reused-made asked) passes =
           record {
@@ -130,7 +129,7 @@ module _ (H : List ℕ → ℕ) where
 
       go : {p : Copied} → CopiedCase r h key value ttl (a .index) (a .filter) (a .starts) (a .lengths) (w .arena) p
           → ((q : RebuildPlaced) → p .answer ≡ accept q → rebuildPasses (q .builder) (length (p .index)) (length (p .filter)) (a .starts) (a .lengths) (length (p .arena)) ≡ true)
-          → Holds H (copyLeaves w a p .after) (pick (isAccepted (p .answer)) (joined k key value d) k)
+          → Holds H (copyLeaves w a p .after) (cond (isAccepted (p .answer)) (joined k key value d) k)
       go (copied-refused n) passes = record { memory = m .memory; top = m .top; current = is-rebuilding ok; sets = m .sets }
       go (copied-made asked) passes =
           let number : encodedExpiry x ttl (k .tick) .number ≡ 0 = rw (← ok .expiry, ← ok .tick) (asked .deadline) in
@@ -153,6 +152,6 @@ module _ (H : List ℕ → ℕ) where
     where
       go : {f : RebuildFinished} → RefinishCase r (a .index) (a .starts) (a .lengths) scratch (w .arena) f
           → ((b : SharedSegmentCacheBuild) → f .answer ≡ accept b → areasHoldLookup (b .cache) (length (f .index)) (length (a .filter)) (length (f .starts)) (length (f .lengths)) (length (w .arena)) ≡ true)
-          → Holds H (refinishLeaves w a f .after) (pick (isAccepted (f .answer)) (closed k (rebuiltStarts (k .kept) (filledIn (newest (k .sets))) (length (k .tape)))) k)
+          → Holds H (refinishLeaves w a f .after) (cond (isAccepted (f .answer)) (closed k (rebuiltStarts (k .kept) (filledIn (newest (k .sets))) (length (k .tape)))) k)
       go (refinish-refused n) passes = record { memory = m .memory; top = m .top; current = is-rebuilding ok; sets = m .sets }
       go (refinish-made asked) passes = joins H w k m _ _ (rebuild-finish H r a (w .arena) scratch k ok (m .memory) asked (passes _ refl))

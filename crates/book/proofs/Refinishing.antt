@@ -1,7 +1,7 @@
 -- An accepted rebuild finish makes of what the open rebuild stands for what the rebuilt set stands for: every entry is read in its segment, the copied ones
 -- in the last. Assumes nothing.
 use mathlib.Core.Path.{_≡_, refl, sym, ap, ap₂, _∙_}
-use mathlib.Core.Bool.{Bool, true, false}
+use mathlib.Core.Bool.{Bool, true, false, cond}
 use mathlib.Core.List.{List, [], _∷_, _++_}
 use mathlib.Core.Logic.{_≢_}
 use mathlib.Core.Option.{some}
@@ -11,7 +11,6 @@ use lib.Dec.{eqb, ltb}
 use lib.ListN.{length, take, set, getD, length-set}
 use lib.Seq.{getD-set-same, getD-set-other, length-take-le, take-suc-set}
 use borrow.Author.Tests.{eq-eqb, eqb-true, eqb-false, ne-eqb, lt-ltb, le-ltb}
-use Rattle.hash_parts.specs.Choice.{pick}
 use Rattle.records.specs.Area.{part}
 use Rattle.records.specs.Record.{storedAt}
 use Rattle.index.specs.View.{isSegment}
@@ -37,35 +36,35 @@ use Rattle.book.proofs.Standing.{bytesOf, written-end, some-bytes, part
 -- ---- the starts
 
 -- the book's starts: a last segment just where the rebuild adds one
-rebuilt-is : (kept : List ℕ) (n base copied : ℕ) → length kept ≡ n → rebuiltStarts kept base (base + copied) ≡ pick (pick (eqb copied 0) (eqb n 0) true) (kept ++ (base ∷ [])) kept
+rebuilt-is : (kept : List ℕ) (n base copied : ℕ) → length kept ≡ n → rebuiltStarts kept base (base + copied) ≡ cond (cond (eqb copied 0) (eqb n 0) true) (kept ++ (base ∷ [])) kept
 rebuilt-is [] n base copied e = rw (eq-eqb n 0 (sym e)) (go (eqb copied 0))
   where
-    go : (t : Bool) → base ∷ [] ≡ pick (pick t true true) (base ∷ []) []
+    go : (t : Bool) → base ∷ [] ≡ cond (cond t true true) (base ∷ []) []
     go true = refl
     go false = refl
 rebuilt-is (s ∷ kept) n base copied e = rw (ne-eqb n 0 (λ (z : n ≡ 0). omega (arith, e))) (go (eqb copied 0) refl)
   where
     go : (t : Bool) → eqb copied 0 ≡ t
-        → pick (ltb base (base + copied)) ((s ∷ kept) ++ (base ∷ [])) (s ∷ kept) ≡ pick (pick t false true) ((s ∷ kept) ++ (base ∷ [])) (s ∷ kept)
+        → cond (ltb base (base + copied)) ((s ∷ kept) ++ (base ∷ [])) (s ∷ kept) ≡ cond (cond t false true) ((s ∷ kept) ++ (base ∷ [])) (s ∷ kept)
     go true f = rw (le-ltb base (base + copied) (omega (arith, eqb-true copied 0 f)))
     go false f =
         let some-copied : copied ≡ 0 → ⊥ = eqb-false copied 0 f in
         rw (lt-ltb base (base + copied) (omega (arith, some-copied)))
 
 -- there is room for it
-adds-few : (n copied : ℕ) (t : Bool) → n + segmentFor copied ≤ 256 → pick (eqb copied 0) (eqb n 0) true ≡ t → n + pick t 1 0 ≤ 256
+adds-few : (n copied : ℕ) (t : Bool) → n + segmentFor copied ≤ 256 → cond (eqb copied 0) (eqb n 0) true ≡ t → n + cond t 1 0 ≤ 256
 adds-few n copied t h q = go (eqb copied 0) t h q
   where
-    go : (c u : Bool) → n + pick c 0 1 ≤ 256 → pick c (eqb n 0) true ≡ u → n + pick u 1 0 ≤ 256
+    go : (c u : Bool) → n + cond c 0 1 ≤ 256 → cond c (eqb n 0) true ≡ u → n + cond u 1 0 ≤ 256
     go true true h q = omega (arith, eqb-true n 0 q)
     go true false h q = omega (arith, h)
     go false true h q = h
     go false false h q = absurd (true≢false q)
 
-adds-none : (n copied : ℕ) → pick (eqb copied 0) (eqb n 0) true ≡ false → copied ≡ 0
+adds-none : (n copied : ℕ) → cond (eqb copied 0) (eqb n 0) true ≡ false → copied ≡ 0
 adds-none n copied q = go (eqb copied 0) refl q
   where
-    go : (c : Bool) → eqb copied 0 ≡ c → pick c (eqb n 0) true ≡ false → copied ≡ 0
+    go : (c : Bool) → eqb copied 0 ≡ c → cond c (eqb n 0) true ≡ false → copied ≡ 0
     go true e q = eqb-true copied 0 e
     go false e q = absurd (true≢false q)
 
@@ -155,10 +154,10 @@ module _ (H : List ℕ → ℕ) where
       view = viewOf (rebuiltSet r (a .lengths))
 
       S : Bool → List ℕ
-      S t = pick t (set (a .starts) n base) (a .starts)
+      S t = cond t (set (a .starts) n base) (a .starts)
 
       L : Bool → List ℕ
-      L t = pick t (set (a .lengths) n copied) (a .lengths)
+      L t = cond t (set (a .lengths) n copied) (a .lengths)
 
       bytes : take (base + copied) arena ≡ k .tape
       bytes = ap (λ (i : ℕ). take i arena) (ok .filled) ∙ memory
@@ -167,7 +166,7 @@ module _ (H : List ℕ → ℕ) where
       small = omega (arith, ok .filled, asked .areas .filled-held, asked .areas .arena-short)
 
       N : Bool → ℕ
-      N t = n + pick t 1 0
+      N t = n + cond t 1 0
 
       few : (t : Bool) → addsSegment r ≡ t → N t ≤ 256
       few t q = adds-few n copied t (asked .areas .numbers .few) q
@@ -194,7 +193,7 @@ module _ (H : List ℕ → ℕ) where
           )
       news false q h = absurd (omega (arith, ok .filled, adds-none n copied q))
 
-      starts-are : (t : Bool) → addsSegment r ≡ t → take (N t) (S t) ≡ pick t (k .kept ++ (base ∷ [])) (k .kept)
+      starts-are : (t : Bool) → addsSegment r ≡ t → take (N t) (S t) ≡ cond t (k .kept ++ (base ∷ [])) (k .kept)
       starts-are true q =
           let plus : n + 1 ≡ suc n = omega arith in
           rw plus (take-suc-set (a .starts) n base (omega (arith, few true q, asked .areas .starts-hold))) ∙ ap (λ (m : List ℕ). m ++ (base ∷ [])) (ok .kept)
@@ -205,5 +204,5 @@ module _ (H : List ℕ → ℕ) where
       many : length (k .kept) ≡ n
       many = ap length (sym (ok .kept)) ∙ length-take-le n (a .starts) (omega (arith, asked .areas .numbers .few, asked .areas .starts-hold))
 
-      listed : rebuiltStarts (k .kept) (filledIn (newest (k .sets))) (length (k .tape)) ≡ pick (addsSegment r) (k .kept ++ (base ∷ [])) (k .kept)
+      listed : rebuiltStarts (k .kept) (filledIn (newest (k .sets))) (length (k .tape)) ≡ cond (addsSegment r) (k .kept ++ (base ∷ [])) (k .kept)
       listed = ap₂ (rebuiltStarts (k .kept)) (sym (ok .base)) (sym (ok .filled)) ∙ rebuilt-is (k .kept) n base copied many

@@ -1,6 +1,6 @@
 -- An accepted rebuild open: the rebuild stands for an empty list, and its kept segments are those of the newest set. Assumes nothing.
 use mathlib.Core.Path.{_≡_, refl, sym, ap, _∙_}
-use mathlib.Core.Bool.{true, not}
+use mathlib.Core.Bool.{true, cond, not}
 use mathlib.Core.List.{List, [], _∷_}
 use mathlib.Core.Option.{some}
 use Prim.Native.Nat.{ℕ, zero, suc, _*_, _≤_, _<_}
@@ -8,7 +8,6 @@ use native.Mathlib.Omega.{arith}
 use lib.Dec.{eqb}
 use lib.ListN.{length, take, getD}
 use lib.Seq.{getD-take, length-take-le}
-use Rattle.hash_parts.specs.Choice.{pick}
 use Rattle.index.specs.Build.{cleared}
 use Rattle.index.specs.Segments.{padded, replaced}
 use Rattle.index.proofs.Filling.{filled-back}
@@ -33,14 +32,14 @@ chosen-front : (flags words : List ℕ) → chosen flags (take (length flags) wo
 unfolding chosen
 chosen-front [] words = refl
 chosen-front (f ∷ flags) [] = refl
-chosen-front (f ∷ flags) (w ∷ words) = ap (λ (l : List ℕ). pick (eqb f 0) l (w ∷ l)) (chosen-front flags words)
+chosen-front (f ∷ flags) (w ∷ words) = ap (λ (l : List ℕ). cond (eqb f 0) l (w ∷ l)) (chosen-front flags words)
 
 -- the book keeps the same
 kept-chosen : (flags words : List ℕ) → keptBy flags words ≡ chosen flags words
 unfolding chosen keptBy
 kept-chosen [] words = refl
 kept-chosen (f ∷ flags) [] = refl
-kept-chosen (f ∷ flags) (w ∷ words) = ap (λ (l : List ℕ). pick (eqb f 0) l (w ∷ l)) (kept-chosen flags words)
+kept-chosen (f ∷ flags) (w ∷ words) = ap (λ (l : List ℕ). cond (eqb f 0) l (w ∷ l)) (kept-chosen flags words)
 
 -- a flag that keeps is one of the flags
 flag-inside : (flags : List ℕ) (g : ℕ) → not (eqb (getD flags g 0) 0) ≡ true → g < length flags

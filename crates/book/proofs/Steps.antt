@@ -1,12 +1,11 @@
 -- Every call keeps the relation of world and book, and a lookup's answer is the book's. Assumes nothing.
 use mathlib.Core.Path.{_≡_, refl, sym, ap, _∙_}
-use mathlib.Core.Bool.{Bool, true, false}
+use mathlib.Core.Bool.{Bool, true, false, cond}
 use mathlib.Core.List.{List, [], _∷_, Forall₂·nil}
 use mathlib.Core.Option.{Option, none, some}
 use Prim.Native.Nat.{ℕ, _^_, _≤_, _<_}
 use native.Mathlib.Omega.{arith}
 use lib.ListN.{length, getElem?}
-use Rattle.hash_parts.specs.Choice.{pick}
 use Rattle.hash_parts.specs.Duration.{encodedExpiry}
 use Rattle.hash_parts.specs.declared.duration.Lifetime.{Lifetime}
 use Rattle.hash_parts.specs.declared.setting.SegmentCacheConfig.{SegmentCacheConfig}
@@ -37,7 +36,7 @@ use Rattle.book.proofs.Relation.{SetHolds, CurrentHolds, is-idle, is-bu
 use Rattle.book.proofs.Standing.{every-nil}
 
 -- a call that the book notes nothing of
-pub same-heard : (k : Book) (t : Bool) → pick t k k ≡ k
+pub same-heard : (k : Book) (t : Bool) → cond t k k ≡ k
 same-heard k true = refl
 same-heard k false = refl
 
@@ -59,7 +58,7 @@ module _ (H : List ℕ → ℕ) where
 
       go : {r : Pushed} → PushCase b h key value ttl (a .index) (a .filter) (w .arena) r
           → ((p : Placed) → r .answer ≡ accept p → builderPasses (p .builder) (length (r .index)) (length (r .filter)) (length (a .starts)) (length (a .lengths)) (length (r .arena)) ≡ true)
-          → Holds H (pushLeaves w a r .after) (pick (isAccepted (r .answer)) (joined k key value d) k)
+          → Holds H (pushLeaves w a r .after) (cond (isAccepted (r .answer)) (joined k key value d) k)
       go (push-refused n) passes = record { memory = m .memory; top = m .top; current = is-building ok; sets = m .sets }
       go (push-made acc) passes =
           let bytes : List ℕ = recordBytes (b .config .expiry) key value (encodedExpiry (b .config .expiry) ttl 0 .value) in
@@ -86,7 +85,7 @@ module _ (H : List ℕ → ℕ) where
     where
       go : {f : Finished} → FinishCase b target (a .index) (a .starts) (a .lengths) scratch (w .arena) f
           → ((s : FrozenSegmentCache) → f .answer ≡ accept s → areasHoldLookup s (length (f .index)) (length (a .filter)) (length (f .starts)) (length (f .lengths)) (length (w .arena)) ≡ true)
-          → Holds H (finishLeaves w a f .after) (pick (isAccepted (f .answer)) (closed k (startsOf (length (k .tape)) target (k .list))) k)
+          → Holds H (finishLeaves w a f .after) (cond (isAccepted (f .answer)) (closed k (startsOf (length (k .tape)) target (k .list))) k)
       go (finish-refused n) passes = record { memory = m .memory; top = m .top; current = is-building ok; sets = m .sets }
       go (finish-many asked) passes =
           record {
@@ -194,10 +193,10 @@ module _ (H : List ℕ → ℕ) where
           }
 
   opening-holds : (w : World) (k : Book) → Holds H w k → (config : SegmentCacheConfig) (records : ℕ) (arena : List ℕ) (a : Areas)
-      → Holds H (openingStep w config records arena a .after) (pick (openingStep w config records arena a .accepted) (blank config) k)
+      → Holds H (openingStep w config records arena a .after) (cond (openingStep w config records arena a .accepted) (blank config) k)
   opening-holds w k m config records arena a = go (afterOpen config records (a .index) (a .filter) (a .starts) (a .lengths) arena .answer)
     where
-      go : (r : Reply SegmentCacheBuilder (Unit {0})) → Holds H (openedOr w (opened config records arena a) r) (pick (isAccepted r) (blank config) k)
+      go : (r : Reply SegmentCacheBuilder (Unit {0})) → Holds H (openedOr w (opened config records arena a) r) (cond (isAccepted r) (blank config) k)
       go (accept b) = open-holds config records arena a
       go (refuse n u) = m
 

@@ -1,13 +1,12 @@
 -- The book of document 01, "What each call must say of itself", point 6: the answers of lookups, worked out from the calls' arguments and from whether each
 -- was accepted. It cites what the paper names, the deadline by Setting and the stored bytes, and nothing of how a lookup works.
 -- Assumes nothing.
-use mathlib.Core.Bool.{Bool, true, false}
+use mathlib.Core.Bool.{Bool, true, false, cond}
 use mathlib.Core.List.{List, [], _∷_, _++_}
 use mathlib.Core.Option.{Option, none, some}
 use Prim.Native.Nat.{ℕ, zero, suc, _+_, _*_, _/_, _%_, _^_, min}
 use lib.Dec.{eqb, leb, ltb}
 use lib.ListN.{length, take, drop, getD, getElem?}
-use Rattle.hash_parts.specs.Choice.{pick}
 use Rattle.hash_parts.specs.Duration.{encodedExpiry}
 use Rattle.hash_parts.specs.declared.setting.SegmentCacheConfig.{SegmentCacheConfig}
 use Rattle.hash_parts.specs.declared.setting.SegmentExpiry.{SegmentExpiry}
@@ -54,7 +53,7 @@ lower a (some b) = some (min a b)
 -- the lowest location of a list that is not below a bound
 abbrev pub lowestFrom : ℕ → List Entry → Option ℕ
 lowestFrom bound [] = none
-lowestFrom bound (e ∷ l) = pick (leb bound (e .at)) (lower (e .at) (lowestFrom bound l)) (lowestFrom bound l)
+lowestFrom bound (e ∷ l) = cond (leb bound (e .at)) (lower (e .at) (lowestFrom bound l)) (lowestFrom bound l)
 
 -- the starts from one on, at most so many after it
 unfoldable pub startsFrom : ℕ → ℕ → List Entry → Option ℕ → List ℕ
@@ -65,7 +64,7 @@ startsFrom (suc n) target l (some start) = start ∷ startsFrom n target l (lowe
 
 -- the starts of a set's segments, at most 256
 unfoldable pub startsOf : ℕ → ℕ → List Entry → List ℕ
-startsOf filled target l = pick (leb filled target) (0 ∷ []) (startsFrom 255 target l (some 0))
+startsOf filled target l = cond (leb filled target) (0 ∷ []) (startsFrom 255 target l (some 0))
 
 -- ---- the newest set
 
@@ -81,12 +80,12 @@ filledIn (some s) = s .filled
 unfoldable pub keptBy : List ℕ → List ℕ → List ℕ
 keptBy [] starts = []
 keptBy (f ∷ flags) [] = []
-keptBy (f ∷ flags) (s ∷ starts) = pick (eqb f 0) (keptBy flags starts) (s ∷ keptBy flags starts)
+keptBy (f ∷ flags) (s ∷ starts) = cond (eqb f 0) (keptBy flags starts) (s ∷ keptBy flags starts)
 
 -- Rebuilt set: "appends copied records as one last segment after the filled arena .. No segment is added for zero copied bytes unless none is kept."
 abbrev pub rebuiltStarts : List ℕ → ℕ → ℕ → List ℕ
 rebuiltStarts [] base filled = base ∷ []
-rebuiltStarts (s ∷ kept) base filled = pick (ltb base filled) ((s ∷ kept) ++ (base ∷ [])) (s ∷ kept)
+rebuiltStarts (s ∷ kept) base filled = cond (ltb base filled) ((s ∷ kept) ++ (base ∷ [])) (s ∷ kept)
 
 -- Segments: "Location becomes segment × 2^32 + offset."
 abbrev pub placeOf : List ℕ → ℕ → ℕ
@@ -97,7 +96,7 @@ placeOf starts location = getD starts (location / 2 ^ 32) 0 + location % 2 ^ 32
 -- how many bytes a length prefix takes: up to the first below 128
 unfoldable pub prefixBytes : List ℕ → ℕ
 prefixBytes [] = 0
-prefixBytes (b ∷ l) = pick (ltb b 128) 1 (suc (prefixBytes l))
+prefixBytes (b ∷ l) = cond (ltb b 128) 1 (suc (prefixBytes l))
 
 abbrev pub pastPrefix : List ℕ → ℕ → ℕ
 pastPrefix tape at = at + prefixBytes (drop at tape)
@@ -178,7 +177,7 @@ noted b (refinish scratch) = closed b (rebuiltStarts (b .kept) (filledIn (newest
 
 -- "Other and refused calls: nothing."
 abbrev pub heard : Book → Call (Unit {0}) × Bool → Book
-heard b c = pick (c .1) (noted b (c .0)) b
+heard b c = cond (c .1) (noted b (c .0)) b
 
 -- the book after a list of calls
 abbrev pub bookAfter : Book → List (Call (Unit {0}) × Bool) → Book
@@ -192,17 +191,17 @@ unfoldable pub sameKey : List ℕ → List ℕ → Bool
 sameKey [] [] = true
 sameKey [] (y ∷ b) = false
 sameKey (x ∷ a) [] = false
-sameKey (x ∷ a) (y ∷ b) = pick (eqb x y) (sameKey a b) false
+sameKey (x ∷ a) (y ∷ b) = cond (eqb x y) (sameKey a b) false
 
 -- the first entry of a list that has the key
 abbrev pub firstOf : List ℕ → List Entry → Option Entry
 firstOf key [] = none
-firstOf key (e ∷ l) = pick (sameKey (e .key) key) (some e) (firstOf key l)
+firstOf key (e ∷ l) = cond (sameKey (e .key) key) (some e) (firstOf key l)
 
 -- its value before its deadline, else nothing; "65,535 is no deadline, an empty value an answer"
 abbrev pub ruled : ℕ → Option Entry → Answer
 ruled tick none = nothing
-ruled tick (some e) = pick (eqb (e .deadline) 65535) (value (e .value)) (pick (ltb tick (e .deadline)) (value (e .value)) nothing)
+ruled tick (some e) = cond (eqb (e .deadline) 65535) (value (e .value)) (cond (ltb tick (e .deadline)) (value (e .value)) nothing)
 
 -- the answer to a lookup or a peek in a set
 abbrev pub replyFrom : Option ListedSet → List ℕ → ℕ → Answer

@@ -1,12 +1,11 @@
 -- The exported calls: the number that each gives and the content of every lent area that it may write, out of the calls on sets.
 -- Assumes nothing.
-use mathlib.Core.Bool.{Bool}
+use mathlib.Core.Bool.{Bool, cond}
 use mathlib.Core.List.{List, [], _∷_}
 use mathlib.Core.Option.{Option, none, some}
 use Prim.Native.Nat.{ℕ, _+_, _-_, _%_, _^_}
 use lib.Dec.{eqb}
 use lib.ListN.{length}
-use Rattle.hash_parts.specs.Choice.{pick}
 use Rattle.hash_parts.specs.Outcome.{Outcome}
 use Rattle.hash_parts.specs.declared.duration.Lifetime.{Lifetime}
 use Rattle.hash_parts.specs.declared.duration.SegmentRemainingTtl.{SegmentRemainingTtl}
@@ -89,7 +88,7 @@ openLeft o old = openWords (stateTold (o .answer) old .number) (stateTold (o .an
 
 unfoldable pub exportedOpen : List ℕ → ℕ → List ℕ → List ℕ → List ℕ → List ℕ → List ℕ → List ℕ → OpenWords
 exportedOpen w records old index filter starts lengths arena =
-    pick (eqb (length old) 13)
+    cond (eqb (length old) 13)
     (onSetting (settingAlone w) (λ c. openLeft (afterOpen c records index filter starts lengths arena) old) (openWords 11 old index filter))
     (openWords 11 old index filter)
 
@@ -127,7 +126,7 @@ pushLeft p old place =
 
 unfoldable pub exportedPush : List ℕ → ℕ → List ℕ → List ℕ → List ℕ → List ℕ → List ℕ → List ℕ → List ℕ → PushWords
 exportedPush old h key value ttl index filter arena place =
-    pick (all (eqb (length old) 13 ∷ eqb (length place) 2 ∷ []))
+    cond (all (eqb (length old) 13 ∷ eqb (length place) 2 ∷ []))
     (onBuilder (builderIn old)
     (λ b.
     onLifetime (lifetimeIn ttl) (λ l. pushLeft (afterPush b h key value l index filter arena) old place)
@@ -159,7 +158,7 @@ finishLeft f old =
 
 unfoldable pub exportedFinish : List ℕ → ℕ → List ℕ → List ℕ → List ℕ → List ℕ → List ℕ → List ℕ → FinishWords
 exportedFinish w target index starts lengths scratch arena old =
-    pick (eqb (length old) 15)
+    cond (eqb (length old) 15)
     (onBuilder (builderIn w) (λ b. finishLeft (afterFinish b target index starts lengths scratch arena) old)
     (finishWords 11 index starts lengths scratch old))
     (finishWords 11 index starts lengths scratch old)
@@ -172,16 +171,16 @@ areaWordsTold (refuse n u) old = told n old
 
 unfoldable pub exportedAreaWords : List ℕ → ℕ → List ℕ → Told
 exportedAreaWords w records old =
-    pick (eqb (length old) 5) (onSetting (settingAlone w) (λ c. areaWordsTold (areaWordsFor c records) old) (told 11 old)) (told 11 old)
+    cond (eqb (length old) 5) (onSetting (settingAlone w) (λ c. areaWordsTold (areaWordsFor c records) old) (told 11 old)) (told 11 old)
 
 -- ---- the size of a record
 
 abbrev pub sizeTold : Outcome → List ℕ → Told
-sizeTold o old = told (o .number) (pick (eqb (o .number) 0) (o .value ∷ []) old)
+sizeTold o old = told (o .number) (cond (eqb (o .number) 0) (o .value ∷ []) old)
 
 unfoldable pub exportedSize : List ℕ → ℕ → ℕ → List ℕ → Told
 exportedSize w key value old =
-    pick (eqb (length old) 1)
+    cond (eqb (length old) 1)
     (onSetting (settingAlone w) (λ c. decided (firstNo (askWidths w)) (sizeTold (encodedSize (c .expiry) key value) old) (λ n. told n old)) (told 11 old))
     (told 11 old)
 
@@ -206,7 +205,7 @@ withIndex t index = indexTold (t .number) index (t .words)
 
 unfoldable pub exportedGet : List ℕ → ℕ → List ℕ → ℕ → List ℕ → List ℕ → List ℕ → List ℕ → List ℕ → List ℕ → IndexTold
 exportedGet w h key tick index filter starts lengths arena old =
-    pick (eqb (length old) 3)
+    cond (eqb (length old) 3)
     (onSet (setIn w)
     (λ s. withIndex (spanTold (afterGet s h key tick index filter starts lengths arena .answer) old) (afterGet s h key tick index filter starts lengths arena .index))
     (indexTold 11 index old))
@@ -214,7 +213,7 @@ exportedGet w h key tick index filter starts lengths arena old =
 
 unfoldable pub exportedPeek : List ℕ → ℕ → List ℕ → ℕ → List ℕ → List ℕ → List ℕ → List ℕ → List ℕ → List ℕ → Told
 exportedPeek w h key tick index filter starts lengths arena old =
-    pick (eqb (length old) 3) (onSet (setIn w) (λ s. spanTold (afterPeek s h key tick index filter starts lengths arena .answer) old) (told 11 old)) (told 11 old)
+    cond (eqb (length old) 3) (onSet (setIn w) (λ s. spanTold (afterPeek s h key tick index filter starts lengths arena .answer) old) (told 11 old)) (told 11 old)
 
 -- ---- mark clearing: 1 where the mark was set, else 0
 
@@ -224,7 +223,7 @@ accessedTold (refuse n u) old = told n old
 
 unfoldable pub exportedTake : List ℕ → ℕ → List ℕ → List ℕ → List ℕ → List ℕ → List ℕ → List ℕ → List ℕ → IndexTold
 exportedTake w h key index filter starts lengths arena old =
-    pick (eqb (length old) 1)
+    cond (eqb (length old) 1)
     (onSet (setIn w)
     (λ s. withIndex (accessedTold (afterTake s h key index filter starts lengths arena .answer) old) (afterTake s h key index filter starts lengths arena .index))
     (indexTold 11 index old))
@@ -270,11 +269,11 @@ recordTold (refuse n u) old = told n old
 
 unfoldable pub exportedProbe : List ℕ → ℕ → List ℕ → ℕ → List ℕ → List ℕ → List ℕ → List ℕ → List ℕ → List ℕ → Told
 exportedProbe w h key tick index filter starts lengths arena old =
-    pick (eqb (length old) 11) (onSet (setIn w) (λ s. recordTold (probeAnswer s h key tick index filter starts lengths arena) old) (told 11 old)) (told 11 old)
+    cond (eqb (length old) 11) (onSet (setIn w) (λ s. recordTold (probeAnswer s h key tick index filter starts lengths arena) old) (told 11 old)) (told 11 old)
 
 unfoldable pub exportedWalk : List ℕ → ℕ → ℕ → List ℕ → List ℕ → List ℕ → List ℕ → List ℕ → Told
 exportedWalk w from tick index starts lengths arena old =
-    pick (eqb (length old) 11) (onSet (setIn w) (λ s. recordTold (walkAnswer s from tick index starts lengths arena) old) (told 11 old)) (told 11 old)
+    cond (eqb (length old) 11) (onSet (setIn w) (λ s. recordTold (walkAnswer s from tick index starts lengths arena) old) (told 11 old)) (told 11 old)
 
 -- ---- statistics
 
@@ -283,7 +282,7 @@ statsTold (accept s) old = told 0 (statsWords s)
 statsTold (refuse n u) old = told n old
 
 unfoldable pub exportedStats : List ℕ → List ℕ → Told
-exportedStats w old = pick (eqb (length old) 8) (onSet (setIn w) (λ s. statsTold (statsAnswer s) old) (told 11 old)) (told 11 old)
+exportedStats w old = cond (eqb (length old) 8) (onSet (setIn w) (λ s. statsTold (statsAnswer s) old) (told 11 old)) (told 11 old)
 
 -- sums of free numbers wrap at 64 bits
 abbrev pub retainedIn : SegmentCacheStats → ℕ
@@ -297,4 +296,4 @@ loadIn s = loadOf (s .entries) (s .«index_slots»)
 
 -- one number of statistics
 unfoldable pub exportedNumber : (SegmentCacheStats → ℕ) → List ℕ → List ℕ → Told
-exportedNumber f w old = pick (eqb (length old) 1) (onStats (statsIn w) (λ s. told 0 (f s ∷ [])) (told 11 old)) (told 11 old)
+exportedNumber f w old = cond (eqb (length old) 1) (onStats (statsIn w) (λ s. told 0 (f s ∷ [])) (told 11 old)) (told 11 old)

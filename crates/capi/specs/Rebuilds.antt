@@ -1,10 +1,10 @@
 -- The exported calls of rebuilds: the number that each gives and the content of every lent area that it may write, out of the calls on sets.
 -- Assumes nothing.
+use mathlib.Core.Bool.{cond}
 use mathlib.Core.List.{List, [], _∷_}
 use Prim.Native.Nat.{ℕ}
 use lib.Dec.{eqb}
 use lib.ListN.{length}
-use Rattle.hash_parts.specs.Choice.{pick}
 use Rattle.sets.specs.Answers.{Reply, accept, refuse, RebuildPlaced}
 use Rattle.sets.specs.Questions.{all}
 use Rattle.sets.specs.Rebuild.{Copied, RebuildFinished, RebuildOpened, Reused, afterCopied, afterRebuildFinish, afterRebuildOpen, afterReused}
@@ -47,7 +47,7 @@ rebuildOpenLeft o old =
 
 unfoldable pub exportedRebuildOpen : List ℕ → List ℕ → List ℕ → List ℕ → ℕ → ℕ → List ℕ → ℕ → List ℕ → List ℕ → List ℕ → List ℕ → List ℕ → RebuildOpenWords
 exportedRebuildOpen w sourceStarts sourceLengths arena records copied flags tick old index filter starts lengths =
-    pick (eqb (length old) 22)
+    cond (eqb (length old) 22)
     (onSet (setIn w)
     (λ s. rebuildOpenLeft (afterRebuildOpen s sourceStarts sourceLengths arena records copied flags tick index filter starts lengths) old)
     (rebuildOpenWords 11 old index filter starts lengths))
@@ -80,7 +80,7 @@ locationOf location header = record { location = location; «header_bytes» = he
 
 unfoldable pub exportedReused : List ℕ → ℕ → List ℕ → List ℕ → ℕ → ℕ → List ℕ → List ℕ → List ℕ → List ℕ → List ℕ → List ℕ → ReusedWords
 exportedReused old h key value location header index filter starts lengths arena place =
-    pick (all (eqb (length old) 22 ∷ eqb (length place) 2 ∷ []))
+    cond (all (eqb (length old) 22 ∷ eqb (length place) 2 ∷ []))
     (onRebuild (rebuildIn old)
     (λ r. reusedLeft (afterReused r h key value (locationOf location header) index filter starts lengths arena) old place)
     (reusedWords 11 old index filter place))
@@ -95,7 +95,7 @@ copiedLeft p old place =
 
 unfoldable pub exportedCopied : List ℕ → ℕ → List ℕ → List ℕ → List ℕ → List ℕ → List ℕ → List ℕ → List ℕ → List ℕ → List ℕ → PushWords
 exportedCopied old h key value ttl index filter starts lengths arena place =
-    pick (all (eqb (length old) 22 ∷ eqb (length place) 2 ∷ []))
+    cond (all (eqb (length old) 22 ∷ eqb (length place) 2 ∷ []))
     (onRebuild (rebuildIn old)
     (λ r.
     onLifetime (lifetimeIn ttl) (λ l. copiedLeft (afterCopied r h key value l index filter starts lengths arena) old place)
@@ -142,7 +142,7 @@ rebuildFinishLeft f old totals =
 
 unfoldable pub exportedRebuildFinish : List ℕ → List ℕ → List ℕ → List ℕ → List ℕ → List ℕ → List ℕ → List ℕ → RebuildFinishWords
 exportedRebuildFinish w index starts lengths scratch arena old totals =
-    pick (all (eqb (length old) 15 ∷ eqb (length totals) 4 ∷ []))
+    cond (all (eqb (length old) 15 ∷ eqb (length totals) 4 ∷ []))
     (onRebuild (rebuildIn w) (λ r. rebuildFinishLeft (afterRebuildFinish r index starts lengths scratch arena) old totals)
     (rebuildFinishWords 11 index starts lengths scratch old totals))
     (rebuildFinishWords 11 index starts lengths scratch old totals)

@@ -1,10 +1,9 @@
 -- Settings, states, lifetimes and statistics as words. Assumes nothing.
-use mathlib.Core.Bool.{Bool, true}
+use mathlib.Core.Bool.{Bool, true, cond}
 use mathlib.Core.List.{List, [], _∷_}
 use Prim.Native.Nat.{ℕ, _-_, _^_, min}
 use lib.Dec.{eqb, leb}
 use lib.ListN.{length, getD}
-use Rattle.hash_parts.specs.Choice.{pick}
 use Rattle.hash_parts.specs.declared.duration.Duration.{Duration}
 use Rattle.hash_parts.specs.declared.duration.Lifetime.{Lifetime}
 use Rattle.hash_parts.specs.declared.duration.Lifetime.the-variants as life
@@ -36,7 +35,7 @@ abbrev pub durationOf : ℕ → ℕ → Duration
 durationOf secs nanos = record { secs = secs; nanos = nanos }
 
 abbrev pub expiryOf : ℕ → ℕ → ℕ → SegmentExpiry
-expiryOf flag secs nanos = pick (eqb flag 1) (Relative16 (durationOf secs nanos)) None
+expiryOf flag secs nanos = cond (eqb flag 1) (Relative16 (durationOf secs nanos)) None
 
 -- nanoseconds of more than 32 bits stay too many for a second, so that question 2 refuses them at its place; an occupancy of more than 8 bits stays more
 -- than 7, for question 3
@@ -61,22 +60,22 @@ settingForm w = all (leb (getD w 0 0) 1 ∷ leb (getD w 4 0) 1 ∷ leb (getD w 5
 
 -- the setting in the first six words
 unfoldable pub settingIn : List ℕ → LoadedSetting
-settingIn w = pick (settingForm w) (setting.Is (settingOf w)) setting.Malformed
+settingIn w = cond (settingForm w) (setting.Is (settingOf w)) setting.Malformed
 
 -- the size of a record depends on no question of document 01; words that no setting can hold are refused all the same, with the numbers of questions 2
 -- and 3
 abbrev pub tickNanosFit : ℕ → ℕ → Bool
-tickNanosFit flag nanos = pick (eqb flag 1) (leb nanos 0xffff_ffff) true
+tickNanosFit flag nanos = cond (eqb flag 1) (leb nanos 0xffff_ffff) true
 
 unfoldable pub askWidths : List ℕ → List (Bool × ℕ)
 askWidths w = (tickNanosFit (getD w 0 0) (getD w 2 0), 9) ∷ (leb (getD w 3 0) 255, 1) ∷ []
 
 -- a setting that is lent by itself
 unfoldable pub settingAlone : List ℕ → LoadedSetting
-settingAlone w = pick (eqb (length w) 6) (settingIn w) setting.Malformed
+settingAlone w = cond (eqb (length w) 6) (settingIn w) setting.Malformed
 
 abbrev pub flagOf : Bool → ℕ
-flagOf b = pick b 1 0
+flagOf b = cond b 1 0
 
 abbrev pub expiryFlag : SegmentExpiry → ℕ
 expiryFlag None = 0
@@ -121,7 +120,7 @@ builderFrom (setting.Is c) w = builder.Is (builderOf c w)
 builderFrom setting.Malformed w = builder.Malformed
 
 unfoldable pub builderIn : List ℕ → LoadedBuilder
-builderIn w = pick (eqb (length w) 13) (builderFrom (settingIn w) w) builder.Malformed
+builderIn w = cond (eqb (length w) 13) (builderFrom (settingIn w) w) builder.Malformed
 
 abbrev pub builderWords : SegmentCacheBuilder → List ℕ
 builderWords b =
@@ -157,7 +156,7 @@ setFrom (setting.Is c) w = set.Is (setOf c w)
 setFrom setting.Malformed w = set.Malformed
 
 unfoldable pub setIn : List ℕ → LoadedSet
-setIn w = pick (eqb (length w) 15) (setFrom (settingIn w) w) set.Malformed
+setIn w = cond (eqb (length w) 15) (setFrom (settingIn w) w) set.Malformed
 
 abbrev pub setWords : FrozenSegmentCache → List ℕ
 setWords s =
@@ -203,7 +202,7 @@ rebuildFrom (setting.Is c) w = rebuild.Is (rebuildOf c w)
 rebuildFrom setting.Malformed w = rebuild.Malformed
 
 unfoldable pub rebuildIn : List ℕ → LoadedRebuild
-rebuildIn w = pick (eqb (length w) 22) (rebuildFrom (settingIn w) w) rebuild.Malformed
+rebuildIn w = cond (eqb (length w) 22) (rebuildFrom (settingIn w) w) rebuild.Malformed
 
 abbrev pub rebuildWords : SharedSegmentCacheBuilder → List ℕ
 rebuildWords r =
@@ -233,7 +232,7 @@ finiteOf w = life.For (durationOf (getD w 0 0) (nanosCapped (getD w 1 0)))
 
 unfoldable pub lifetimeIn : List ℕ → LoadedLifetime
 lifetimeIn w =
-    pick (eqb (length w) 0) (lifetime.Is life.Never) (pick (eqb (length w) 2) (lifetime.Is (finiteOf w)) lifetime.Malformed)
+    cond (eqb (length w) 0) (lifetime.Is life.Never) (cond (eqb (length w) 2) (lifetime.Is (finiteOf w)) lifetime.Malformed)
 
 -- ---- statistics: 8 words
 
@@ -251,7 +250,7 @@ statsOf w =
     }
 
 unfoldable pub statsIn : List ℕ → LoadedStats
-statsIn w = pick (eqb (length w) 8) (stats.Is (statsOf w)) stats.Malformed
+statsIn w = cond (eqb (length w) 8) (stats.Is (statsOf w)) stats.Malformed
 
 abbrev pub statsWords : SegmentCacheStats → List ℕ
 statsWords s =

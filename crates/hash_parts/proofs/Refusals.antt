@@ -1,9 +1,9 @@
 -- The numbers of the refusals: none is that of an acceptance, and each is that of one refusal. Assumes nothing.
+use mathlib.Core.Bool.{cond}
 use mathlib.Core.Path.{_≡_, refl, sym, ap, _∙_}
 use Prim.Native.Nat.{ℕ, _<_}
 use native.Mathlib.Omega.{arith}
 use lib.Dec.{eqb}
-use Rattle.hash_parts.specs.Choice.{pick}
 use Rattle.hash_parts.specs.Error.{errorNumber}
 use Rattle.hash_parts.specs.declared.error.SegmentCacheBuildError.{SegmentCacheBuildError}
 use Rattle.hash_parts.specs.declared.error.SegmentCacheBuildError.the-variants.{InvalidBucketOccupancy, ZeroExpiryTick, CapacityOverflow, DuplicateKey, ExpiryDisabled, ExpiryOutOfRange, ArenaTooLarge, InvalidSegmentTarget, InvalidNanoseconds, AreaTooShort, InvalidState, RecordMismatch}
@@ -26,17 +26,17 @@ refusal-pos RecordMismatch = omega arith
 -- the refusal of a number; past the last, the last
 abbrev refusalOf : ℕ → SegmentCacheBuildError
 refusalOf n =
-    pick (eqb n 1) InvalidBucketOccupancy
-    (pick (eqb n 2) ZeroExpiryTick
-    (pick (eqb n 3) CapacityOverflow
-    (pick (eqb n 4) DuplicateKey
-    (pick (eqb n 5) ExpiryDisabled
-    (pick (eqb n 6) ExpiryOutOfRange
-    (pick (eqb n 7) ArenaTooLarge
-    (pick (eqb n 8) InvalidSegmentTarget
-    (pick (eqb n 9) InvalidNanoseconds
-    (pick (eqb n 10) AreaTooShort
-    (pick (eqb n 11) InvalidState
+    cond (eqb n 1) InvalidBucketOccupancy
+    (cond (eqb n 2) ZeroExpiryTick
+    (cond (eqb n 3) CapacityOverflow
+    (cond (eqb n 4) DuplicateKey
+    (cond (eqb n 5) ExpiryDisabled
+    (cond (eqb n 6) ExpiryOutOfRange
+    (cond (eqb n 7) ArenaTooLarge
+    (cond (eqb n 8) InvalidSegmentTarget
+    (cond (eqb n 9) InvalidNanoseconds
+    (cond (eqb n 10) AreaTooShort
+    (cond (eqb n 11) InvalidState
     RecordMismatch))))))))))
 
 number-back : (e : SegmentCacheBuildError) → refusalOf (errorNumber e) ≡ e

@@ -1,4 +1,5 @@
 -- The zero-byte test, byte by byte. Assumes nothing.
+use mathlib.Core.Bool.{cond}
 use mathlib.Core.Path.{_≡_, sym, ap, _∙_, subst}
 use mathlib.Core.List.{map}
 use Prim.Native.Nat.{ℕ, zero, suc, _+_, _*_, _-_, _/_, _%_, _^_, _≤_, _<_}
@@ -8,7 +9,6 @@ use lib.Dec.{eqb, eqb→eq, lit<}
 use lib.Pow.{pow-add, shr-lt}
 use lib.Bits.{bitAnd, bitOr, and-block, or-block, or-lt, and-le-r, and-zero-r}
 use Rattle.hash_parts.specs.ZeroBytes.{bytesOf, isZero, marks}
-use Rattle.hash_parts.specs.Choice.{pick}
 use Rattle.hash_parts.proofs.Table.{at}
 
 -- k bytes of 0x7f, and of 0x80
@@ -31,8 +31,8 @@ lo-small (suc k) = omega (arith, lo-small k, pow-next k)
 abbrev byte : ℕ → ℕ
 byte r = bitAnd (255 - bitOr (bitOr (bitAnd r 127 + 127) r) 127) 128
 
-byte-right : (r : ℕ) → r < 256 → byte r ≡ pick (isZero r) 0x80 0
-byte-right r h = eqb→eq (byte r) (pick (isZero r) 0x80 0) (at (λ (x : ℕ). eqb (byte x) (pick (isZero x) 0x80 0)) 256 tt r h)
+byte-right : (r : ℕ) → r < 256 → byte r ≡ cond (isZero r) 0x80 0
+byte-right r h = eqb→eq (byte r) (cond (isZero r) 0x80 0) (at (λ (x : ℕ). eqb (byte x) (cond (isZero x) 0x80 0)) 256 tt r h)
 
 -- the test on k bytes
 abbrev pub test : ℕ → ℕ → ℕ

@@ -1,7 +1,7 @@
 -- Durations as numbers of nanoseconds, deadlines, and the time that is left.
 -- Assumes nothing.
 use Prim.Native.Nat.{ℕ, _+_, _*_, _-_, _/_, _%_, _^_}
-use mathlib.Core.Bool.{Bool, true}
+use mathlib.Core.Bool.{Bool, true, cond}
 use lib.Dec.{eqb, leb, ltb}
 use Rattle.hash_parts.specs.declared.duration.Duration.{Duration}
 use Rattle.hash_parts.specs.declared.duration.Lifetime.{Lifetime}
@@ -13,7 +13,6 @@ use Rattle.hash_parts.specs.declared.duration.SegmentRemainingTtl.the-va
 use Rattle.hash_parts.specs.declared.error.SegmentCacheBuildError.the-variants.{ZeroExpiryTick, ExpiryDisabled, ExpiryOutOfRange}
 use Rattle.hash_parts.specs.declared.setting.SegmentExpiry.{SegmentExpiry}
 use Rattle.hash_parts.specs.declared.setting.SegmentExpiry.the-variants.{None, Relative16}
-use Rattle.hash_parts.specs.Choice.{pick}
 use Rattle.hash_parts.specs.Outcome.{Outcome, accepted, refused}
 
 -- Setting: "A duration is whole seconds (64 bits) and nanoseconds". Nanoseconds of a second or more count with their value.
@@ -27,7 +26,7 @@ ceilDiv n m = (n + (m - 1)) / m
 -- Setting: "Deadline: base tick plus lifetime divided by tick length, rounded up"; question 4: "Deadline at most 65,534? 6."
 unfoldable pub deadlineAt : ℕ → ℕ → ℕ → Outcome
 deadlineAt base lifetime tick =
-    pick (leb (base + ceilDiv lifetime tick) 65534) (accepted (base + ceilDiv lifetime tick)) (refused ExpiryOutOfRange)
+    cond (leb (base + ceilDiv lifetime tick) 65534) (accepted (base + ceilDiv lifetime tick)) (refused ExpiryOutOfRange)
 
 -- Setting: "No lifetime is 65,535, never." Question 4: "No lifetime where expiry is off? 5." A tick of no length is refused as in the Rust;
 -- question 3 refuses it before.
@@ -35,7 +34,7 @@ unfoldable pub encodedExpiry : SegmentExpiry → Lifetime → ℕ → Outcome
 encodedExpiry e life.Never base = accepted 65535
 encodedExpiry None (life.For lifetime) base = refused ExpiryDisabled
 encodedExpiry (Relative16 tick) (life.For lifetime) base =
-    pick (eqb (nanosOf tick) 0) (refused ZeroExpiryTick) (deadlineAt base (nanosOf lifetime) (nanosOf tick))
+    cond (eqb (nanosOf tick) 0) (refused ZeroExpiryTick) (deadlineAt base (nanosOf lifetime) (nanosOf tick))
 
 abbrev pub expiryOutcome : EncodedExpiry → Outcome
 expiryOutcome (At deadline) = accepted deadline
@@ -43,12 +42,12 @@ expiryOutcome (Refused e) = refused e
 
 -- a record lives before its deadline, and always where that is 65,535
 unfoldable pub livesAt : ℕ → ℕ → Bool
-livesAt deadline tick = pick (eqb deadline 65535) true (ltb tick deadline)
+livesAt deadline tick = cond (eqb deadline 65535) true (ltb tick deadline)
 
 -- so many times a duration; "None also stands where the product passes the largest duration."
 unfoldable pub product : Duration → ℕ → SegmentRemainingTtl
 product d times =
-    pick (ltb (nanosOf d * times / 1_000_000_000) (2 ^ 64))
+    cond (ltb (nanosOf d * times / 1_000_000_000) (2 ^ 64))
     (Finite (record { secs = nanosOf d * times / 1_000_000_000; nanos = nanosOf d * times % 1_000_000_000 }))
     Nothing
 
@@ -59,4 +58,4 @@ ticksLeft (Relative16 tick) n = product tick n
 
 -- Answer: "the remaining time: never, a duration, or none"
 unfoldable pub remaining : SegmentExpiry → ℕ → ℕ → SegmentRemainingTtl
-remaining e deadline tick = pick (eqb deadline 65535) Never (pick (leb deadline tick) Nothing (ticksLeft e (deadline - tick)))
+remaining e deadline tick = cond (eqb deadline 65535) Never (cond (leb deadline tick) Nothing (ticksLeft e (deadline - tick)))

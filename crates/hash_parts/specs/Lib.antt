@@ -1,4 +1,3 @@
-pub mod Choice
 pub mod Duration
 pub mod Error
 pub mod Hash

@@ -1,11 +1,10 @@
 -- The bytes of a word, and words that mark bytes.
 -- Assumes nothing.
 use Prim.Native.Nat.{ℕ, zero, suc, _+_, _-_, _*_, _/_, _%_, _^_}
-use mathlib.Core.Bool.{Bool, true, false, not}
+use mathlib.Core.Bool.{Bool, true, false, cond, not}
 use mathlib.Core.List.{List, [], _∷_, map}
 use lib.Count.{trailingZeros}
 use lib.Dec.{eqb}
-use Rattle.hash_parts.specs.Choice.{pick}
 
 -- the k bytes of a number, lowest first
 unfoldable pub bytesOf : ℕ → ℕ → List ℕ
@@ -22,7 +21,7 @@ numberOf (b ∷ l) = b + 256 * numberOf l
 -- the word with 0x80 in the marked bytes and 0 in the others
 unfoldable pub marks : List Bool → ℕ
 marks [] = 0
-marks (b ∷ bs) = marks bs * 256 + pick b 0x80 0
+marks (b ∷ bs) = marks bs * 256 + cond b 0x80 0
 
 abbrev pub isZero : ℕ → Bool
 isZero b = eqb b 0
@@ -52,7 +51,7 @@ lowestSet w = firstMark (map isSet (bytesOf 8 w))
 -- some bytes, where the first that is not 0 has lost its lowest set bit; a mark has no other
 unfoldable pub lowestCleared : List ℕ → List ℕ
 lowestCleared [] = []
-lowestCleared (b ∷ l) = pick (isZero b) (0 ∷ lowestCleared l) ((b - 2 ^ trailingZeros 8 b) ∷ l)
+lowestCleared (b ∷ l) = cond (isZero b) (0 ∷ lowestCleared l) ((b - 2 ^ trailingZeros 8 b) ∷ l)
 
 -- a word without its lowest set bit, by its bytes
 unfoldable pub withoutLowest : ℕ → ℕ

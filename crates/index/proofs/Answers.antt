@@ -1,6 +1,6 @@
 -- What the search for a push's slot answers: never Full while there is room, and Duplicate just where an entry has the key. Assumes nothing.
 use mathlib.Core.Path.{_≡_, refl, sym, ap, _∙_}
-use mathlib.Core.Bool.{Bool, true, false}
+use mathlib.Core.Bool.{Bool, true, false, cond}
 use mathlib.Core.Option.{Option, some}
 use mathlib.Core.List.{List, [], _∷_, Forall₂}
 use Prim.Native.Nat.{ℕ, _*_, _<_}
@@ -8,7 +8,6 @@ use native.Mathlib.Omega.{arith}
 use lib.Dec.{eqb}
 use lib.ListN.{length, take}
 use borrow.Author.Tests.{eqb-false}
-use Rattle.hash_parts.specs.Choice.{pick}
 use Rattle.hash_parts.specs.Hash.{tagOf, firstBucket}
 use Rattle.hash_parts.specs.declared.setting.SegmentExpiry.{SegmentExpiry}
 use Rattle.records.specs.Record.{Stored}
@@ -56,7 +55,7 @@ module _ {E : Type 0} {stored : E → Stored} {H : List ℕ → ℕ} {Holds : �
     unfolding holdsKey
     holds-just w e p y = go (eqb (wordTag w) (tagOf h)) refl
       where
-        go : (b : Bool) → eqb (wordTag w) (tagOf h) ≡ b → keyed stored key e ≡ pick b (hasKey key (buildRecord ex bytes (wordStored w))) false
+        go : (b : Bool) → eqb (wordTag w) (tagOf h) ≡ b → keyed stored key e ≡ cond b (hasKey key (buildRecord ex bytes (wordStored w))) false
         go true q = ap (hasKey key) (sym (held (wordStored w) e y))
         go false q =
             not-true _ (λ z. eqb-false _ _ q (p ∙ ap (λ (j : List ℕ). tagOf (H j)) (same-true (stored e .key) key z) ∙ ap tagOf (sym hash)))

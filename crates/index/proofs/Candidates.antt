@@ -1,7 +1,7 @@
 -- The candidates of a bucket, visited from the lowest mark up: packed, the slots whose control byte has the tag; words, those from the first that
 -- is empty or has the tag on. Assumes nothing.
 use mathlib.Core.Path.{_≡_, refl, sym, ap, ap₂, _∙_, subst}
-use mathlib.Core.Bool.{Bool, true, false}
+use mathlib.Core.Bool.{Bool, true, false, cond}
 use mathlib.Core.List.{List, [], _∷_, map}
 use Prim.Native.Nat.{ℕ, zero, suc, _+_, _*_, _-_, _/_, _%_, _^_, _≤_, _<_}
 use native.Mathlib.Nat.{mul-suc, div-add-mod', add-zero, zero-add}
@@ -12,7 +12,6 @@ use lib.Pow.{shr-lt}
 use lib.Bits.{bitAnd, bitXor, and-comm, and-block, and-mask, and-le-r, xor-block, xor-lt, xor-add-and, xor-self}
 use borrow.Author.Tests.{eqb-true, eqb-false, eq-eqb, ne-eqb, lt-ltb, le-ltb}
 use native.Mathlib.Decide.{ℕ-discrete, decLt}
-use Rattle.hash_parts.specs.Choice.{pick}
 use Rattle.hash_parts.specs.ZeroBytes.{bytesOf, isZero, marks, zeroBytes, zeroMarks, numberOf}
 use Rattle.hash_parts.proofs.Visit.{visited}
 use Rattle.hash_parts.proofs.ZeroBytes.{lo}
@@ -85,14 +84,14 @@ module _ (read : ℕ → RecordAnswer) (arena key : List ℕ) (tag i : ℕ) wher
   seen-used Unreadable q = let z : _≡_ {A = ℕ} 0 1 = cc in omega arith
   seen-used (Read r) q = go (sameBytes (spanned arena (r .key)) key) q
     where
-      go : (x : Bool) → pick x (match (record { slot = i; entry = r })) other ≡ empty → ⊥
+      go : (x : Bool) → cond x (match (record { slot = i; entry = r })) other ≡ empty → ⊥
       go true q = let z : _≡_ {A = ℕ} 0 1 = cc in omega arith
       go false q = let z : _≡_ {A = ℕ} 0 1 = cc in omega arith
 
   used-look : (t stored : ℕ) → look read arena key tag i (Used t stored) ≡ empty → ⊥
   used-look t stored q = go (eqb t tag) q
     where
-      go : (x : Bool) → pick x (seen arena key i (read stored)) other ≡ empty → ⊥
+      go : (x : Bool) → cond x (seen arena key i (read stored)) other ≡ empty → ⊥
       go true q = seen-used (read stored) q
       go false q = let z : _≡_ {A = ℕ} 0 1 = cc in omega arith
 
@@ -117,7 +116,7 @@ module _ (read : ℕ → RecordAnswer) (arena key : List ℕ) (tag rest : ℕ) (
   unfolding packedSlot
   used-slot i c bytes h e = go (eqb (c % 128) 0) refl e
     where
-      go : (z : Bool) → eqb (c % 128) 0 ≡ z → at i (pick z Empty (Used (c % 128 + 128 * numberOf (take 2 bytes)) (numberOf (drop 2 bytes)))) ≡ empty → ⊥
+      go : (z : Bool) → eqb (c % 128) 0 ≡ z → at i (cond z Empty (Used (c % 128 + 128 * numberOf (take 2 bytes)) (numberOf (drop 2 bytes)))) ≡ empty → ⊥
       go true z q = omega (arith, eqb-true (c % 128) 0 z, eqb-true (c % 128) tag h)
       go false z q = used-look read arena key kept i _ _ q
 
@@ -129,7 +128,7 @@ module _ (read : ℕ → RecordAnswer) (arena key : List ℕ) (tag rest : ℕ) (
       apart : c % 128 + 128 * numberOf (take 2 bytes) ≡ kept → ⊥
       apart e = let m : c % 128 ≡ tag = omega arith in eqb-false (c % 128) tag h m
 
-      go : (z : Bool) → eqb (c % 128) 0 ≡ z → sweep (at i (pick z Empty (Used (c % 128 + 128 * numberOf (take 2 bytes)) (numberOf (drop 2 bytes)))) ∷ ls) ≡ sweep ls
+      go : (z : Bool) → eqb (c % 128) 0 ≡ z → sweep (at i (cond z Empty (Used (c % 128 + 128 * numberOf (take 2 bytes)) (numberOf (drop 2 bytes)))) ∷ ls) ≡ sweep ls
       go true z = refl
       go false z = rw (ne-eqb _ _ apart)
 
@@ -190,8 +189,8 @@ module _ (read : ℕ → RecordAnswer) (arena key : List ℕ) (tag : ℕ) (g : �
       ls = looksFrom read arena key tag (suc i) l
 
       go : (x : Bool) → eqb t tag ≡ x → scan ls ≡ visited (λ j after. andThen (g j) after) (fromOn (passedOver tag l) (length l)) (suc p) Next
-          → scan (pick x (seen arena key i (read stored)) other ∷ ls)
-          ≡ visited (λ j after. andThen (g j) after) (fromOn (pick x 0 (suc (passedOver tag l))) (suc (length l))) p Next
+          → scan (cond x (seen arena key i (read stored)) other ∷ ls)
+          ≡ visited (λ j after. andThen (g j) after) (fromOn (cond x 0 (suc (passedOver tag l))) (suc (length l))) p Next
       go true e rest = rw e at (scan-all (Used t stored ∷ l) i p says)
       go false e rest = rest
 
@@ -275,6 +274,6 @@ module _ (read : ℕ → RecordAnswer) (arena key : List ℕ) (tag : ℕ) where
           split (yes p) = lt-ltb 0 m p ∙ sym (lt-ltb 0 (m * 256 + 0) (omega arith))
           split (no n) = le-ltb 0 m (omega arith) ∙ sym (le-ltb 0 (m * 256 + 0) (omega arith))
 
-      go : (x : Bool) → hasEmpty ls ≡ ltb 0 m → hasEmpty (look read arena key tag i (pick x Empty (Used (c % 128 + 128 * numberOf (take 2 (take 7 bytes))) (numberOf (drop 2 (take 7 bytes))))) ∷ ls) ≡ ltb 0 (m * 256 + pick x 0x80 0)
+      go : (x : Bool) → hasEmpty ls ≡ ltb 0 m → hasEmpty (look read arena key tag i (cond x Empty (Used (c % 128 + 128 * numberOf (take 2 (take 7 bytes))) (numberOf (drop 2 (take 7 bytes))))) ∷ ls) ≡ ltb 0 (m * 256 + cond x 0x80 0)
       go true r = sym (lt-ltb 0 (m * 256 + 0x80) (omega arith))
       go false r = used-on _ (used-look read arena key tag i _ _) ∙ r ∙ positive

@@ -1,13 +1,12 @@
 -- Laws of finding: one slot, the buckets of a walk. Assumes nothing.
 use mathlib.Core.Path.{_≡_, refl, ap, _∙_}
-use mathlib.Core.Bool.{Bool, true, false}
+use mathlib.Core.Bool.{Bool, true, false, cond}
 use mathlib.Core.List.{List, _∷_}
 use Prim.Native.Nat.{ℕ, zero, suc, _+_, _-_, _*_, _/_, _≤_, _<_}
 use native.Mathlib.Numerals.{add-one}
 use native.Mathlib.Omega.{arith}
 use lib.ListN.{length}
 use borrow.Author.Tests.{eq-eqb, ne-eqb, le-leb, lt-leb}
-use Rattle.hash_parts.specs.Choice.{pick}
 use Rattle.hash_parts.specs.Hash.{tagOf, firstBucket}
 use Rattle.records.specs.Area.{sameBytes, spanned}
 use Rattle.records.specs.declared.record.RecordAnswer.{RecordAnswer}
@@ -94,7 +93,7 @@ module _ (packed may : Bool) (looks : ℕ → List Look) (buckets : ℕ) where
     abbrev rest : FindAnswer
     rest = bucketsFound packed may looks buckets (i + 1) (left - 1) (nextBucket bucket buckets)
 
-    found-step : bucketsFound packed may looks buckets i left bucket ≡ followed (inBucket packed (looks bucket)) (pick (endsAt i may) Nothing rest)
+    found-step : bucketsFound packed may looks buckets i left bucket ≡ followed (inBucket packed (looks bucket)) (cond (endsAt i may) Nothing rest)
     unfolding bucketsFound found
     found-step = ap (found packed may looks i) (around-step left bucket buckets some-left) ∙ rw (add-one i)
 

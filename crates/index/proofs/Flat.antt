@@ -1,13 +1,12 @@
 -- Slots in a row and slots by buckets: the buckets of a walk, one after the other, are the slots from the first bucket's on, around. Assumes nothing.
 use mathlib.Core.Path.{_≡_, refl, sym, ap, ap₂, _∙_}
-use mathlib.Core.Bool.{Bool, true, false}
+use mathlib.Core.Bool.{Bool, true, false, cond}
 use mathlib.Core.List.{List, [], _∷_, _++_, map, map-append, flatten}
 use Prim.Native.Nat.{ℕ, zero, suc, _+_, _-_, _*_, _≤_, _<_}
 use native.Mathlib.Nat.{add-zero}
 use native.Mathlib.Omega.{arith}
 use lib.ListN.{length, take, drop, length-drop}
 use lib.Seq.{take-at, take-take, drop-at, drop-drop, length-take-le}
-use Rattle.hash_parts.specs.Choice.{pick}
 use Rattle.index.specs.Find.{slotsOf}
 use Rattle.index.specs.Packed.{packedBucket}
 use Rattle.index.specs.Slot.{wordSlot}
@@ -68,7 +67,7 @@ module _ {A : Type 0} where
 
 -- in either layout, in a row
 abbrev pub indexSlots : Bool → ℕ → List ℕ → List IndexSlot
-indexSlots packed buckets index = pick packed (flatten (packedBuckets buckets index 0 buckets)) (wordSlots buckets index)
+indexSlots packed buckets index = cond packed (flatten (packedBuckets buckets index 0 buckets)) (wordSlots buckets index)
 
 packed-bucket : (buckets : ℕ) (index : List ℕ) (a n b : ℕ) → b < n → bucketAt (flatten (packedBuckets buckets index a n)) b ≡ packedBucket buckets index (a + b)
 unfolding flatten packedBuckets

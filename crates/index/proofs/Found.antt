@@ -1,6 +1,6 @@
 -- What a lookup makes of the slots of its walk is the first entry of its key in them: in both layouts, with the filter and the early stop. Assumes nothing.
 use mathlib.Core.Path.{_≡_, refl, sym, ap, _∙_}
-use mathlib.Core.Bool.{Bool, true, false, not}
+use mathlib.Core.Bool.{Bool, true, false, cond, not}
 use mathlib.Core.Option.{Option, none, some, Option·map}
 use mathlib.Core.List.{List, [], _∷_, _++_, flatten, head?, Forall₂, Forall₂·nil, Forall₂·cons}
 use Prim.Native.Nat.{ℕ, suc, _+_, _*_, _≤_, _<_}
@@ -9,7 +9,6 @@ use lib.Dec.{eqb}
 use lib.ListN.{length, drop}
 use lib.Seq.{drop-append-add}
 use borrow.Author.Tests.{eqb-true}
-use Rattle.hash_parts.specs.Choice.{pick}
 use Rattle.records.specs.Record.{Stored, contents}
 use Rattle.records.specs.declared.record.RecordAnswer.the-variants.{Read}
 use Rattle.index.specs.Find.{endsAt, Look, empty, other, match, scan, sweep, hasEmpty, ended, inBucket, followed, found}
@@ -27,7 +26,7 @@ abbrev pub foundStored : List ℕ → FindAnswer → Option Stored
 foundStored arena (Found x) = contents arena (Read (x .entry))
 foundStored arena Nothing = none
 
-followed-ended : (gap : Bool) (s : FindStep) (after : FindAnswer) → followed (ended gap s) after ≡ followed s (pick gap Nothing after)
+followed-ended : (gap : Bool) (s : FindStep) (after : FindAnswer) → followed (ended gap s) after ≡ followed s (cond gap Nothing after)
 followed-ended gap (Hit x) after = refl
 followed-ended gap Stop after = refl
 followed-ended true Next after = refl
@@ -78,9 +77,9 @@ module _ {E : Type 0} (stored : E → Stored) (arena k : List ℕ) where
   bucket-first : (packed : Bool) {l : List Look} {m : List (Option E)} (d : List (Option E)) (after : FindAnswer) → Forall₂ Sees l m
       → hits has (past (m ++ d)) ≡ [] → IsFirst after d → IsFirst (followed (inBucket packed l) after) (m ++ d)
   bucket-first false d after r g s = scan-first d after r g s
-  bucket-first true {l} {m} d after r g s = rw (followed-ended (hasEmpty l) (sweep l) after) (sweep-first d (pick (hasEmpty l) Nothing after) r (go (hasEmpty l) refl))
+  bucket-first true {l} {m} d after r g s = rw (followed-ended (hasEmpty l) (sweep l) after) (sweep-first d (cond (hasEmpty l) Nothing after) r (go (hasEmpty l) refl))
     where
-      go : (b : Bool) → hasEmpty l ≡ b → IsFirst (pick b Nothing after) d
+      go : (b : Bool) → hasEmpty l ≡ b → IsFirst (cond b Nothing after) d
       go true t = rw (gap-ends d r t g)
       go false t = s
 
@@ -95,10 +94,10 @@ module _ {E : Type 0} (stored : E → Stored) (arena k : List ℕ) where
       let c : length m + j ≡ 8 + j = omega arith in
       ap (hits has) (sym (drop-append-add m d j) ∙ ap (λ (n : ℕ). drop n (m ++ d)) c) ∙ f (8 + j) (omega arith) q
 
-  asked-first : (may : Bool) (i : ℕ) (d : List (Option E)) (rest : FindAnswer) → Denied may (suc i) d → IsFirst rest d → IsFirst (pick (endsAt i may) Nothing rest) d
+  asked-first : (may : Bool) (i : ℕ) (d : List (Option E)) (rest : FindAnswer) → Denied may (suc i) d → IsFirst rest d → IsFirst (cond (endsAt i may) Nothing rest) d
   asked-first may i d rest f s = go (eqb i 1) refl may refl
     where
-      go : (x : Bool) → eqb i 1 ≡ x → (y : Bool) → may ≡ y → IsFirst (pick (pick x (not y) false) Nothing rest) d
+      go : (x : Bool) → eqb i 1 ≡ x → (y : Bool) → may ≡ y → IsFirst (cond (cond x (not y) false) Nothing rest) d
       go false p y q = s
       go true p true q = s
       go true p false q = rw (f 0 (omega (arith, eqb-true i 1 p)) q)
@@ -113,5 +112,5 @@ module _ {E : Type 0} (stored : E → Stored) (arena k : List ℕ) where
         let d : List (Option E) = walked t bs in
         let f′ : Denied may (suc i) d = denied-next may i m d (bucket-eight t b (omega arith)) f in
         let s : IsFirst (found packed may looks (suc i) bs) d = walk-first (suc i) r (past-after has m d g) f′ in
-        bucket-first packed d (pick (endsAt i may) Nothing (found packed may looks (suc i) bs)) (sees b h) g
+        bucket-first packed d (cond (endsAt i may) Nothing (found packed may looks (suc i) bs)) (sees b h) g
         (asked-first may i d (found packed may looks (suc i) bs) f′ s)

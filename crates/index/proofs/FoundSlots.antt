@@ -1,6 +1,6 @@
 -- The slot that a lookup answers is a slot in use of the index, and names the record answered. Assumes nothing.
 use mathlib.Core.Path.{_≡_, refl, sym, ap, _∙_}
-use mathlib.Core.Bool.{Bool, true, false}
+use mathlib.Core.Bool.{Bool, true, false, cond}
 use mathlib.Core.List.{List, [], _∷_}
 use Prim.Native.Nat.{ℕ, suc, _+_, _-_, _*_, _^_, _<_, min}
 use native.Mathlib.Omega.{arith}
@@ -8,7 +8,6 @@ use lib.Dec.{eqb, leb}
 use lib.ListN.{length, getD, take, drop, length-take, length-drop, List·getD-map}
 use lib.Seq.{getD-drop, getD-take}
 use borrow.Author.Tests.{eqb-false}
-use Rattle.hash_parts.specs.Choice.{pick}
 use Rattle.hash_parts.specs.Hash.{tagOf, firstBucket}
 use Rattle.hash_parts.proofs.Products.{first-bucket-below}
 use Rattle.records.specs.Area.{sameBytes, spanned}
@@ -62,7 +61,7 @@ module _ (read : ℕ → RecordAnswer) (arena key : List ℕ) (tag : ℕ) where
       by-key Unreadable g f = absurd (let z : _≡_ {A = ℕ} 0 1 = cc in omega arith)
       by-key (Read r) g f = same-key (sameBytes (spanned arena (r .key)) key) f
         where
-          same-key : (b : Bool) → pick b (match (record { slot = i; entry = r })) other ≡ match y → FoundAt read i (Used t stored ∷ l) y
+          same-key : (b : Bool) → cond b (match (record { slot = i; entry = r })) other ≡ match y → FoundAt read i (Used t stored ∷ l) y
           same-key false q = absurd (let z : _≡_ {A = ℕ} 0 1 = cc in omega arith)
           same-key true q =
               let same : record { slot = i; entry = r } ≡ y = cc in
@@ -76,7 +75,7 @@ module _ (read : ℕ → RecordAnswer) (arena key : List ℕ) (tag : ℕ) where
                 reads = g ∙ ap (λ (x : FoundRecord). Read (x .entry)) same;
               }
 
-      by-tag : (b : Bool) → pick b (seen arena key i (read stored)) other ≡ match y → FoundAt read i (Used t stored ∷ l) y
+      by-tag : (b : Bool) → cond b (seen arena key i (read stored)) other ≡ match y → FoundAt read i (Used t stored ∷ l) y
       by-tag true f = by-key (read stored) refl f
       by-tag false f = absurd (let z : _≡_ {A = ℕ} 0 1 = cc in omega arith)
 
@@ -131,11 +130,11 @@ module _ (read : ℕ → RecordAnswer) (arena key : List ℕ) (tag : ℕ) where
         rest : FindAnswer
         rest = found packed may looks (suc i) bs
 
-        after : (x : Bool) → pick x Nothing rest ≡ Found y → rest ≡ Found y
+        after : (x : Bool) → cond x Nothing rest ≡ Found y → rest ≡ Found y
         after false q = q
         after true q = cc
 
-        go : (s : FindStep) → inBucket packed (looks b) ≡ s → followed s (pick (endsAt i may) Nothing rest) ≡ Found y → (rest ≡ Found y → In) → In
+        go : (s : FindStep) → inBucket packed (looks b) ≡ s → followed s (cond (endsAt i may) Nothing rest) ≡ Found y → (rest ≡ Found y → In) → In
         go (Hit x) g q f = let same : x ≡ y = cc in (b, h, bucket-at packed (8 * b) (slots b) y (g ∙ ap Hit same))
         go Stop g q f = absurd (let z : _≡_ {A = ℕ} 0 1 = cc in omega arith)
         go Next g q f = f (after (endsAt i may) q)
@@ -171,7 +170,7 @@ module _ (view : SegmentView) (packed : Bool) (index : List ℕ) (buckets : ℕ)
       tag : ℕ
       tag = keptTag packed (tagOf h)
 
-      go : (b : Bool) → pick b (found packed (filterHas filter words h) (λ c. looksFrom read arena k tag (8 * c) (slotsOf packed buckets index c)) 0 (bucketWalk h buckets)) Nothing ≡ Found y
+      go : (b : Bool) → cond b (found packed (filterHas filter words h) (λ c. looksFrom read arena k tag (8 * c) (slotsOf packed buckets index c)) 0 (bucketWalk h buckets)) Nothing ≡ Found y
           → FoundAt read 0 (indexSlots packed buckets index) y × (y .slot < 8 * buckets)
       go false e = absurd (let z : _≡_ {A = ℕ} 0 1 = cc in omega arith)
       go true e =
@@ -194,7 +193,7 @@ find-word view index buckets filter words starts lengths arena k h y bound answe
     w : ℕ
     w = getD index (y .slot) 0
 
-    go : (b : Bool) → eqb w 0 ≡ b → {t l : ℕ} → pick b Empty (Used (wordTag w) (wordStored w)) ≡ Used t l → recordIn view arena starts lengths l ≡ Read (y .entry)
+    go : (b : Bool) → eqb w 0 ≡ b → {t l : ℕ} → cond b Empty (Used (wordTag w) (wordStored w)) ≡ Used t l → recordIn view arena starts lengths l ≡ Read (y .entry)
         → (w ≡ 0 → ⊥) × (wordStored w ≡ 0 → ⊥)
     go true e q reads = absurd (let z : _≡_ {A = ℕ} 0 1 = cc in omega arith)
     go false e {l = l} q reads = (

@@ -1,6 +1,6 @@
 -- What an index stands for is kept when it is packed, when its locations are split, and when marks are set or cleared. Assumes nothing.
 use mathlib.Core.Path.{_≡_, refl, sym, ap, _∙_}
-use mathlib.Core.Bool.{Bool, true, false}
+use mathlib.Core.Bool.{Bool, true, false, cond}
 use mathlib.Core.Option.{Option}
 use mathlib.Core.List.{List, [], _∷_, _++_, map, map-map, map-append, flatten, Forall₂}
 use mathlib.Mathlib.Data.List.Forall2.{Forall₂·imp, forall₂-map-left-iff}
@@ -11,7 +11,6 @@ use lib.Dec.{eqb, leb}
 use lib.ListN.{length, getD, take, drop, set, replicate, length-map, length-replicate}
 use lib.Seq.{take-at, take-set-lt, take-set-le, map-set-same, getD-take, length-take-le}
 use borrow.Author.Tests.{eqb-true, ne-eqb, le-leb, leb-true}
-use Rattle.hash_parts.specs.Choice.{pick}
 use Rattle.records.specs.Record.{Stored}
 use Rattle.index.specs.Build.{cleared}
 use Rattle.index.specs.Packed.{packed, withByte, markedByte, unmarkedByte}
@@ -121,7 +120,7 @@ after-none : (ws : List ℕ) (filled target last : ℕ) → filled ≤ last + ta
 unfolding startAfter
 after-none ws filled target last h = rw (le-leb filled (last + target) h) (go (eqb target 0))
   where
-    go : (b : Bool) → pick b noStart noStart ≡ noStart
+    go : (b : Bool) → cond b noStart noStart ≡ noStart
     go true = refl
     go false = refl
 
@@ -163,7 +162,7 @@ module _ {E : Type 0} (Holds Holds′ : ℕ → E → Type 0) (ss : List ℕ) (l
         empty : {d : Option E} → w ≡ 0 → Cell stored H false Holds Empty d → Cell stored H false Holds′ (wordSlot (splitWord ss w)) d
         empty z cell-empty = rw z cell-empty
 
-        go : (b : Bool) → eqb w 0 ≡ b → Cell stored H false Holds (pick b Empty (Used (wordTag w) (wordStored w))) c → Cell stored H false Holds′ (wordSlot (splitWord ss w)) c
+        go : (b : Bool) → eqb w 0 ≡ b → Cell stored H false Holds (cond b Empty (Used (wordTag w) (wordStored w))) c → Cell stored H false Holds′ (wordSlot (splitWord ss w)) c
         go true e y = empty (eqb-true w 0 e) y
         go false e y = split-used w refl refl y
 
@@ -198,6 +197,6 @@ module _ {E : Type 0} (Holds Holds′ : ℕ → E → Type 0) (ss : List ℕ) (l
             rw n at (m .2)
 
         go : (b : Bool) → leb filled target ≡ b
-            → Indexed stored H false Holds′ buckets (wordSlots buckets (pick b index (map (splitWord ss) (take (8 * buckets) index) ++ drop (8 * buckets) index))) filter words r
+            → Indexed stored H false Holds′ buckets (wordSlots buckets (cond b index (map (splitWord ss) (take (8 * buckets) index) ++ drop (8 * buckets) index))) filter words r
         go true e = reheld (stays (leb-true filled target e)) x
         go false e = split-all buckets index x

@@ -1,6 +1,6 @@
 -- A lookup in a finished index finds the first entry of its key, and nothing where there is none. Assumes nothing.
 use mathlib.Core.Path.{_≡_, refl, sym, ap, _∙_}
-use mathlib.Core.Bool.{Bool, true, false}
+use mathlib.Core.Bool.{Bool, true, false, cond}
 use mathlib.Core.Option.{Option, none, some, Option·map}
 use mathlib.Core.List.{List, [], _∷_, head?, Forall₂, Forall₂·nil, Forall₂·cons}
 use Prim.Native.Nat.{ℕ, zero, suc, _+_, _-_, _*_, _/_, _%_, _^_, _≤_, _<_}
@@ -9,7 +9,6 @@ use lib.Dec.{eqb, leb}
 use lib.ListN.{length, take, drop, getD, length-take}
 use lib.Seq.{take-all, drop-drop}
 use borrow.Author.Tests.{eqb-false, leb-true, le-leb}
-use Rattle.hash_parts.specs.Choice.{pick}
 use Rattle.hash_parts.specs.Hash.{tagOf, firstBucket}
 use Rattle.hash_parts.proofs.Products.{first-bucket-below}
 use Rattle.records.specs.Area.{spanned, part}
@@ -67,11 +66,11 @@ module _ (view : SegmentView) (arena starts lengths : List ℕ) where
           omega arith
 
       in-bytes : (b : Bool) → leb (start + len) (length bytes) ≡ b
-          → pick b (answerMoved location start (recordAt (view .expiry) (part start len bytes) (location % 2 ^ 32))) Unreadable ≡ Read x → x .key .at + x .key .len ≤ length arena
+          → cond b (answerMoved location start (recordAt (view .expiry) (part start len bytes) (location % 2 ^ 32))) Unreadable ≡ Read x → x .key .at + x .key .len ≤ length arena
       in-bytes true h e = in-record (recordAt (view .expiry) (part start len bytes) (location % 2 ^ 32)) (leb-true _ _ h) refl e
       in-bytes false h e = absurd (let z : _≡_ {A = ℕ} 0 1 = cc in omega arith)
 
-      in-set : (b : Bool) → pick b (inSegment (view .expiry) bytes start len location) Unreadable ≡ Read x → x .key .at + x .key .len ≤ length arena
+      in-set : (b : Bool) → cond b (inSegment (view .expiry) bytes start len location) Unreadable ≡ Read x → x .key .at + x .key .len ≤ length arena
       in-set true e = in-bytes (leb (start + len) (length bytes)) refl e
       in-set false e = absurd (let z : _≡_ {A = ℕ} 0 1 = cc in omega arith)
 
@@ -103,11 +102,11 @@ module _ {E : Type 0} (stored : E → Stored) (H : List ℕ → ℕ) (packed : B
       x : RecordRef
       x = held l e y .0
 
-      in-tag : (b : Bool) → keyed stored k e ≡ b → Sees stored arena k (pick b (match (record { slot = i; entry = x })) other) (some e)
+      in-tag : (b : Bool) → keyed stored k e ≡ b → Sees stored arena k (cond b (match (record { slot = i; entry = x })) other) (some e)
       in-tag true q = sees-match q (held l e y .2)
       in-tag false q = sees-other q
 
-      go : (b : Bool) → eqb t (keptTag packed (tagOf h)) ≡ b → Sees stored arena k (pick b (seen arena k i (read l)) other) (some e)
+      go : (b : Bool) → eqb t (keptTag packed (tagOf h)) ≡ b → Sees stored arena k (cond b (seen arena k i (read l)) other) (some e)
       go true q = rw (held l e y .1, held l e y .3) (in-tag (keyed stored k e) refl)
       go false q =
           sees-other

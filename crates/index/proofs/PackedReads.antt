@@ -1,6 +1,6 @@
 -- What is read from a packed index: the slots that were packed, each by two words at most, and the same under any marks. Assumes nothing.
 use mathlib.Core.Path.{_≡_, refl, sym, ap, _∙_}
-use mathlib.Core.Bool.{Bool, true, false}
+use mathlib.Core.Bool.{Bool, true, false, cond}
 use mathlib.Core.List.{List, [], _∷_, _++_, map, append-assoc}
 use Prim.Native.Nat.{ℕ, zero, suc, _+_, _-_, _*_, _%_, _^_, _≤_, _<_}
 use native.Mathlib.Nat.{add-zero}
@@ -10,7 +10,6 @@ use borrow.Author.Tests.{ne-eqb}
 use lib.Dec.{eqb, lit<}
 use lib.ListN.{length, getD, take, drop, set, length-append, length-drop, length-set, length-map, take-append-drop}
 use lib.Seq.{take-at, drop-at, drop-drop, drop-set-lt, getD-take, getD-drop, getD-set-same, getD-set-other, set-out, length-take-le}
-use Rattle.hash_parts.specs.Choice.{pick}
 use Rattle.hash_parts.specs.Hash.{controlTag, secondaryTag}
 use Rattle.hash_parts.specs.ZeroBytes.{bytesOf, numberOf}
 use Rattle.hash_parts.proofs.Bytes.{Bytes, no-bytes, one-byte, bytes-append, bytes-take, bytes-drop, bytes-set, bytes-of, length-bytes, bytes-number, number-bytes}
@@ -60,8 +59,8 @@ slot-kept w = go (eqb w 0)
     tag = wordTag w
 
     go : (t : Bool)
-        → packedSlot (pick t 0 (controlTag tag)) (pick t (bytesOf 7 0) (bytesOf 2 (secondaryTag tag) ++ bytesOf 5 (wordStored w)))
-        ≡ repacked (pick t Empty (Used tag (wordStored w)))
+        → packedSlot (cond t 0 (controlTag tag)) (cond t (bytesOf 7 0) (bytesOf 2 (secondaryTag tag) ++ bytesOf 5 (wordStored w)))
+        ≡ repacked (cond t Empty (Used tag (wordStored w)))
     go true = refl
     go false =
         let s : List ℕ = bytesOf 2 (secondaryTag tag) in

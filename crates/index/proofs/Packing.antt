@@ -1,6 +1,6 @@
 -- Packing a bucket. Assumes nothing.
 use mathlib.Core.Path.{_≡_, refl, sym, ap, ap₂, _∙_}
-use mathlib.Core.Bool.{Bool, true, false}
+use mathlib.Core.Bool.{Bool, true, false, cond}
 use mathlib.Core.List.{List, [], _∷_, _++_, append-assoc}
 use Prim.Native.Nat.{ℕ, _+_, _*_, _/_, _%_, _^_, _≤_, _<_}
 use native.Mathlib.Numerals.{add-one, add-two, add-three, add-four, add-five, add-six}
@@ -9,7 +9,6 @@ use borrow.Author.Tests.{eq-eqb, ne-eqb}
 use lib.Dec.{eqb}
 use lib.ListN.{length, take, drop, set, length-append}
 use lib.Seq.{sets-eq, drop-drop}
-use Rattle.hash_parts.specs.Choice.{pick}
 use Rattle.hash_parts.specs.Hash.{controlTag, secondaryTag}
 use Rattle.hash_parts.specs.ZeroBytes.{bytesOf, numberOf}
 use Rattle.hash_parts.proofs.Bytes.{Bytes, bytes-append, bytes-of, length-bytes, bytes-number, number-small, number-bytes, number-two}
@@ -24,7 +23,7 @@ use Rattle.index.proofs.Bytes.{number-front, seven-words}
 pub control-small : (w : ℕ) → controlByte w < 128
 control-small w = go (eqb w 0)
   where
-    go : (t : Bool) → pick t 0 (controlTag (wordTag w)) < 128
+    go : (t : Bool) → cond t 0 (controlTag (wordTag w)) < 128
     go true = omega arith
     go false = omega arith
 
@@ -36,14 +35,14 @@ control-used w {r = r} n e f =
 pub reference-bytes : (w : ℕ) → Bytes (referenceBytes w)
 reference-bytes w = go (eqb w 0)
   where
-    go : (t : Bool) → Bytes (pick t (bytesOf 7 0) (bytesOf 2 (secondaryTag (wordTag w)) ++ bytesOf 5 (wordStored w)))
+    go : (t : Bool) → Bytes (cond t (bytesOf 7 0) (bytesOf 2 (secondaryTag (wordTag w)) ++ bytesOf 5 (wordStored w)))
     go true = bytes-of 7 0
     go false = bytes-append (bytes-of 2 (secondaryTag (wordTag w))) (bytes-of 5 (wordStored w))
 
 pub length-reference : (w : ℕ) → length (referenceBytes w) ≡ 7
 length-reference w = go (eqb w 0)
   where
-    go : (t : Bool) → length (pick t (bytesOf 7 0) (bytesOf 2 (secondaryTag (wordTag w)) ++ bytesOf 5 (wordStored w))) ≡ 7
+    go : (t : Bool) → length (cond t (bytesOf 7 0) (bytesOf 2 (secondaryTag (wordTag w)) ++ bytesOf 5 (wordStored w))) ≡ 7
     go true = length-bytes 7 0
     go false =
         length-append (bytesOf 2 (secondaryTag (wordTag w))) (bytesOf 5 (wordStored w))

@@ -1,6 +1,6 @@
 -- Packing an index bucket by bucket, from the last to the first. Assumes nothing.
 use mathlib.Core.Path.{_≡_, refl, sym, ap, ap₂, _∙_}
-use mathlib.Core.Bool.{Bool, true, false}
+use mathlib.Core.Bool.{Bool, true, false, cond}
 use mathlib.Core.List.{List, [], _∷_, _++_, map, append-assoc}
 use Prim.Native.Nat.{ℕ, zero, suc, _+_, _-_, _*_, _≤_, _<_}
 use native.Mathlib.Nat.{add-zero, sub-zero, sub-self, mul-comm, not-suc-le-zero, le-of-suc-le-suc}
@@ -10,7 +10,6 @@ use borrow.Author.Tests.{le-leb, lt-leb}
 use lib.ListN.{length, getD, take, drop, set, length-append, length-drop, length-set, length-map}
 use lib.Dec.{leb}
 use lib.Seq.{drop-cons, take-suc, set-at, take-at, drop-at, drop-drop, take-take, take-append-le, length-take-le}
-use Rattle.hash_parts.specs.Choice.{pick}
 use Rattle.records.specs.Area.{pasted}
 use Rattle.index.specs.Packed.{concatMap, referenceBytes, controlWord, controlWords, wordsOf, referenceWords, packed, packedIndex, packedScratch}
 use Rattle.index.specs.Walk.{bucketsOf}
@@ -172,7 +171,7 @@ pub short-scratch : (buckets : ℕ) (index scratch : List ℕ) → length scratc
 unfolding packedIndex packedScratch
 short-scratch buckets index scratch h = go (leb (8 * buckets) (length index))
   where
-    go : (t : Bool) → (index ≡ pick (pick t (leb buckets (length scratch)) false) (packed buckets index) index)
-        × (scratch ≡ pick (pick t (leb buckets (length scratch)) false) (controlWords buckets index ++ drop buckets scratch) scratch)
+    go : (t : Bool) → (index ≡ cond (cond t (leb buckets (length scratch)) false) (packed buckets index) index)
+        × (scratch ≡ cond (cond t (leb buckets (length scratch)) false) (controlWords buckets index ++ drop buckets scratch) scratch)
     go true = (rw (lt-leb buckets (length scratch) h), rw (lt-leb buckets (length scratch) h))
     go false = (refl, refl)

@@ -11,7 +11,7 @@ use native.Mathlib.Decide.{decLt}
 use lib.ListN.{length, take, drop, set, replicate, length-append, length-set}
 use lib.Seq.{drop-set-lt}
 use Rattle.index.specs.Walk.{rot}
-use Rattle.index.proofs.Table.{true≢false, not-true, length-rot, rot-back, rot-set, only, hits, past, gapAt, occupied, foldSlots, foldList, place, occupied-rot, pick-append, only-yes, only-no, hits-drop, hits-rot, nothing-past}
+use Rattle.index.proofs.Table.{true≢false, not-true, length-rot, rot-back, rot-set, only, hits, past, gapAt, occupied, foldSlots, foldList, place, occupied-rot, cond-append, only-yes, only-no, hits-drop, hits-rot, nothing-past}
 
 -- ---- one slot changes from empty to occupied
 
@@ -97,7 +97,7 @@ module _ {E : Type 0} (has : E → Bool) (e : E) where
   -- one that passes it
   fill-hits : {l m : List (Option E)} → has e ≡ true → Fill e l m → hits has (past l) ≡ [] → hits has m ≡ hits has l ++ (e ∷ [])
   fill-hits h (at {l}) p = rw (h, p)
-  fill-hits h (on {d} {l} {m} r) p = rw (fill-hits h r p, pick-append has (has d) d (hits has l) (e ∷ []))
+  fill-hits h (on {d} {l} {m} r) p = rw (fill-hits h r p, cond-append has (has d) d (hits has l) (e ∷ []))
 
   fill-past : {l m : List (Option E)} → Fill e l m → hits has (past l) ≡ [] → hits has (past m) ≡ []
   fill-past (at {l}) p = nothing-past has l p

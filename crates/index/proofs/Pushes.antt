@@ -1,6 +1,6 @@
 -- A push puts its entry into the first empty slot of its hash's walk, and so at the end of the list. Assumes nothing.
 use mathlib.Core.Path.{_≡_, refl, sym, ap, _∙_}
-use mathlib.Core.Bool.{Bool, true, false}
+use mathlib.Core.Bool.{Bool, true, false, cond}
 use mathlib.Core.Option.{some}
 use mathlib.Core.List.{List, [], _∷_, _++_, map}
 use Prim.Native.Nat.{ℕ, zero, suc, _+_, _-_, _*_, _/_, _^_, _≤_, _<_}
@@ -9,7 +9,6 @@ use lib.Dec.{leb, ltb}
 use lib.ListN.{length, getD, take, set, length-set}
 use lib.Seq.{take-set-lt, length-take-le}
 use borrow.Author.Tests.{ltb-false, leb-true, leb-false, le-leb, lt-leb}
-use Rattle.hash_parts.specs.Choice.{pick}
 use Rattle.hash_parts.specs.Hash.{tagOf, firstBucket}
 use Rattle.hash_parts.proofs.Products.{first-bucket-below}
 use Rattle.records.specs.Record.{Stored}
@@ -37,7 +36,7 @@ module _ {E : Type 0} {stored : E → Stored} {H : List ℕ → ℕ} {Holds : �
   inserted : (buckets : ℕ) (slots : List IndexSlot) (filter : List ℕ) (words : ℕ) {r : List E} (x : Indexed stored H false Holds buckets slots filter words r)
       → (e : E) (l h a q s : ℕ) → h ≡ H (stored e .key) → h < 2 ^ 64 → a ≡ 8 * firstBucket h buckets → q ≡ gapAt (rot a (x .table)) → q < 8 * buckets
       → s ≡ slotOf (8 * buckets) a q → Holds l e
-      → Indexed stored H false Holds buckets (set slots s (Used (tagOf h) l)) (pick (leb 16 q) (filterMarked filter words h) filter) words (r ++ (e ∷ []))
+      → Indexed stored H false Holds buckets (set slots s (Used (tagOf h) l)) (cond (leb 16 q) (filterMarked filter words h) filter) words (r ++ (e ∷ []))
   inserted buckets slots filter words {r} x e l h a q s hash bound start gap room at holds =
       record {
         table = place (x .table) a e;
@@ -58,11 +57,11 @@ module _ {E : Type 0} {stored : E → Stored} {H : List ℕ → ℕ} {Holds : �
       homes : (k : List ℕ) → keyed stored k e ≡ true → 8 * firstBucket (H k) buckets ≡ a
       homes k y = rw (← shared k y) (sym start)
 
-      grows : (k : List ℕ) (b : Bool) → filterHas filter words (H k) ≡ true → filterHas (pick b (filterMarked filter words h) filter) words (H k) ≡ true
+      grows : (k : List ℕ) (b : Bool) → filterHas filter words (H k) ≡ true → filterHas (cond b (filterMarked filter words h) filter) words (H k) ≡ true
       grows k true m = mark-grows filter words h (H k) bound m
       grows k false m = m
 
-      own : (k : List ℕ) → keyed stored k e ≡ true → 16 ≤ q → filterHas (pick (leb 16 q) (filterMarked filter words h) filter) words (H k) ≡ true
+      own : (k : List ℕ) → keyed stored k e ≡ true → 16 ≤ q → filterHas (cond (leb 16 q) (filterMarked filter words h) filter) words (H k) ≡ true
       own k y z = rw (le-leb 16 q z, ← shared k y) (own-mark filter words h bound)
 
 -- ---- a slot's displacement
@@ -72,7 +71,7 @@ displaced-position : (first buckets q : ℕ) → first ≤ buckets - 1 → q < 8
 unfolding displaced
 displaced-position first buckets q below room = go (ltb (8 * first + q) (8 * buckets)) refl
   where
-    go : (b : Bool) → ltb (8 * first + q) (8 * buckets) ≡ b → displaced first (pick b (8 * first + q) (8 * first + q - 8 * buckets) / 8) buckets ≡ q / 8
+    go : (b : Bool) → ltb (8 * first + q) (8 * buckets) ≡ b → displaced first (cond b (8 * first + q) (8 * first + q - 8 * buckets) / 8) buckets ≡ q / 8
     go true e =
         let c : ℕ = (8 * first + q) / 8 in
         let h : first ≤ c = omega arith in
@@ -144,7 +143,7 @@ module _ {E : Type 0} {stored : E → Stored} {H : List ℕ → ℕ} {Holds : �
   -- the entry e at location l
   module _ (e : E) (l : ℕ) (hash : h ≡ H (stored e .key)) (holds : Holds (l + 1) e) (fits : l + 1 < 2 ^ 40) where
     pub pushed : Indexed stored H false Holds buckets (wordSlots buckets (set index s (wordOf (tagOf h) l)))
-        (pick (leb 2 (displaced (firstBucket h buckets) (s / 8) buckets)) (filterMarked filter words h) filter) words (r ++ (e ∷ []))
+        (cond (leb 2 (displaced (firstBucket h buckets) (s / 8) buckets)) (filterMarked filter words h) filter) words (r ++ (e ∷ []))
     pushed =
         rw (slots-set buckets index s (wordOf (tagOf h) l) push-below, new-slot (tagOf h) l (omega arith) fits, push-far)
         (inserted buckets (wordSlots buckets index) filter words x e (l + 1) h (8 * firstBucket h buckets) gap s hash bound refl refl (push-slot .0) (push-slot .1) holds)

@@ -1,6 +1,6 @@
 -- The search for a push's slot as one search over the slots of the walk, and what the slots say of the entries in them. Assumes nothing.
 use mathlib.Core.Path.{_≡_, refl, sym, ap, ap₂, _∙_}
-use mathlib.Core.Bool.{Bool, true, false}
+use mathlib.Core.Bool.{Bool, true, false, cond}
 use mathlib.Core.Option.{Option, none, some}
 use mathlib.Core.List.{List, [], _∷_, _++_, map, flatten, Forall₂, Forall₂·nil, Forall₂·cons}
 use mathlib.Mathlib.Data.List.Forall2.{forall₂-map-left-iff}
@@ -10,7 +10,6 @@ use native.Mathlib.Omega.{arith}
 use lib.Dec.{eqb}
 use lib.ListN.{length, getD, take, drop}
 use borrow.Author.Tests.{le-leb}
-use Rattle.hash_parts.specs.Choice.{pick}
 use Rattle.hash_parts.specs.Hash.{tagOf, firstBucket}
 use Rattle.records.specs.Record.{Stored}
 use Rattle.index.specs.Build.{Look, vacant, same, passed, look, looks, searched, searchedAll, slotFor}
@@ -74,7 +73,7 @@ module _ (taken : ℕ → Bool) where
       let z : 0 + p ≡ p = omega arith in
       go (eqb (getD l p 0) 0) (taken (getD l p 0)) (sym (getD-looks 0 l p h ∙ ap (λ (j : ℕ). look taken j (getD l p 0)) z) ∙ e)
     where
-      go : (x y : Bool) → pick x (vacant p) (pick y same passed) ≡ vacant s → s ≡ p
+      go : (x y : Bool) → cond x (vacant p) (cond y same passed) ≡ vacant s → s ≡ p
       go true y q = cc
       go false true q = cc
       go false false q = cc
@@ -153,15 +152,15 @@ module _ {E : Type 0} {stored : E → Stored} {H : List ℕ → ℕ} {Holds : �
   unfolding wordSlot
   look-says i w x = go (eqb w 0) x
     where
-      used : {t l : ℕ} {c : Option E} → t ≡ wordTag w → l ≡ wordStored w → Cell stored H false Holds (slot.Used t l) c → Says Tells (pick (taken w) same passed) c
+      used : {t l : ℕ} {c : Option E} → t ≡ wordTag w → l ≡ wordStored w → Cell stored H false Holds (slot.Used t l) c → Says Tells (cond (taken w) same passed) c
       used p q (cell-used {e = e} r y) = at (taken w) (tells w e (sym p ∙ r) (rw q at y))
         where
-          at : (b : Bool) → Tells b e → Says Tells (pick b same passed) (some e)
+          at : (b : Bool) → Tells b e → Says Tells (cond b same passed) (some e)
           at true v = says-same v
           at false v = says-passed v
 
-      go : (b : Bool) {c : Option E} → Cell stored H false Holds (pick b slot.Empty (slot.Used (wordTag w) (wordStored w))) c
-          → Says Tells (pick b (vacant i) (pick (taken w) same passed)) c
+      go : (b : Bool) {c : Option E} → Cell stored H false Holds (cond b slot.Empty (slot.Used (wordTag w) (wordStored w))) c
+          → Says Tells (cond b (vacant i) (cond (taken w) same passed)) c
       go true cell-empty = says-vacant
       go false y = used refl refl y
 

@@ -1,6 +1,6 @@
 -- Laws of segment starts: the next start, the starts one by one, and that they ascend. Assumes nothing.
 use mathlib.Core.Path.{_≡_, refl, _∙_}
-use mathlib.Core.Bool.{Bool, true, false}
+use mathlib.Core.Bool.{Bool, true, false, cond}
 use mathlib.Core.List.{List, [], _∷_}
 use Prim.Native.Nat.{ℕ, zero, suc, _+_, _-_, _*_, _/_, _≤_, _<_, min}
 use native.Mathlib.Nat.{not-suc-le-zero}
@@ -11,7 +11,6 @@ use lib.Dec.{leb, ltb, eqb}
 use lib.ListN.{length, take, drop, getD, drop-of-length-le}
 use lib.Seq.{drop-cons}
 use borrow.Author.Tests.{ltb-true, eqb-false, lt-ltb, le-ltb, le-leb, lt-leb, eq-eqb, ne-eqb}
-use Rattle.hash_parts.specs.Choice.{pick}
 use Rattle.index.specs.Word.{wordStored}
 use Rattle.index.specs.Segments.{noStart, startsAt, nextStart, startIn, startAfter, startsAfter, startsOf, inside, allInside, locationsInside}
 use Rattle.index.specs.SegmentStarts.{Ascends}
@@ -32,7 +31,7 @@ unfolding nextStart
 next-start-most [] bound = omega arith
 next-start-most (w ∷ words) bound = go (startsAt bound w) (next-start-most words bound)
   where
-    go : (b : Bool) → nextStart words bound ≤ noStart → pick b (min (wordStored w - 1) (nextStart words bound)) (nextStart words bound) ≤ noStart
+    go : (b : Bool) → nextStart words bound ≤ noStart → cond b (min (wordStored w - 1) (nextStart words bound)) (nextStart words bound) ≤ noStart
     go true h = omega arith
     go false h = h
 
@@ -44,8 +43,8 @@ next-start-from (w ∷ words) bound h = go (startsAt bound w) refl h (next-start
     rest : ℕ
     rest = nextStart words bound
 
-    go : (b : Bool) → startsAt bound w ≡ b → pick b (min (wordStored w - 1) rest) rest < noStart → (rest < noStart → Located words bound rest)
-        → Located (w ∷ words) bound (pick b (min (wordStored w - 1) rest) rest)
+    go : (b : Bool) → startsAt bound w ≡ b → cond b (min (wordStored w - 1) rest) rest < noStart → (rest < noStart → Located words bound rest)
+        → Located (w ∷ words) bound (cond b (min (wordStored w - 1) rest) rest)
     go false e h f = further w words bound rest (f h)
     go true e h f =
         let above : bound < wordStored w = ltb-true bound (wordStored w) e in
@@ -58,12 +57,12 @@ next-start-from (w ∷ words) bound h = go (startsAt bound w) refl h (next-start
 
 -- the lowest start so far, and a word more
 abbrev pub lower : ℕ → ℕ → ℕ → ℕ
-lower w bound lowest = pick (startsAt bound w) (min (wordStored w - 1) lowest) lowest
+lower w bound lowest = cond (startsAt bound w) (min (wordStored w - 1) lowest) lowest
 
 pub lower-most : (w bound lowest most : ℕ) → lowest ≤ most → lower w bound lowest ≤ most
 lower-most w bound lowest most h = go (startsAt bound w)
   where
-    go : (b : Bool) → pick b (min (wordStored w - 1) lowest) lowest ≤ most
+    go : (b : Bool) → cond b (min (wordStored w - 1) lowest) lowest ≤ most
     go true = omega arith
     go false = h
 
@@ -73,7 +72,7 @@ module _ (words : List ℕ) (bound lowest i : ℕ) where
   unfolding nextStart
   scan-step lowest′ h e = rw (e, drop-cons words i 0 h, add-one i) (go (startsAt bound (getD words i 0)) (nextStart (drop (suc i) words) bound) (wordStored (getD words i 0) - 1))
     where
-      go : (b : Bool) (rest location : ℕ) → min (pick b (min location lowest) lowest) rest ≡ min lowest (pick b (min location rest) rest)
+      go : (b : Bool) (rest location : ℕ) → min (cond b (min location lowest) lowest) rest ≡ min lowest (cond b (min location rest) rest)
       go true rest location = omega arith
       go false rest location = refl
 
@@ -114,7 +113,7 @@ module _ (words : List ℕ) (filled target last : ℕ) where
       next : ℕ
       next = nextStart words (last + target)
 
-      go : (z w : Bool) → eqb target 0 ≡ z → pick z noStart (pick w noStart next) < noStart → last < pick z noStart (pick w noStart next)
+      go : (z w : Bool) → eqb target 0 ≡ z → cond z noStart (cond w noStart next) < noStart → last < cond z noStart (cond w noStart next)
       go true w e h = absurd (omega arith)
       go false true e h = absurd (omega arith)
       go false false e h =
@@ -123,7 +122,7 @@ module _ (words : List ℕ) (filled target last : ℕ) where
 
 -- the starts from one on, and at most so many after it
 abbrev pub startsFrom : ℕ → List ℕ → ℕ → ℕ → ℕ → List ℕ
-startsFrom n words filled target next = pick (ltb next noStart) (next ∷ startsAfter n words filled target next) []
+startsFrom n words filled target next = cond (ltb next noStart) (next ∷ startsAfter n words filled target next) []
 
 module _ (words : List ℕ) (filled target : ℕ) where
   pub starts-from : startsOf words filled target ≡ startsFrom 256 words filled target 0
@@ -160,7 +159,7 @@ module _ (words : List ℕ) (filled target : ℕ) where
       next : ℕ
       next = startAfter words filled target last
 
-      go : (b : Bool) → ltb next noStart ≡ b → Ascends (next ∷ startsAfter n words filled target next) → Ascends (last ∷ pick b (next ∷ startsAfter n words filled target next) [])
+      go : (b : Bool) → ltb next noStart ≡ b → Ascends (next ∷ startsAfter n words filled target next) → Ascends (last ∷ cond b (next ∷ startsAfter n words filled target next) [])
       go true e asc = above-all last next (startsAfter n words filled target next) (after-above words filled target last (ltb-true next noStart e)) asc
       go false e asc = alone last
 
@@ -176,7 +175,7 @@ module _ (words : List ℕ) (filled target : ℕ) where
       next : ℕ
       next = startAfter words filled target last
 
-      go : (b : Bool) → length (startsAfter n words filled target next) ≤ n → length (pick b (next ∷ startsAfter n words filled target next) []) ≤ suc n
+      go : (b : Bool) → length (startsAfter n words filled target next) ≤ n → length (cond b (next ∷ startsAfter n words filled target next) []) ≤ suc n
       go true h = omega arith
       go false h = omega arith
 
@@ -192,7 +191,7 @@ module _ (filled : ℕ) where
   inside-at [] e i h = absurd (not-suc-le-zero h)
   inside-at (w ∷ words) e i h = go (inside filled w) refl e (inside-at words) i h
     where
-      go : (b : Bool) → inside filled w ≡ b → pick b (allInside filled words) false ≡ true
+      go : (b : Bool) → inside filled w ≡ b → cond b (allInside filled words) false ≡ true
           → (allInside filled words ≡ true → (i : ℕ) → i < length words → inside filled (getD words i 0) ≡ true)
           → (i : ℕ) → i < length (w ∷ words) → inside filled (getD (w ∷ words) i 0) ≡ true
       go true q e rest zero h = q
@@ -200,7 +199,7 @@ module _ (filled : ℕ) where
       go false q e rest i h = absurd (let z : _≡_ {A = ℕ} 0 1 = cc in omega arith)
 
   module _ (words : List ℕ) (i : ℕ) where
-    inside-step : i < length words → allInside filled (drop i words) ≡ pick (inside filled (getD words i 0)) (allInside filled (drop (i + 1) words)) false
+    inside-step : i < length words → allInside filled (drop i words) ≡ cond (inside filled (getD words i 0)) (allInside filled (drop (i + 1) words)) false
     unfolding allInside
     inside-step h = rw (drop-cons words i 0 h, add-one i)
 

@@ -1,6 +1,6 @@
 -- The loop over the candidates of a bucket. Assumes nothing.
 use mathlib.Core.Path.{_≡_, refl, sym, ap, _∙_}
-use mathlib.Core.Bool.{Bool, true, false}
+use mathlib.Core.Bool.{Bool, true, false, cond}
 use mathlib.Core.List.{List}
 use Prim.Native.Nat.{ℕ, _+_, _*_, _≤_, _<_}
 use native.Mathlib.Nat.{zero-add}
@@ -8,7 +8,6 @@ use native.Mathlib.Omega.{arith}
 use lib.Dec.{ltb}
 use lib.ListN.{length, take, drop, getD, length-map, length-drop}
 use lib.Seq.{length-take-le}
-use Rattle.hash_parts.specs.Choice.{pick}
 use Rattle.hash_parts.specs.Hash.{controlTag, secondaryTag}
 use Rattle.hash_parts.specs.ZeroBytes.{bytesOf, firstMark, lowestSet, marks, withoutLowest}
 use Rattle.hash_parts.proofs.Visit.{restMarks, visited, first-right, first-lt, rest-right, rest-length, rest-less, visit-first, visit-none}
@@ -81,7 +80,7 @@ module _ (read : ℕ → RecordAnswer) (arena key : List ℕ) (packed : Bool) (t
 
   -- what the slots of the tag say
   abbrev pub searched : FindStep
-  searched = pick packed (sweep slots) (scan slots)
+  searched = cond packed (sweep slots) (scan slots)
 
 module _ (read : ℕ → RecordAnswer) (arena key : List ℕ) where
   pub visiting-begins : (packed : Bool) (tag buckets : ℕ) (index : List ℕ) (bucket m : ℕ) → 8 * bucket + 8 ≤ length index → m ≡ marks (candidates packed tag index bucket)
@@ -118,8 +117,8 @@ module _ (read : ℕ → RecordAnswer) (arena key : List ℕ) where
   bucket-step true tag buckets index bucket Next e n = absurd (n refl)
 
   -- none is of the key: an empty slot ends the walk in the packed layout
-  pub bucket-ends : (packed : Bool) (tag buckets : ℕ) (index : List ℕ) (bucket : ℕ) (gap : Bool) → gap ≡ pick packed (ltb 0 (marks (tagged 0 (getD index bucket 0)))) false
-      → searched read arena key packed tag buckets index bucket ≡ Next → pick gap Stop Next ≡ inBucket packed (slots read arena key packed tag buckets index bucket)
+  pub bucket-ends : (packed : Bool) (tag buckets : ℕ) (index : List ℕ) (bucket : ℕ) (gap : Bool) → gap ≡ cond packed (ltb 0 (marks (tagged 0 (getD index bucket 0)))) false
+      → searched read arena key packed tag buckets index bucket ≡ Next → cond gap Stop Next ≡ inBucket packed (slots read arena key packed tag buckets index bucket)
   unfolding packedBucket
   bucket-ends false tag buckets index bucket gap g e = rw (g, e)
   bucket-ends true tag buckets index bucket gap g e =

@@ -1,6 +1,6 @@
 -- A table of slots, each empty or with an entry, seen by walks that start at any slot and go around. Assumes nothing.
 use mathlib.Core.Path.{_≡_, refl, sym, ap, _∙_, subst}
-use mathlib.Core.Bool.{Bool, true, false}
+use mathlib.Core.Bool.{Bool, true, false, cond}
 use mathlib.Core.Option.{Option, none, some}
 use mathlib.Core.List.{List, [], _∷_, _++_, append-nil}
 use Prim.Native.Nat.{ℕ, suc, _+_, _-_, _≤_, _<_}
@@ -10,7 +10,6 @@ use lib.Dec.{T, ltb}
 use lib.ListN.{length, getD, take, drop, set, length-append, length-take, length-drop, take-append-drop, List·getD-append}
 use lib.Seq.{take-at, drop-at, set-append-left, take-set-le, drop-set-add, take-set-lt, drop-set-lt, getD-drop, getD-take, getD-append-add}
 use borrow.Author.Tests.{ltb-true, ltb-false}
-use Rattle.hash_parts.specs.Choice.{pick}
 use Rattle.index.specs.Walk.{rot}
 
 -- ---- tests
@@ -25,12 +24,12 @@ not-true false h = refl
 -- ---- the slot at position s of the walk from slot a, of n
 
 abbrev pub slotOf : ℕ → ℕ → ℕ → ℕ
-slotOf n a s = pick (ltb (a + s) n) (a + s) (a + s - n)
+slotOf n a s = cond (ltb (a + s) n) (a + s) (a + s - n)
 
 pub slot-below : (n a q : ℕ) → a ≤ n → q < n → slotOf n a q < n
 slot-below n a q ha hq = go (ltb (a + q) n) refl
   where
-    go : (b : Bool) → ltb (a + q) n ≡ b → pick b (a + q) (a + q - n) < n
+    go : (b : Bool) → ltb (a + q) n ≡ b → cond b (a + q) (a + q - n) < n
     go true e = ltb-true _ _ e
     go false e = omega (arith, ltb-false (a + q) n e)
 
@@ -63,7 +62,7 @@ module _ {A : Type 0} where
         len : length (drop a l) ≡ length l - a
         len = length-drop a l
 
-        go : (b : Bool) → ltb (a + q) (length l) ≡ b → rot a (set l (pick b (a + q) (a + q - length l)) c) ≡ set (rot a l) q c
+        go : (b : Bool) → ltb (a + q) (length l) ≡ b → rot a (set l (cond b (a + q) (a + q - length l)) c) ≡ set (rot a l) q c
         go true e =
             let h : a + q < length l = ltb-true _ _ e in
             rw (drop-set-add a l q c, take-set-le a l (a + q) c (omega arith), set-append-left (drop a l) (take a l) q c (omega (arith, len)))
@@ -80,7 +79,7 @@ module _ {A : Type 0} where
         len : length (drop a l) ≡ length l - a
         len = length-drop a l
 
-        go : (b : Bool) → ltb (a + q) (length l) ≡ b → getD (rot a l) q d ≡ getD l (pick b (a + q) (a + q - length l)) d
+        go : (b : Bool) → ltb (a + q) (length l) ≡ b → getD (rot a l) q d ≡ getD l (cond b (a + q) (a + q - length l)) d
         go true e =
             let h : a + q < length l = ltb-true _ _ e in
             List·getD-append (drop a l) (take a l) d q (omega (arith, len)) ∙ getD-drop a l q d
@@ -94,12 +93,12 @@ module _ {E : Type 0} where
   -- the entries that pass the test, in order: of a list, and of the slots
   abbrev pub only : (E → Bool) → List E → List E
   only has [] = []
-  only has (e ∷ l) = pick (has e) (e ∷ only has l) (only has l)
+  only has (e ∷ l) = cond (has e) (e ∷ only has l) (only has l)
 
   abbrev pub hits : (E → Bool) → List (Option E) → List E
   hits has [] = []
   hits has (none ∷ l) = hits has l
-  hits has (some e ∷ l) = pick (has e) (e ∷ hits has l) (hits has l)
+  hits has (some e ∷ l) = cond (has e) (e ∷ hits has l) (hits has l)
 
   -- what stands past the first empty slot
   abbrev pub past : List (Option E) → List (Option E)
@@ -154,18 +153,18 @@ module _ {E : Type 0} where
 -- ---- what a test finds
 
 module _ {E : Type 0} (has : E → Bool) where
-  pub pick-append : (b : Bool) (e : E) (x m : List E) → pick b (e ∷ x) x ++ m ≡ pick b (e ∷ (x ++ m)) (x ++ m)
-  pick-append true e x m = refl
-  pick-append false e x m = refl
+  pub cond-append : (b : Bool) (e : E) (x m : List E) → cond b (e ∷ x) x ++ m ≡ cond b (e ∷ (x ++ m)) (x ++ m)
+  cond-append true e x m = refl
+  cond-append false e x m = refl
 
   pub hits-append : (l m : List (Option E)) → hits has (l ++ m) ≡ hits has l ++ hits has m
   hits-append [] m = refl
   hits-append (none ∷ l) m = hits-append l m
-  hits-append (some e ∷ l) m = rw (hits-append l m, pick-append (has e) e (hits has l) (hits has m))
+  hits-append (some e ∷ l) m = rw (hits-append l m, cond-append (has e) e (hits has l) (hits has m))
 
   only-append : (l m : List E) → only has (l ++ m) ≡ only has l ++ only has m
   only-append [] m = refl
-  only-append (d ∷ l) m = rw (only-append l m, pick-append (has d) d (only has l) (only has m))
+  only-append (d ∷ l) m = rw (only-append l m, cond-append (has d) d (only has l) (only has m))
 
   pub only-yes : (e : E) (l : List E) → has e ≡ true → only has (l ++ (e ∷ [])) ≡ only has l ++ (e ∷ [])
   only-yes e l h = only-append l (e ∷ []) ∙ rw h
@@ -178,7 +177,7 @@ module _ {E : Type 0} (has : E → Bool) where
   only-has [] h = cc
   only-has (d ∷ r) {e = e} {l = l} h = go (has d) refl h (λ q. only-has r q)
     where
-      go : (b : Bool) → has d ≡ b → pick b (d ∷ only has r) (only has r) ≡ e ∷ l → (only has r ≡ e ∷ l → has e ≡ true) → has e ≡ true
+      go : (b : Bool) → has d ≡ b → cond b (d ∷ only has r) (only has r) ≡ e ∷ l → (only has r ≡ e ∷ l → has e ≡ true) → has e ≡ true
       go true y q f =
           let same : d ≡ e = cc in
           rw same at y

@@ -2,13 +2,12 @@
 -- and filter words that their counts need; words past them are never written. .. A push takes the first empty slot, walking on from the first
 -- bucket and around."
 -- Assumes nothing.
-use mathlib.Core.Bool.{Bool, false}
+use mathlib.Core.Bool.{Bool, false, cond}
 use mathlib.Core.List.{List, [], _∷_, _++_}
 use mathlib.Core.Option.{Option, none, some}
 use Prim.Native.Nat.{ℕ, zero, suc, _+_, _*_, max}
 use lib.Dec.{eqb, leb}
 use lib.ListN.{length, take, drop, replicate}
-use Rattle.hash_parts.specs.Choice.{pick}
 use Rattle.hash_parts.specs.Duration.{ceilDiv}
 use Rattle.hash_parts.specs.Hash.{tagOf}
 use Rattle.hash_parts.specs.Outcome.{Outcome, accepted, refused}
@@ -23,11 +22,11 @@ use Rattle.index.specs.declared.build.BuildSlot.the-variants.{Empty, Dup
 
 -- buckets for so many records at this occupancy; one for occupancy 0, which question 3 refuses
 unfoldable pub bucketsFor : ℕ → ℕ → ℕ
-bucketsFor records occupied = pick (eqb occupied 0) 1 (max 1 (ceilDiv records occupied))
+bucketsFor records occupied = cond (eqb occupied 0) 1 (max 1 (ceilDiv records occupied))
 
 -- an area with its first words set to 0; a shorter one as it is
 unfoldable pub cleared : List ℕ → ℕ → List ℕ
-cleared area count = pick (leb count (length area)) (replicate count 0 ++ drop count area) area
+cleared area count = cond (leb count (length area)) (replicate count 0 ++ drop count area) area
 
 -- ---- what a slot says to a push
 
@@ -48,11 +47,11 @@ hasKey key (some r) = sameBytes (r .key) key
 
 -- whether a word has the tag and names a record with the key
 unfoldable pub holdsKey : (ℕ → Option Stored) → List ℕ → ℕ → ℕ → Bool
-holdsKey read key tag w = pick (eqb (wordTag w) tag) (hasKey key (read (wordStored w))) false
+holdsKey read key tag w = cond (eqb (wordTag w) tag) (hasKey key (read (wordStored w))) false
 
 -- slot i, whose word is w; `taken` says whether a word holds the key
 abbrev pub look : (ℕ → Bool) → ℕ → ℕ → Look
-look taken i w = pick (eqb w 0) (vacant i) (pick (taken w) same passed)
+look taken i w = cond (eqb w 0) (vacant i) (cond (taken w) same passed)
 
 -- the slots from i on
 unfoldable pub looks : (ℕ → Bool) → ℕ → List ℕ → List Look
@@ -74,7 +73,7 @@ searchedAll looks (b ∷ bs) = searched (looks b) (searchedAll looks bs)
 -- the first empty slot of a hash's walk, or a word before it that is taken by the key; an area with fewer words has no slot
 unfoldable pub slotFor : (ℕ → Bool) → List ℕ → ℕ → ℕ → BuildSlot
 slotFor taken index buckets h =
-    pick (leb (8 * buckets) (length index)) (searchedAll (λ b. looks taken (8 * b) (take 8 (drop (8 * b) index))) (bucketWalk h buckets)) Full
+    cond (leb (8 * buckets) (length index)) (searchedAll (λ b. looks taken (8 * b) (take 8 (drop (8 * b) index))) (bucketWalk h buckets)) Full
 
 -- its answer as document 01 counts it: "Key new among the words of its tag on its walk? 4."; "A push that walks all buckets without an empty slot would
 -- also give 3, at that walk's end after 4"
@@ -97,4 +96,4 @@ emptySlot index buckets h = slotOutcome (slotFor never index buckets h)
 
 -- the bucket after a bucket, around
 unfoldable pub nextBucket : ℕ → ℕ → ℕ
-nextBucket bucket buckets = pick (leb buckets (bucket + 1)) 0 (bucket + 1)
+nextBucket bucket buckets = cond (leb buckets (bucket + 1)) 0 (bucket + 1)

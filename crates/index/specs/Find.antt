@@ -2,12 +2,11 @@
 -- bytes are visited from the lowest set bit up"; questions: "An index word of the right tag whose record can't be read, stored location 0 included,
 -- ends a lookup with nothing".
 -- Assumes nothing.
-use mathlib.Core.Bool.{Bool, true, false, not}
+use mathlib.Core.Bool.{Bool, true, false, cond, not}
 use mathlib.Core.List.{List, [], _∷_, map}
 use Prim.Native.Nat.{ℕ, suc, _*_, _/_, _%_}
 use lib.Dec.{eqb, leb, ltb}
 use lib.ListN.{length, take, drop, getD}
-use Rattle.hash_parts.specs.Choice.{pick}
 use Rattle.hash_parts.specs.Hash.{tagOf}
 use Rattle.records.specs.Area.{spanned, sameBytes}
 use Rattle.records.specs.declared.record.RecordAnswer.{RecordAnswer}
@@ -37,13 +36,13 @@ pub data Look : Type 0 where
 
 -- slot i, where reading gave this
 abbrev pub seen : List ℕ → List ℕ → ℕ → RecordAnswer → Look
-seen arena key i (Read r) = pick (sameBytes (spanned arena (r .key)) key) (match (record { slot = i; entry = r })) other
+seen arena key i (Read r) = cond (sameBytes (spanned arena (r .key)) key) (match (record { slot = i; entry = r })) other
 seen arena key i Unreadable = broken
 
 -- slot i; `read` reads under a stored location, and `tag` is what the layout keeps of the hash's tag
 abbrev pub look : (ℕ → RecordAnswer) → List ℕ → List ℕ → ℕ → ℕ → IndexSlot → Look
 look read arena key tag i Empty = empty
-look read arena key tag i (Used t stored) = pick (eqb t tag) (seen arena key i (read stored)) other
+look read arena key tag i (Used t stored) = cond (eqb t tag) (seen arena key i (read stored)) other
 
 -- the slots from i on
 unfoldable pub looksFrom : (ℕ → RecordAnswer) → List ℕ → List ℕ → ℕ → ℕ → List IndexSlot → List Look
@@ -79,14 +78,14 @@ hasEmpty (match r ∷ l) = hasEmpty l
 abbrev pub ended : Bool → FindStep → FindStep
 ended gap (Hit r) = Hit r
 ended gap Stop = Stop
-ended gap Next = pick gap Stop Next
+ended gap Next = cond gap Stop Next
 
 abbrev pub sweptOut : List Look → FindStep
 sweptOut l = ended (hasEmpty l) (sweep l)
 
 -- a bucket in either layout
 abbrev pub inBucket : Bool → List Look → FindStep
-inBucket packed l = pick packed (sweptOut l) (scan l)
+inBucket packed l = cond packed (sweptOut l) (scan l)
 
 -- ---- the walk
 
@@ -97,27 +96,27 @@ followed Next after = after
 
 -- whether the filter's answer ends a walk after its i-th bucket, counted from 0
 abbrev pub endsAt : ℕ → Bool → Bool
-endsAt i may = pick (eqb i 1) (not may) false
+endsAt i may = cond (eqb i 1) (not may) false
 
 -- the buckets of a walk, from its i-th on; `looks` are a bucket's slots, and `may` is the filter's answer, asked after the second bucket
 unfoldable pub found : Bool → Bool → (ℕ → List Look) → ℕ → List ℕ → FindAnswer
 found packed may looks i [] = Nothing
 found packed may looks i (b ∷ bs) =
-    followed (inBucket packed (looks b)) (pick (endsAt i may) Nothing (found packed may looks (suc i) bs))
+    followed (inBucket packed (looks b)) (cond (endsAt i may) Nothing (found packed may looks (suc i) bs))
 
 -- the slots of bucket b of a finished index
 abbrev pub slotsOf : Bool → ℕ → List ℕ → ℕ → List IndexSlot
-slotsOf packed buckets index b = pick packed (packedBucket buckets index b) (map wordSlot (take 8 (drop (8 * b) index)))
+slotsOf packed buckets index b = cond packed (packedBucket buckets index b) (map wordSlot (take 8 (drop (8 * b) index)))
 
 -- slot s of a finished index; empty past its buckets, and in an area with fewer words than they need
 unfoldable pub slotAt : Bool → ℕ → List ℕ → ℕ → IndexSlot
 slotAt packed buckets index s =
-    pick (leb (8 * buckets) (length index)) (pick (ltb s (8 * buckets)) (getD (slotsOf packed buckets index (s / 8)) (s % 8) Empty) Empty) Empty
+    cond (leb (8 * buckets) (length index)) (cond (ltb s (8 * buckets)) (getD (slotsOf packed buckets index (s / 8)) (s % 8) Empty) Empty) Empty
 
 -- the first record of the key on the walk of its hash; an area with fewer words than the buckets need holds none
 unfoldable pub findIn : SegmentView → Bool → List ℕ → ℕ → List ℕ → ℕ → List ℕ → List ℕ → List ℕ → List ℕ → ℕ → FindAnswer
 findIn view packed index buckets filter words starts lengths arena key h =
-    pick (leb (8 * buckets) (length index))
+    cond (leb (8 * buckets) (length index))
     (found packed (filterHas filter words h)
     (λ b. looksFrom (recordIn view arena starts lengths) arena key (keptTag packed (tagOf h)) (8 * b) (slotsOf packed buckets index b))
     0 (bucketWalk h buckets))

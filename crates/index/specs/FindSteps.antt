@@ -1,12 +1,11 @@
 -- What finding a record comes to in one slot, and which slots of a bucket are looked at. Only private functions cite it: of a find one must believe
 -- `findIn` alone.
 -- Assumes nothing.
-use mathlib.Core.Bool.{Bool, true, false}
+use mathlib.Core.Bool.{Bool, true, false, cond}
 use mathlib.Core.List.{List, [], _∷_, map}
 use Prim.Native.Nat.{ℕ, zero, suc, _*_, _%_}
 use lib.Dec.{eqb}
 use lib.ListN.{take, drop, getD}
-use Rattle.hash_parts.specs.Choice.{pick}
 use Rattle.hash_parts.specs.Hash.{controlTag}
 use Rattle.hash_parts.specs.ZeroBytes.{bytesOf}
 use Rattle.index.specs.Find.{Look, empty, other, broken, match}
@@ -38,7 +37,7 @@ tagged t control = map (hasTag t) (bytesOf 8 control)
 unfoldable pub passedOver : ℕ → List IndexSlot → ℕ
 passedOver tag [] = 0
 passedOver tag (Empty ∷ l) = 0
-passedOver tag (Used t stored ∷ l) = pick (eqb t tag) 0 (suc (passedOver tag l))
+passedOver tag (Used t stored ∷ l) = cond (eqb t tag) 0 (suc (passedOver tag l))
 
 -- of n slots, those from the s-th on
 unfoldable pub fromOn : ℕ → ℕ → List Bool
@@ -48,4 +47,4 @@ fromOn (suc s) (suc n) = false ∷ fromOn s n
 
 abbrev pub candidates : Bool → ℕ → List ℕ → ℕ → List Bool
 candidates packed tag index b =
-    pick packed (tagged (controlTag tag) (getD index b 0)) (fromOn (passedOver tag (map wordSlot (take 8 (drop (8 * b) index)))) 8)
+    cond packed (tagged (controlTag tag) (getD index b 0)) (fromOn (passedOver tag (map wordSlot (take 8 (drop (8 * b) index)))) 8)

@@ -1,12 +1,11 @@
 -- The packed index. Document 01: "One control word a bucket, then 7 bytes a slot: tag div 128 (2 bytes), location + 1 (5 bytes), little-endian. Control
 -- byte: (tag mod 128) mod 127 + 1, empty 0, top bit the mark." The references of a bucket, 8 × 7 bytes, are just seven words.
 -- Assumes nothing.
-use mathlib.Core.Bool.{Bool, false}
+use mathlib.Core.Bool.{Bool, false, cond}
 use mathlib.Core.List.{List, [], _∷_, _++_, map}
 use Prim.Native.Nat.{ℕ, zero, suc, _+_, _-_, _*_, _%_}
 use lib.Dec.{eqb, leb}
 use lib.ListN.{length, take, drop, set, getD}
-use Rattle.hash_parts.specs.Choice.{pick}
 use Rattle.hash_parts.specs.Hash.{controlTag, secondaryTag}
 use Rattle.hash_parts.specs.ZeroBytes.{bytesOf, numberOf}
 use Rattle.index.specs.Walk.{bucketsOf}
@@ -34,10 +33,10 @@ module _ {A B : Type 0} where
 -- ---- packing: the words of one slot each, a bucket at a time
 
 abbrev pub controlByte : ℕ → ℕ
-controlByte w = pick (eqb w 0) 0 (controlTag (wordTag w))
+controlByte w = cond (eqb w 0) 0 (controlTag (wordTag w))
 
 abbrev pub referenceBytes : ℕ → List ℕ
-referenceBytes w = pick (eqb w 0) (bytesOf 7 0) (bytesOf 2 (secondaryTag (wordTag w)) ++ bytesOf 5 (wordStored w))
+referenceBytes w = cond (eqb w 0) (bytesOf 7 0) (bytesOf 2 (secondaryTag (wordTag w)) ++ bytesOf 5 (wordStored w))
 
 -- a bucket's control word, and the seven words of its references
 unfoldable pub controlWord : List ℕ → ℕ
@@ -55,13 +54,13 @@ packed buckets index = controlWords buckets index ++ (concatMap referenceWords (
 
 -- "Finish uses the first `buckets` scratch words lent, which then hold the control words": where both areas are long enough; else nothing is written
 abbrev pub packable : ℕ → List ℕ → List ℕ → Bool
-packable buckets index scratch = pick (leb (8 * buckets) (length index)) (leb buckets (length scratch)) false
+packable buckets index scratch = cond (leb (8 * buckets) (length index)) (leb buckets (length scratch)) false
 
 unfoldable pub packedIndex : ℕ → List ℕ → List ℕ → List ℕ
-packedIndex buckets index scratch = pick (packable buckets index scratch) (packed buckets index) index
+packedIndex buckets index scratch = cond (packable buckets index scratch) (packed buckets index) index
 
 unfoldable pub packedScratch : ℕ → List ℕ → List ℕ → List ℕ
-packedScratch buckets index scratch = pick (packable buckets index scratch) (controlWords buckets index ++ drop buckets scratch) scratch
+packedScratch buckets index scratch = cond (packable buckets index scratch) (controlWords buckets index ++ drop buckets scratch) scratch
 
 -- ---- reading
 
@@ -71,7 +70,7 @@ referenceIn before word j = take 7 (drop (8 - j) (bytesOf 8 before ++ bytesOf 8 
 
 -- a slot by its control byte and its seven bytes; control 0 and 0x80 are empty
 unfoldable pub packedSlot : ℕ → List ℕ → IndexSlot
-packedSlot control bytes = pick (eqb (control % 128) 0) Empty (Used (control % 128 + 128 * numberOf (take 2 bytes)) (numberOf (drop 2 bytes)))
+packedSlot control bytes = cond (eqb (control % 128) 0) Empty (Used (control % 128 + 128 * numberOf (take 2 bytes)) (numberOf (drop 2 bytes)))
 
 -- the slots of a bucket by its control bytes and its references' bytes
 unfoldable pub packedSlotsOf : List ℕ → List ℕ → List IndexSlot

@@ -1,12 +1,11 @@
 -- Segments. Document 01: "Up to the target: one. Else each next segment starts at the lowest record location not below the last start plus target; with
 -- none, no more. Location becomes segment × 2^32 + offset. Start and length stand in two 256-word areas, unused words 0."
 -- Assumes nothing.
-use mathlib.Core.Bool.{Bool, true, false}
+use mathlib.Core.Bool.{Bool, true, false, cond}
 use mathlib.Core.List.{List, [], _∷_, _++_, map}
 use Prim.Native.Nat.{ℕ, zero, suc, _+_, _-_, _*_, _^_, min}
 use lib.Dec.{eqb, leb, ltb}
 use lib.ListN.{length, take, drop, getD, replicate}
-use Rattle.hash_parts.specs.Choice.{pick}
 use Rattle.hash_parts.specs.Outcome.{Outcome, accepted, refused}
 use Rattle.hash_parts.specs.declared.error.SegmentCacheBuildError.the-variants.{ArenaTooLarge, AreaTooShort}
 use Rattle.index.specs.Word.{wordOf, wordTag, wordStored}
@@ -26,22 +25,22 @@ startsAt bound w = ltb bound (wordStored w)
 -- the lowest location not below a bound; `noStart` where there is none
 unfoldable pub nextStart : List ℕ → ℕ → ℕ
 nextStart [] bound = noStart
-nextStart (w ∷ words) bound = pick (startsAt bound w) (min (wordStored w - 1) (nextStart words bound)) (nextStart words bound)
+nextStart (w ∷ words) bound = cond (startsAt bound w) (min (wordStored w - 1) (nextStart words bound)) (nextStart words bound)
 
 -- of the words of so many buckets; an area with fewer has none
 unfoldable pub startIn : List ℕ → ℕ → ℕ → ℕ
-startIn index buckets bound = pick (leb (8 * buckets) (length index)) (nextStart (take (8 * buckets) index) bound) noStart
+startIn index buckets bound = cond (leb (8 * buckets) (length index)) (nextStart (take (8 * buckets) index) bound) noStart
 
 -- the start after `last`: none where what is left is within the target; a target of 0 splits nothing
 unfoldable pub startAfter : List ℕ → ℕ → ℕ → ℕ → ℕ
-startAfter words filled target last = pick (eqb target 0) noStart (pick (leb filled (last + target)) noStart (nextStart words (last + target)))
+startAfter words filled target last = cond (eqb target 0) noStart (cond (leb filled (last + target)) noStart (nextStart words (last + target)))
 
 -- the starts after `last`, at most so many
 unfoldable pub startsAfter : ℕ → List ℕ → ℕ → ℕ → ℕ → List ℕ
 startsAfter zero words filled target last = []
 startsAfter (suc n) words filled target last =
     let next : ℕ = startAfter words filled target last in
-    pick (ltb next noStart) (next ∷ startsAfter n words filled target next) []
+    cond (ltb next noStart) (next ∷ startsAfter n words filled target next) []
 
 -- the starts, at most 257: one more than a set can have
 unfoldable pub startsOf : List ℕ → ℕ → ℕ → List ℕ
@@ -58,7 +57,7 @@ lengthsOf filled (start ∷ next ∷ starts) = (next - start) ∷ lengthsOf fill
 unfoldable pub segmentOf : List ℕ → ℕ → ℕ
 segmentOf [] location = 0
 segmentOf (start ∷ []) location = 0
-segmentOf (start ∷ next ∷ starts) location = pick (leb next location) (suc (segmentOf (next ∷ starts) location)) 0
+segmentOf (start ∷ next ∷ starts) location = cond (leb next location) (suc (segmentOf (next ∷ starts) location)) 0
 
 -- segment × 2^32 + offset
 abbrev pub segmented : List ℕ → ℕ → ℕ
@@ -66,7 +65,7 @@ segmented starts location = segmentOf starts location * 2 ^ 32 + (location - get
 
 -- a word with its location split, without its mark; a word that names no record as it is
 unfoldable pub splitWord : List ℕ → ℕ → ℕ
-splitWord starts w = pick (eqb (wordStored w) 0) w (wordOf (wordTag w) (segmented starts (wordStored w - 1)))
+splitWord starts w = cond (eqb (wordStored w) 0) w (wordOf (wordTag w) (segmented starts (wordStored w - 1)))
 
 -- ---- what splitting leaves
 
@@ -94,16 +93,16 @@ splitResult r index starts lengths = record { answer = splitOutcome r; index = i
 
 -- the areas hold the words of so many buckets, and 256 starts and lengths
 abbrev pub splittable : List ℕ → ℕ → List ℕ → List ℕ → Bool
-splittable index buckets starts lengths = pick (leb (8 * buckets) (length index)) (pick (leb 256 (length starts)) (leb 256 (length lengths)) false) false
+splittable index buckets starts lengths = cond (leb (8 * buckets) (length index)) (cond (leb 256 (length starts)) (leb 256 (length lengths)) false) false
 
 -- the index with every word split; marks stay where nothing is split
 abbrev pub splitWords : List ℕ → ℕ → List ℕ → ℕ → ℕ → List ℕ
-splitWords index buckets ss filled target = pick (leb filled target) index (map (splitWord ss) (take (8 * buckets) index) ++ drop (8 * buckets) index)
+splitWords index buckets ss filled target = cond (leb filled target) index (map (splitWord ss) (take (8 * buckets) index) ++ drop (8 * buckets) index)
 
 -- of more than 256 segments only the first 256 starts are written
 abbrev pub splitBy : List ℕ → List ℕ → ℕ → ℕ → ℕ → List ℕ → List ℕ → Split
 splitBy ss index buckets filled target starts lengths =
-    pick (leb (length ss) 256)
+    cond (leb (length ss) 256)
     (record {
       answer = accepted (length ss);
       index = splitWords index buckets ss filled target;
@@ -114,7 +113,7 @@ splitBy ss index buckets filled target starts lengths =
 
 unfoldable pub split : List ℕ → ℕ → ℕ → ℕ → List ℕ → List ℕ → Split
 split index buckets filled target starts lengths =
-    pick (splittable index buckets starts lengths)
+    cond (splittable index buckets starts lengths)
     (splitBy (startsOf (take (8 * buckets) index) filled target) index buckets filled target starts lengths)
     (record { answer = refused AreaTooShort; index = index; starts = starts; lengths = lengths })
 
@@ -122,12 +121,12 @@ split index buckets filled target starts lengths =
 
 -- Questions: "Each occupied word's location below the filled bytes, stored location 0 counting as no?"
 abbrev pub inside : ℕ → ℕ → Bool
-inside filled w = pick (eqb w 0) true (pick (eqb (wordStored w) 0) false (leb (wordStored w) filled))
+inside filled w = cond (eqb w 0) true (cond (eqb (wordStored w) 0) false (leb (wordStored w) filled))
 
 unfoldable pub allInside : ℕ → List ℕ → Bool
 allInside filled [] = true
-allInside filled (w ∷ words) = pick (inside filled w) (allInside filled words) false
+allInside filled (w ∷ words) = cond (inside filled w) (allInside filled words) false
 
 -- of the words of so many buckets; an area with fewer is not
 unfoldable pub locationsInside : List ℕ → ℕ → ℕ → Bool
-locationsInside index buckets filled = pick (leb (8 * buckets) (length index)) (allInside filled (take (8 * buckets) index)) false
+locationsInside index buckets filled = cond (leb (8 * buckets) (length index)) (allInside filled (take (8 * buckets) index)) false

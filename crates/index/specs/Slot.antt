@@ -1,9 +1,8 @@
 -- A slot of a finished index, as either layout shows it.
 -- Assumes nothing.
-use mathlib.Core.Bool.{Bool}
+use mathlib.Core.Bool.{Bool, cond}
 use Prim.Native.Nat.{ℕ, _+_, _*_}
 use lib.Dec.{eqb}
-use Rattle.hash_parts.specs.Choice.{pick}
 use Rattle.hash_parts.specs.Hash.{controlTag, secondaryTag}
 use Rattle.index.specs.Word.{wordTag, wordStored}
 use Rattle.index.specs.declared.slot.IndexSlot.{IndexSlot}
@@ -11,7 +10,7 @@ use Rattle.index.specs.declared.slot.IndexSlot.the-variants.{Empty, Used
 
 -- a slot of the word layout: an empty word, or the whole tag and the stored location
 unfoldable pub wordSlot : ℕ → IndexSlot
-wordSlot w = pick (eqb w 0) Empty (Used (wordTag w) (wordStored w))
+wordSlot w = cond (eqb w 0) Empty (Used (wordTag w) (wordStored w))
 
 -- what the packed layout keeps of a tag, as one number: the control byte's seven bits, and the rest
 abbrev pub packedTag : ℕ → ℕ
@@ -19,4 +18,4 @@ packedTag tag = controlTag tag + 128 * secondaryTag tag
 
 -- what a layout keeps of a tag
 abbrev pub keptTag : Bool → ℕ → ℕ
-keptTag packed tag = pick packed (packedTag tag) tag
+keptTag packed tag = cond packed (packedTag tag) tag

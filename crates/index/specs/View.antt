@@ -1,12 +1,11 @@
 -- The record under a stored location of a finished set. Document 01, Segments: "Location becomes segment × 2^32 + offset. Start and length stand in two
 -- 256-word areas"; questions: "A segment not inside the filled arena holds no readable record."
 -- Assumes nothing.
-use mathlib.Core.Bool.{Bool, false}
+use mathlib.Core.Bool.{Bool, false, cond}
 use mathlib.Core.List.{List}
 use Prim.Native.Nat.{ℕ, zero, suc, _+_, _/_, _%_, _^_}
 use lib.Dec.{leb, ltb}
 use lib.ListN.{length, take, getD}
-use Rattle.hash_parts.specs.Choice.{pick}
 use Rattle.hash_parts.specs.declared.setting.SegmentExpiry.{SegmentExpiry}
 use Rattle.records.specs.Area.{part}
 use Rattle.records.specs.Record.{recordAt}
@@ -33,16 +32,16 @@ answerMoved location begin Unreadable = Unreadable
 -- a location in its segment; `bytes` are the filled bytes
 unfoldable pub inSegment : SegmentExpiry → List ℕ → ℕ → ℕ → ℕ → RecordAnswer
 inSegment e bytes start len location =
-    pick (leb (start + len) (length bytes)) (answerMoved location start (recordAt e (part start len bytes) (location % 2 ^ 32))) Unreadable
+    cond (leb (start + len) (length bytes)) (answerMoved location start (recordAt e (part start len bytes) (location % 2 ^ 32))) Unreadable
 
 -- whether a segment is one of the set's
 abbrev pub isSegment : SegmentView → List ℕ → List ℕ → ℕ → Bool
-isSegment view starts lengths g = pick (ltb g (view .segments)) (pick (ltb g (length starts)) (ltb g (length lengths)) false) false
+isSegment view starts lengths g = cond (ltb g (view .segments)) (cond (ltb g (length starts)) (ltb g (length lengths)) false) false
 
 -- the record under a stored location: the location plus 1, or 0 for none
 unfoldable pub recordIn : SegmentView → List ℕ → List ℕ → List ℕ → ℕ → RecordAnswer
 recordIn view arena starts lengths zero = Unreadable
 recordIn view arena starts lengths (suc location) =
-    pick (isSegment view starts lengths (location / 2 ^ 32))
+    cond (isSegment view starts lengths (location / 2 ^ 32))
     (inSegment (view .expiry) (take (view .filled) arena) (getD starts (location / 2 ^ 32) 0) (getD lengths (location / 2 ^ 32) 0) location)
     Unreadable

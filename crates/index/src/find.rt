@@ -20,12 +20,11 @@ use records::record::RecordRef;
 use records::record::same_bytes;
 use records::record::value_slice;
 ghost use mathlib.Core.Path.{_≡_};
-ghost use mathlib.Core.Bool.{false};
+ghost use mathlib.Core.Bool.{false, cond};
 ghost use mathlib.Core.List.{map};
 ghost use Prim.Native.Nat.{_+_, _*_, _<_, _≤_};
 ghost use lib.Dec.{ltb};
 ghost use lib.ListN.{drop, getD, length, take};
-ghost use Rattle.hash_parts.specs.Choice.{pick};
 ghost use Rattle.hash_parts.specs.ZeroBytes.{marks};
 ghost use Rattle.index.specs.Find.{endsAt, findIn, inBucket, look, looksFrom, slotAt, slotsOf};
 ghost use Rattle.index.specs.FindSteps.{candidates, fromOn, passedOver, stepOf, tagged};
@@ -260,7 +259,7 @@ fn marks_from(slot: usize) -> u64
 // Whether a bucket of the packed layout has an empty slot.
 fn has_empty(index: &[u64], packed: bool, bucket: usize) -> bool
     requires { ⌜ bucket < length (now index) ⌝ }
-    ensures { λ r. ⌜ r ≡ pick packed (ltb 0 (marks (tagged 0 (getD (now (index .entry)) bucket 0)))) false ⌝ }
+    ensures { λ r. ⌜ r ≡ cond packed (ltb 0 (marks (tagged 0 (getD (now (index .entry)) bucket 0)))) false ⌝ }
 {
     if packed {
         return tagged_bytes(index[bucket], 0) > 0;

@@ -5,11 +5,11 @@ use crate::word::encode_index_word;
 use crate::word::index_location;
 use crate::word::index_tag;
 use hash_parts::error::SegmentCacheBuildError;
+ghost use mathlib.Core.Bool.{cond};
 ghost use mathlib.Core.Path.{_≡_};
 ghost use mathlib.Core.List.{[], _++_, map};
 ghost use Prim.Native.Nat.{_+_, _-_, _*_, _<_, _≤_, min};
 ghost use lib.ListN.{length, take, drop, getD};
-ghost use Rattle.hash_parts.specs.Choice.{pick};
 ghost use Rattle.index.specs.Word.{wordStored};
 ghost use Rattle.index.specs.Segments.{inside, lengthsOf, locationsInside, padded, replaced, segmentOf, split, splitResult, splitWord, startAfter, startIn, startsAt, startsOf};
 ghost use Rattle.index.specs.SegmentStarts.{StartsIn};
@@ -78,7 +78,7 @@ pub fn next_start(index: &[u64], buckets: usize, bound: u64) -> u64
 
 // A word's location where it is a lower start than the lowest so far.
 fn lower_start(word: u64, bound: u64, lowest: u64) -> u64
-    ensures { λ r. ⌜ r ≡ pick (startsAt bound word) (min (wordStored word - 1) lowest) lowest ⌝ }
+    ensures { λ r. ⌜ r ≡ cond (startsAt bound word) (min (wordStored word - 1) lowest) lowest ⌝ }
 {
     let stored = index_location(word);
     if stored <= bound {

@@ -1,6 +1,6 @@
 -- Laws of decoded keys and values. Assumes nothing.
 use mathlib.Core.Path.{_≡_, refl, ap}
-use mathlib.Core.Bool.{Bool, true, false}
+use mathlib.Core.Bool.{Bool, true, false, cond}
 use mathlib.Core.List.{List}
 use mathlib.Core.Option.{Option, none, some}
 use Prim.Native.Nat.{ℕ, _-_, _≤_}
@@ -8,7 +8,6 @@ use native.Mathlib.Omega.{arith}
 use borrow.Author.Tests.{leb-true}
 use lib.Dec.{leb}
 use lib.ListN.{length, take}
-use Rattle.hash_parts.specs.Choice.{pick}
 use Rattle.records.specs.Area.{over}
 use Rattle.records.proofs.Area.{over-length}
 use Rattle.passage_lines.specs.Hex.{bytesOfHex, Decoded, decodeResult, decodedTo, decoded}
@@ -27,8 +26,8 @@ pub decode-none : (text area out : List ℕ) → decodeResult Refused out ≡ de
 unfolding decoded
 decode-none text area out e = go (bytesOfHex text) e
   where
-    fit : (s : List ℕ) (t : Bool) → decodeResult Refused out ≡ pick t (record { count = some (length s); area = over s area }) (record { count = none; area = area })
-        → pick t (some s) none ≡ none
+    fit : (s : List ℕ) (t : Bool) → decodeResult Refused out ≡ cond t (record { count = some (length s); area = over s area }) (record { count = none; area = area })
+        → cond t (some s) none ≡ none
     fit s true q = absurd (let z : _≡_ {A = Option ℕ} none (some (length s)) = ap (λ (d : Decoded). d .count) q in let o : _≡_ {A = ℕ} 0 1 = cc in omega arith)
     fit s false q = refl
 
@@ -51,7 +50,7 @@ decode-some text area out n e = go (bytesOfHex text) refl e
         record { bytes = s; spelled = rw (b, l); front = over-front s area out n m o; room = omega (arith, ap length o, over-length s area h) }
 
     fit : (s : List ℕ) → bytesOfHex text ≡ some s → (t : Bool) → leb (length s) (length area) ≡ t
-        → decodeResult (Bytes n) out ≡ pick t (record { count = some (length s); area = over s area }) (record { count = none; area = area }) → Decoding text area out n
+        → decodeResult (Bytes n) out ≡ cond t (record { count = some (length s); area = over s area }) (record { count = none; area = area }) → Decoding text area out n
     fit s b true l q = made s b l (rw l q)
     fit s b false l q = absurd (let z : _≡_ {A = Option ℕ} (some n) none = ap (λ (d : Decoded). d .count) q in let o : _≡_ {A = ℕ} 0 1 = cc in omega arith)
 

@@ -1,11 +1,11 @@
 -- What a line of the input does and prints.
 -- Assumes nothing.
 use Prim.Native.Nat.{ℕ}
+use mathlib.Core.Bool.{cond}
 use mathlib.Core.List.{List}
 use mathlib.Core.Option.{Option, none, some}
 use lib.Dec.{leb}
 use lib.ListN.{length}
-use Rattle.hash_parts.specs.Choice.{pick}
 use Rattle.hash_parts.specs.declared.duration.Lifetime.{Lifetime}
 use Rattle.records.specs.Area.{spanned}
 use Rattle.passage_lines.specs.Command.{commandOf}
@@ -56,7 +56,7 @@ afterGetting stage a g = answered stage (g .text) (areas (g .index) (a .filter) 
 -- the bytes that a part of a line spells, where an area of so many bytes has room for them
 abbrev pub within : ℕ → Option (List ℕ) → Option (List ℕ)
 within room none = none
-within room (some s) = pick (leb (length s) room) (some s) none
+within room (some s) = cond (leb (length s) room) (some s) none
 
 -- a put with key and value, and a get with a key
 abbrev pub putBytes : Stage → ℕ → Lifetime → List ℕ → List ℕ → List ℕ → Option (List ℕ) → Option (List ℕ) → Putting

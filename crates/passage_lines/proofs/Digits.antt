@@ -1,6 +1,6 @@
 -- Laws of hexadecimal text: two digits at a time. Assumes nothing.
 use mathlib.Core.Path.{_≡_, refl, sym, ap, _∙_}
-use mathlib.Core.Bool.{Bool, true, false}
+use mathlib.Core.Bool.{Bool, true, false, cond}
 use mathlib.Core.List.{List, [], _∷_}
 use mathlib.Core.Option.{Option, none, some}
 use Prim.Native.Nat.{ℕ, suc, _+_, _*_, _-_, _/_, _≤_, _<_}
@@ -11,7 +11,6 @@ use borrow.Author.Tests.{lt-ltb, le-ltb, le-leb, lt-leb, eq-eqb, ne-eqb, eqb-tru
 use lib.Dec.{eqb, ltb}
 use lib.ListN.{length, getD, drop, length-drop, drop-of-length-le}
 use lib.Seq.{drop-cons}
-use Rattle.hash_parts.specs.Choice.{pick}
 use Rattle.records.specs.Area.{over}
 use Rattle.passage_lines.specs.Text.{digitOf}
 use Rattle.passage_lines.specs.declared.hex.DecodeAnswer.the-variants.{Bytes, Refused}
@@ -113,11 +112,11 @@ spelled-length (h ∷ l ∷ t) s e = high (ltb (digitOf h) 16) (spelled-length t
     after none q f r = absurd (let z : _≡_ {A = ℕ} 0 1 = cc in omega arith)
     after (some u) q f r = let z : (digitOf h * 16 + digitOf l) ∷ u ≡ s = cc in omega (arith, ap length z, f u q)
 
-    low : (b : Bool) → Rest → pick b (inFront (digitOf h * 16 + digitOf l) (bytesOfHex t)) none ≡ some s → suc (suc (length t)) ≡ 2 * length s
+    low : (b : Bool) → Rest → cond b (inFront (digitOf h * 16 + digitOf l) (bytesOfHex t)) none ≡ some s → suc (suc (length t)) ≡ 2 * length s
     low true f r = after (bytesOfHex t) refl f r
     low false f r = absurd (let z : _≡_ {A = ℕ} 0 1 = cc in omega arith)
 
-    high : (b : Bool) → Rest → pick b (pick (ltb (digitOf l) 16) (inFront (digitOf h * 16 + digitOf l) (bytesOfHex t)) none) none ≡ some s → suc (suc (length t)) ≡ 2 * length s
+    high : (b : Bool) → Rest → cond b (cond (ltb (digitOf l) 16) (inFront (digitOf h * 16 + digitOf l) (bytesOfHex t)) none) none ≡ some s → suc (suc (length t)) ≡ 2 * length s
     high true f r = low (ltb (digitOf l) 16) f r
     high false f r = absurd (let z : _≡_ {A = ℕ} 0 1 = cc in omega arith)
 

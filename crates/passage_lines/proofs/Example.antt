@@ -1,9 +1,8 @@
 -- Document 01's example: what its lines say, and what the lines of its output are. Some lines of other forms. Assumes nothing.
 use mathlib.Core.Path.{_≡_, refl}
-use mathlib.Core.Bool.{Bool, true, false}
+use mathlib.Core.Bool.{Bool, true, false, cond}
 use mathlib.Core.List.{List, [], _∷_}
 use Prim.Native.Nat.{ℕ}
-use Rattle.hash_parts.specs.Choice.{pick}
 use Rattle.hash_parts.specs.declared.error.SegmentCacheBuildError.the-variants.{DuplicateKey}
 use Rattle.hash_parts.specs.declared.duration.Lifetime.the-variants as life
 use Rattle.hash_parts.specs.declared.setting.SegmentExpiry.the-variants as expiry
@@ -70,7 +69,7 @@ isBad Bad = true
 
 allBad : List (List ℕ) → Bool
 allBad [] = true
-allBad (line ∷ lines) = pick (isBad (commandOf line)) (allBad lines) false
+allBad (line ∷ lines) = cond (isBad (commandOf line)) (allBad lines) false
 
 -- a number past its width; a sign; an empty field, one too many, one too few, a space at an end; large letters, an odd number of digits, `-` as
 -- a hash; eight and ten digits after the point, `never` as a tick length, `none` as a lifetime; a tab

@@ -1,6 +1,6 @@
 -- Laws of the lines of an input that is read in blocks. Assumes nothing.
 use mathlib.Core.Path.{_≡_, refl, sym, ap, subst, _∙_}
-use mathlib.Core.Bool.{Bool, true, false}
+use mathlib.Core.Bool.{Bool, true, false, cond}
 use mathlib.Core.List.{List, [], _∷_, _++_, map, append-assoc, append-nil}
 use mathlib.Core.Option.{none, some}
 use Prim.Native.Nat.{ℕ, suc, _+_, _-_, _≤_, _<_}
@@ -11,7 +11,6 @@ use borrow.Author.Tests.{lt-ltb, le-ltb, ne-eqb}
 use lib.Dec.{eqb, ltb}
 use lib.ListN.{length, getD, take, drop, length-append, length-drop, drop-of-length-le}
 use lib.Seq.{drop-at, drop-cons, drop-drop, getD-append-add, getD-drop, getD-take, length-take-le, take-add, take-at, take-take}
-use Rattle.hash_parts.specs.Choice.{pick}
 use Rattle.records.specs.Area.{over, part}
 use Rattle.records.proofs.Area.{Writing}
 use Rattle.passage_lines.specs.Bytes.{before, firstFrom}
@@ -53,9 +52,9 @@ unfolding before linesFrom
 lines-plain seen [] later h = ap (λ (t : List ℕ). linesFrom t later) (sym (append-nil seen))
 lines-plain seen (c ∷ s) later h = go (eqb c 10) h (lines-plain (seen ++ (c ∷ [])) s later)
   where
-    go : (t : Bool) → suc (length s) ≤ length (pick t [] (c ∷ before 10 s))
+    go : (t : Bool) → suc (length s) ≤ length (cond t [] (c ∷ before 10 s))
         → (length s ≤ length (before 10 s) → linesFrom (seen ++ (c ∷ [])) (s ++ later) ≡ linesFrom ((seen ++ (c ∷ [])) ++ s) later)
-        → pick t (seen ∷ linesFrom [] (s ++ later)) (linesFrom (seen ++ (c ∷ [])) (s ++ later)) ≡ linesFrom (seen ++ (c ∷ s)) later
+        → cond t (seen ∷ linesFrom [] (s ++ later)) (linesFrom (seen ++ (c ∷ [])) (s ++ later)) ≡ linesFrom (seen ++ (c ∷ s)) later
     go true h f = absurd (omega arith)
     go false h f = f (omega arith) ∙ ap (λ (t : List ℕ). linesFrom t later) (append-assoc seen (c ∷ []) s)
 
@@ -65,10 +64,10 @@ unfolding before linesFrom
 lines-feed seen [] later h = absurd (omega arith)
 lines-feed seen (c ∷ s) later h = go (eqb c 10) h (lines-feed (seen ++ (c ∷ [])) s later)
   where
-    go : (t : Bool) → length (pick t [] (c ∷ before 10 s)) < suc (length s)
+    go : (t : Bool) → length (cond t [] (c ∷ before 10 s)) < suc (length s)
         → (length (before 10 s) < length s → linesFrom (seen ++ (c ∷ [])) (s ++ later) ≡ ((seen ++ (c ∷ [])) ++ before 10 s) ∷ linesFrom [] (drop (suc (length (before 10 s))) s ++ later))
-        → pick t (seen ∷ linesFrom [] (s ++ later)) (linesFrom (seen ++ (c ∷ [])) (s ++ later))
-        ≡ (seen ++ pick t [] (c ∷ before 10 s)) ∷ linesFrom [] (drop (length (pick t [] (c ∷ before 10 s))) s ++ later)
+        → cond t (seen ∷ linesFrom [] (s ++ later)) (linesFrom (seen ++ (c ∷ [])) (s ++ later))
+        ≡ (seen ++ cond t [] (c ∷ before 10 s)) ∷ linesFrom [] (drop (length (cond t [] (c ∷ before 10 s))) s ++ later)
     go true h f = ap (λ (t : List ℕ). t ∷ linesFrom [] (s ++ later)) (sym (append-nil seen))
     go false h f = f (omega arith) ∙ ap (λ (t : List ℕ). t ∷ linesFrom [] (drop (suc (length (before 10 s))) s ++ later)) (append-assoc seen (c ∷ []) (before 10 s))
 
@@ -77,8 +76,8 @@ unfolding before afterFeed
 after-plain [] later h = refl
 after-plain (c ∷ s) later h = go (eqb c 10) h (after-plain s later)
   where
-    go : (t : Bool) → suc (length s) ≤ length (pick t [] (c ∷ before 10 s)) → (length s ≤ length (before 10 s) → afterFeed (s ++ later) ≡ afterFeed later)
-        → pick t (s ++ later) (afterFeed (s ++ later)) ≡ afterFeed later
+    go : (t : Bool) → suc (length s) ≤ length (cond t [] (c ∷ before 10 s)) → (length s ≤ length (before 10 s) → afterFeed (s ++ later) ≡ afterFeed later)
+        → cond t (s ++ later) (afterFeed (s ++ later)) ≡ afterFeed later
     go true h f = absurd (omega arith)
     go false h f = f (omega arith)
 
@@ -87,8 +86,8 @@ unfolding before afterFeed
 after-feed [] later h = absurd (omega arith)
 after-feed (c ∷ s) later h = go (eqb c 10) h (after-feed s later)
   where
-    go : (t : Bool) → length (pick t [] (c ∷ before 10 s)) < suc (length s) → (length (before 10 s) < length s → afterFeed (s ++ later) ≡ drop (suc (length (before 10 s))) s ++ later)
-        → pick t (s ++ later) (afterFeed (s ++ later)) ≡ drop (length (pick t [] (c ∷ before 10 s))) s ++ later
+    go : (t : Bool) → length (cond t [] (c ∷ before 10 s)) < suc (length s) → (length (before 10 s) < length s → afterFeed (s ++ later) ≡ drop (suc (length (before 10 s))) s ++ later)
+        → cond t (s ++ later) (afterFeed (s ++ later)) ≡ drop (length (cond t [] (c ∷ before 10 s))) s ++ later
     go true h f = refl
     go false h f = f (omega arith)
 
@@ -99,7 +98,7 @@ lines-long seen [] h = rw (ne-eqb (length seen) 0 (omega arith), lt-ltb 8192 (le
 lines-long seen (c ∷ s) h = go (eqb c 10) (lines-long (seen ++ (c ∷ [])) s)
   where
     go : (t : Bool) → (8192 < length (seen ++ (c ∷ [])) → map limited (linesFrom (seen ++ (c ∷ [])) s) ≡ none ∷ map limited (linesFrom [] (afterFeed s)))
-        → map limited (pick t (seen ∷ linesFrom [] s) (linesFrom (seen ++ (c ∷ [])) s)) ≡ none ∷ map limited (linesFrom [] (pick t s (afterFeed s)))
+        → map limited (cond t (seen ∷ linesFrom [] s) (linesFrom (seen ++ (c ∷ [])) s)) ≡ none ∷ map limited (linesFrom [] (cond t s (afterFeed s)))
     go true f = rw (lt-ltb 8192 (length seen) h)
     go false f = f (omega (arith, length-append seen (c ∷ [])))
 
@@ -163,7 +162,7 @@ module _ (block later : List ℕ) (at end : ℕ) (h : at ≤ end) (k : end ≤ l
   line-next = go (decLt (length (before 10 bytes)) (length bytes))
     where
       plain : length bytes ≤ length (before 10 bytes) → Dec (8192 < end - at)
-          → map limited (linesFrom [] (bytes ++ later)) ≡ linesBy block later (pick (ltb 8192 (end - at)) (TooLong (input end end true)) (More (input at end false)))
+          → map limited (linesFrom [] (bytes ++ later)) ≡ linesBy block later (cond (ltb 8192 (end - at)) (TooLong (input end end true)) (More (input at end false)))
       plain p (yes l) = rw (lt-ltb 8192 (end - at) l, none-left) (ap (map limited) (lines-plain [] bytes later p) ∙ lines-long bytes later (omega (arith, bytes-length)))
       plain p (no n) = rw (le-ltb 8192 (end - at) (omega arith))
 
@@ -189,7 +188,7 @@ module _ (block later : List ℕ) (at end : ℕ) (h : at ≤ end) (k : end ≤ l
   line-last p l =
       ap (λ (s : List ℕ). map limited (linesFrom [] s)) (sym (append-nil bytes)) ∙ ap (map limited) (lines-plain [] bytes [] p) ∙ go (eqb (length bytes) 0)
     where
-      go : (t : Bool) → map limited (pick t [] (bytes ∷ [])) ≡ pick t [] (some bytes ∷ [])
+      go : (t : Bool) → map limited (cond t [] (bytes ∷ [])) ≡ cond t [] (some bytes ∷ [])
       go true = refl
       go false = rw (le-ltb 8192 (length bytes) (omega (arith, bytes-length)))
 
@@ -197,7 +196,7 @@ module _ (block later : List ℕ) (at end : ℕ) (h : at ≤ end) (k : end ≤ l
   unfolding feed
   last-by t j e = go t (decLt (length (before 10 bytes)) (length bytes)) e
     where
-      plain : length bytes ≤ length (before 10 bytes) → Dec (8192 < end - at) → pick (ltb 8192 (end - at)) (TooLong (input end end true)) (More (input at end false)) ≡ More j → Last j
+      plain : length bytes ≤ length (before 10 bytes) → Dec (8192 < end - at) → cond (ltb 8192 (end - at)) (TooLong (input end end true)) (More (input at end false)) ≡ More j → Last j
       plain p (yes l) e = absurd (let q : TooLong (input end end true) ≡ More j = rw (lt-ltb 8192 (end - at) l) at e in let z : _≡_ {A = ℕ} 0 1 = cc in omega arith)
       plain p (no n) e =
           let q : More (input at end false) ≡ More j = rw (le-ltb 8192 (end - at) (omega arith)) at e in

@@ -1,6 +1,6 @@
 -- Laws of numbers as text. Assumes nothing.
 use mathlib.Core.Path.{_≡_, refl}
-use mathlib.Core.Bool.{Bool, true, false}
+use mathlib.Core.Bool.{Bool, true, false, cond}
 use mathlib.Core.List.{List, [], _∷_}
 use mathlib.Core.Option.{Option, none, some}
 use Prim.Native.Nat.{ℕ, _+_, _*_, _-_, _/_, _^_, _≤_, _<_}
@@ -11,7 +11,6 @@ use borrow.Author.Tests.{lt-ltb, le-ltb, le-leb, lt-leb, leb-true, eq-eqb, ne-eq
 use lib.Dec.{ltb, leb}
 use lib.ListN.{length, getD, take, drop, length-drop, drop-of-length-le}
 use lib.Seq.{drop-cons, take-all}
-use Rattle.hash_parts.specs.Choice.{pick}
 use Rattle.passage_lines.specs.Text.{digitOf, spelled, atMost, numberIn, timed, durationOf}
 
 -- ---- spelled, a digit at a time
@@ -37,7 +36,7 @@ unfolding spelled
 spelled-grows base n [] v p e = let f : n ≡ v = cc in omega arith
 spelled-grows base n (c ∷ s) v p e = go (ltb (digitOf c) base) e (spelled-grows base (n * base + digitOf c) s v p)
   where
-    go : (t : Bool) → pick t (spelled base (n * base + digitOf c) s) none ≡ some v → (spelled base (n * base + digitOf c) s ≡ some v → n * base + digitOf c ≤ v) → n ≤ v
+    go : (t : Bool) → cond t (spelled base (n * base + digitOf c) s) none ≡ some v → (spelled base (n * base + digitOf c) s ≡ some v → n * base + digitOf c ≤ v) → n ≤ v
     go true q f = omega (arith, f q, le-mul-of-pos-right n p)
     go false q f = absurd (let z : _≡_ {A = ℕ} 0 1 = cc in omega arith)
 
@@ -80,7 +79,7 @@ number-limit base max (c ∷ s) v e = go (spelled base 0 (c ∷ s)) e
     go none q = absurd (let z : _≡_ {A = ℕ} 0 1 = cc in omega arith)
     go (some n) q = at (leb n max) refl q
       where
-        at : (t : Bool) → leb n max ≡ t → pick t (some n) none ≡ some v → v ≤ max
+        at : (t : Bool) → leb n max ≡ t → cond t (some n) none ≡ some v → v ≤ max
         at true l f = let g : n ≡ v = cc in omega (arith, leb-true n max l)
         at false l f = absurd (let z : _≡_ {A = ℕ} 0 1 = cc in omega arith)
 

@@ -1,6 +1,6 @@
 -- Laws of looking for a byte. Assumes nothing.
 use mathlib.Core.Path.{_≡_, refl, ap}
-use mathlib.Core.Bool.{Bool, true, false}
+use mathlib.Core.Bool.{Bool, true, false, cond}
 use mathlib.Core.List.{List, [], _∷_}
 use Prim.Native.Nat.{ℕ, suc, _+_, _≤_, _<_}
 use native.Mathlib.Numerals.{add-one}
@@ -9,7 +9,6 @@ use borrow.Author.Tests.{eq-eqb, ne-eqb}
 use lib.Dec.{eqb}
 use lib.ListN.{length, getD, take, drop, length-drop, drop-of-length-le}
 use lib.Seq.{drop-cons}
-use Rattle.hash_parts.specs.Choice.{pick}
 use Rattle.passage_lines.specs.Bytes.{before, firstFrom}
 
 -- ---- a byte at a time
@@ -35,7 +34,7 @@ module _ (byte : ℕ) where
   before-front [] = refl
   before-front (c ∷ s) = go (eqb c byte) (before-front s)
     where
-      go : (t : Bool) → before byte s ≡ take (length (before byte s)) s → pick t [] (c ∷ before byte s) ≡ take (length (pick t [] (c ∷ before byte s))) (c ∷ s)
+      go : (t : Bool) → before byte s ≡ take (length (before byte s)) s → cond t [] (c ∷ before byte s) ≡ take (length (cond t [] (c ∷ before byte s))) (c ∷ s)
       go true e = refl
       go false e = ap (λ (l : List ℕ). c ∷ l) e
 
@@ -44,7 +43,7 @@ module _ (byte : ℕ) where
   before-within [] = omega arith
   before-within (c ∷ s) = go (eqb c byte) (before-within s)
     where
-      go : (t : Bool) → length (before byte s) ≤ length s → length (pick t [] (c ∷ before byte s)) ≤ suc (length s)
+      go : (t : Bool) → length (before byte s) ≤ length s → length (cond t [] (c ∷ before byte s)) ≤ suc (length s)
       go true e = omega arith
       go false e = omega arith
 

@@ -1,4 +1,5 @@
 -- Laws of numbers and bytes as the output has them, and of writing them. Assumes nothing.
+use mathlib.Core.Bool.{cond}
 use mathlib.Core.Path.{_≡_, refl, sym, ap, _∙_}
 use mathlib.Core.List.{List, [], _∷_, _++_, append-assoc, append-nil}
 use Prim.Native.Nat.{ℕ, zero, suc, _+_, _*_, _-_, _/_, _%_, _^_, _≤_, _<_}
@@ -10,7 +11,6 @@ use borrow.Author.Tests.{lt-ltb, le-ltb, le-leb, lt-leb}
 use lib.Dec.{ltb, lit<}
 use lib.ListN.{length, getD, take, drop, set, length-append, length-set, drop-of-length-le}
 use lib.Seq.{drop-cons, drop-at, set-split, length-take-le}
-use Rattle.hash_parts.specs.Choice.{pick}
 use Rattle.records.specs.Area.{pasted}
 use Rattle.passage_lines.specs.Ascii.{ascii}
 use Rattle.passage_lines.specs.Output.{digitsIn, decimalText, hexDigit, hexText, bytesText, output, appended}
@@ -23,7 +23,7 @@ unfolding digitsIn
 one-more zero n h =
     let e : n < 10 = omega arith in
     simp (lt-ltb _ _ e)
-one-more (suc steps) n h = ap (λ (r : List ℕ). pick (ltb n 10) ((n + 48) ∷ []) (r ++ ((n % 10 + 48) ∷ []))) (one-more steps (n / 10) (omega arith))
+one-more (suc steps) n h = ap (λ (r : List ℕ). cond (ltb n 10) ((n + 48) ∷ []) (r ++ ((n % 10 + 48) ∷ []))) (one-more steps (n / 10) (omega arith))
 
 enough : (steps n : ℕ) → n ≤ steps → digitsIn steps n ≡ digitsIn n n
 enough steps n h = le-ind (λ (m : ℕ). digitsIn m n ≡ digitsIn n n) refl (λ m l e. one-more m n l ∙ e) steps h

@@ -1,6 +1,6 @@
 -- Laws of the fields of a line: where a field ends, and what stands after it. Assumes nothing.
 use mathlib.Core.Path.{_≡_, sym, ap, ap₂, _∙_}
-use mathlib.Core.Bool.{Bool, true, false}
+use mathlib.Core.Bool.{Bool, true, false, cond}
 use mathlib.Core.List.{List, [], _∷_, _++_, append-assoc, append-nil}
 use Prim.Native.Nat.{ℕ, suc, _+_, _-_, _≤_, _<_}
 use native.Mathlib.Decide.{decLt}
@@ -10,7 +10,6 @@ use borrow.Author.Tests.{le-leb, lt-leb}
 use lib.Dec.{eqb, leb, leb·zero}
 use lib.ListN.{length, take, drop, length-append, length-drop, drop-of-length-le}
 use lib.Seq.{drop-cons, drop-drop}
-use Rattle.hash_parts.specs.Choice.{pick}
 use Rattle.passage_lines.specs.Bytes.{before, firstFrom}
 use Rattle.passage_lines.specs.Fields.{Field, field, split, fieldsOf, fieldsAt}
 use Rattle.passage_lines.proofs.Search.{before-front, before-within}
@@ -30,8 +29,8 @@ split-field at seen (c ∷ s) = go (eqb c 32) (split-field at (seen ++ (c ∷ []
   where
     go : (t : Bool)
         → split at (seen ++ (c ∷ [])) s ≡ field at ((seen ++ (c ∷ [])) ++ before 32 s) ∷ after (at + length (seen ++ (c ∷ [])) + length (before 32 s)) (drop (length (before 32 s)) s)
-        → pick t (field at seen ∷ split (at + length seen + 1) [] s) (split at (seen ++ (c ∷ [])) s)
-        ≡ field at (seen ++ pick t [] (c ∷ before 32 s)) ∷ after (at + length seen + length (pick t [] (c ∷ before 32 s))) (drop (length (pick t [] (c ∷ before 32 s))) (c ∷ s))
+        → cond t (field at seen ∷ split (at + length seen + 1) [] s) (split at (seen ++ (c ∷ [])) s)
+        ≡ field at (seen ++ cond t [] (c ∷ before 32 s)) ∷ after (at + length seen + length (cond t [] (c ∷ before 32 s))) (drop (length (cond t [] (c ∷ before 32 s))) (c ∷ s))
     go true e =
         let z : at + length seen ≡ at + length seen + 0 = omega arith in
         ap₂ (λ (t : List ℕ) (n : ℕ). field at t ∷ split (n + 1) [] s) (sym (append-nil seen)) z
@@ -43,7 +42,7 @@ after-is : (line : List ℕ) (p : ℕ) → p ≤ length line → after p (drop p
 unfolding fieldsAt
 after-is line p h = go (decLt p (length line))
   where
-    go : Dec (p < length line) → after p (drop p line) ≡ pick (leb (p + 1) (length line)) (split (p + 1) [] (drop (p + 1) line)) []
+    go : Dec (p < length line) → after p (drop p line) ≡ cond (leb (p + 1) (length line)) (split (p + 1) [] (drop (p + 1) line)) []
     go (yes l) = rw (drop-cons line p 0 l, le-leb (p + 1) (length line) (omega arith), add-one p)
     go (no n) =
         let e : length line ≤ p = omega arith in

@@ -2,12 +2,11 @@
 -- lifetime; `close` target; `get` hash key tick. [..] A line of another form, over 8,192 bytes, with a number past its width [..] prints `bad`."
 -- Assumes nothing.
 use Prim.Native.Nat.{ℕ}
-use mathlib.Core.Bool.{Bool}
+use mathlib.Core.Bool.{Bool, cond}
 use mathlib.Core.List.{List, [], _∷_}
 use mathlib.Core.Option.{Option, none, some}
 use lib.Dec.{ltb}
 use lib.ListN.{length}
-use Rattle.hash_parts.specs.Choice.{pick}
 use Rattle.hash_parts.specs.declared.setting.SegmentCacheConfig.{SegmentCacheConfig}
 use Rattle.hash_parts.specs.declared.setting.SegmentExpiry.{SegmentExpiry}
 use Rattle.records.specs.Area.{sameBytes}
@@ -60,10 +59,10 @@ getForm = next hash λ h. next bytes λ key. next (decimal 64) λ tick. done (Ge
 -- the form that a word asks for
 unfoldable pub wordForm : List ℕ → List Field → Command
 wordForm word fields =
-    pick (sameBytes word (ascii "open")) (openForm fields)
-    (pick (sameBytes word (ascii "put")) (putForm fields)
-    (pick (sameBytes word (ascii "close")) (closeForm fields)
-    (pick (sameBytes word (ascii "get")) (getForm fields) Bad)))
+    cond (sameBytes word (ascii "open")) (openForm fields)
+    (cond (sameBytes word (ascii "put")) (putForm fields)
+    (cond (sameBytes word (ascii "close")) (closeForm fields)
+    (cond (sameBytes word (ascii "get")) (getForm fields) Bad)))
 
 abbrev pub commandIn : List Field → Command
 commandIn [] = Bad
@@ -71,4 +70,4 @@ commandIn (word ∷ fields) = wordForm (word .text) fields
 
 -- the command of a line
 unfoldable pub commandOf : List ℕ → Command
-commandOf line = pick (ltb 8192 (length line)) Bad (commandIn (fieldsOf line))
+commandOf line = cond (ltb 8192 (length line)) Bad (commandIn (fieldsOf line))

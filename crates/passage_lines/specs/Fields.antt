@@ -1,12 +1,11 @@
 -- A line as fields, one space between two of them.
 -- Assumes nothing.
 use Prim.Native.Nat.{ℕ, _+_, _-_, _^_}
-use mathlib.Core.Bool.{Bool}
+use mathlib.Core.Bool.{Bool, cond}
 use mathlib.Core.List.{List, [], _∷_, _++_}
 use mathlib.Core.Option.{Option, none, some}
 use lib.Dec.{eqb, leb}
 use lib.ListN.{length, drop}
-use Rattle.hash_parts.specs.Choice.{pick}
 use Rattle.hash_parts.specs.declared.duration.Lifetime.{Lifetime}
 use Rattle.hash_parts.specs.declared.setting.SegmentExpiry.{SegmentExpiry}
 use Rattle.records.specs.declared.record.Span.{Span}
@@ -37,7 +36,7 @@ split at seen [] = field at seen ∷ []
 split at seen (c ∷ s) =
     let ended : List Field = field at seen ∷ split (at + length seen + 1) [] s in
     let longer : List Field = split at (seen ++ (c ∷ [])) s in
-    pick (eqb c 32) ended longer
+    cond (eqb c 32) ended longer
 
 -- the fields of a line
 unfoldable pub fieldsOf : List ℕ → List Field
@@ -76,7 +75,7 @@ lifetime f = lifetimeOf (f .text)
 
 -- the fields from a position on, none past the line's end
 unfoldable pub fieldsAt : List ℕ → ℕ → List Field
-fieldsAt line at = pick (leb at (length line)) (split at [] (drop at line)) []
+fieldsAt line at = cond (leb at (length line)) (split at [] (drop at line)) []
 
 -- what a field reads as, with the position after it and its space; nothing where it is of another form
 pub data Got (A : Type 0) : Type 0 where

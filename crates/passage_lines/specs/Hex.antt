@@ -2,12 +2,11 @@
 -- bytes".
 -- Assumes nothing.
 use Prim.Native.Nat.{ℕ, _+_, _*_}
-use mathlib.Core.Bool.{Bool, true, false}
+use mathlib.Core.Bool.{Bool, true, false, cond}
 use mathlib.Core.List.{List, [], _∷_}
 use mathlib.Core.Option.{Option, none, some}
 use lib.Dec.{eqb, leb, ltb}
 use lib.ListN.{length}
-use Rattle.hash_parts.specs.Choice.{pick}
 use Rattle.records.specs.Area.{over, sameBytes}
 use Rattle.passage_lines.specs.Ascii.{ascii}
 use Rattle.passage_lines.specs.Text.{digitOf}
@@ -22,7 +21,7 @@ inFront b (some s) = some (b ∷ s)
 unfoldable pub bytesOfHex : List ℕ → Option (List ℕ)
 bytesOfHex [] = some []
 bytesOfHex (h ∷ []) = none
-bytesOfHex (h ∷ l ∷ s) = pick (ltb (digitOf h) 16) (pick (ltb (digitOf l) 16) (inFront (digitOf h * 16 + digitOf l) (bytesOfHex s)) none) none
+bytesOfHex (h ∷ l ∷ s) = cond (ltb (digitOf h) 16) (cond (ltb (digitOf l) 16) (inFront (digitOf h * 16 + digitOf l) (bytesOfHex s)) none) none
 
 abbrev pub spells : Option (List ℕ) → Bool
 spells none = false
@@ -34,7 +33,7 @@ isHex text = spells (bytesOfHex text)
 
 -- how many characters of a field spell its bytes: "`-` for no bytes", else an even number of digits, and at least two
 unfoldable pub hexLength : List ℕ → Option ℕ
-hexLength text = pick (sameBytes text (ascii "-")) (some 0) (pick (eqb (length text) 0) none (pick (isHex text) (some (length text)) none))
+hexLength text = cond (sameBytes text (ascii "-")) (some 0) (cond (eqb (length text) 0) none (cond (isHex text) (some (length text)) none))
 
 -- ---- decoding into a lent area
 
@@ -50,7 +49,7 @@ decodeResult decode.Refused area = record { count = none; area = area }
 -- the bytes of a text are written to the front of an area; nothing is, where the text spells none or they do not fit
 abbrev pub decodedTo : List ℕ → Option (List ℕ) → Decoded
 decodedTo area none = record { count = none; area = area }
-decodedTo area (some s) = pick (leb (length s) (length area)) (record { count = some (length s); area = over s area }) (record { count = none; area = area })
+decodedTo area (some s) = cond (leb (length s) (length area)) (record { count = some (length s); area = over s area }) (record { count = none; area = area })
 
 unfoldable pub decoded : List ℕ → List ℕ → Decoded
 decoded text area = decodedTo area (bytesOfHex text)

@@ -3,12 +3,11 @@
 -- A number past its width, or a text of another form, is none.
 -- Assumes nothing.
 use Prim.Native.Nat.{ℕ, _+_, _*_, _-_, _^_}
-use mathlib.Core.Bool.{Bool, true, false}
+use mathlib.Core.Bool.{Bool, true, false, cond}
 use mathlib.Core.List.{List, [], _∷_}
 use mathlib.Core.Option.{Option, none, some}
 use lib.Dec.{eqb, leb, ltb}
 use lib.ListN.{length, take, drop, getD}
-use Rattle.hash_parts.specs.Choice.{pick}
 use Rattle.hash_parts.specs.declared.duration.Duration.{Duration}
 use Rattle.hash_parts.specs.declared.duration.Lifetime.{Lifetime}
 use Rattle.hash_parts.specs.declared.duration.Lifetime.the-variants as life
@@ -29,16 +28,16 @@ use Rattle.passage_lines.specs.declared.text.Number.the-variants as give
 
 -- the value of a digit, `0` to `9` (48 to 57) and `a` to `f` (97 to 102); 16, which no base here has, for any other character
 unfoldable pub digitOf : ℕ → ℕ
-digitOf c = pick (ltb c 48) 16 (pick (leb c 57) (c - 48) (pick (ltb c 97) 16 (pick (leb c 102) (c - 87) 16)))
+digitOf c = cond (ltb c 48) 16 (cond (leb c 57) (c - 48) (cond (ltb c 97) 16 (cond (leb c 102) (c - 87) 16)))
 
 -- the number that digits of n and then a text spell
 unfoldable pub spelled : ℕ → ℕ → List ℕ → Option ℕ
 spelled base n [] = some n
-spelled base n (c ∷ s) = pick (ltb (digitOf c) base) (spelled base (n * base + digitOf c) s) none
+spelled base n (c ∷ s) = cond (ltb (digitOf c) base) (spelled base (n * base + digitOf c) s) none
 
 abbrev pub atMost : ℕ → Option ℕ → Option ℕ
 atMost max none = none
-atMost max (some n) = pick (leb n max) (some n) none
+atMost max (some n) = cond (leb n max) (some n) none
 
 -- the number that one digit or more spell, where it is at most max
 unfoldable pub numberIn : ℕ → ℕ → List ℕ → Option ℕ
@@ -59,8 +58,8 @@ timed (some secs) (some nanos) = some (record { secs = secs; nanos = nanos })
 -- "a duration has nine digits after its point" (46): seconds of 64 bits before it, nanoseconds after it
 unfoldable pub durationOf : List ℕ → Option Duration
 durationOf text =
-    pick (ltb (length text) 11) none
-    (pick (eqb (getD text (length text - 10) 0) 46)
+    cond (ltb (length text) 11) none
+    (cond (eqb (getD text (length text - 10) 0) 46)
     (timed (numberIn 10 (2 ^ 64 - 1) (take (length text - 10) text)) (numberIn 10 999_999_999 (drop (length text - 9) text)))
     none)
 
@@ -72,7 +71,7 @@ durationGiven duration.Bad = none
 
 -- "Layout is `packed` or `words`": whether it is packed
 unfoldable pub layoutOf : List ℕ → Option Bool
-layoutOf text = pick (sameBytes text (ascii "packed")) (some true) (pick (sameBytes text (ascii "words")) (some false) none)
+layoutOf text = cond (sameBytes text (ascii "packed")) (some true) (cond (sameBytes text (ascii "words")) (some false) none)
 
 abbrev pub layoutGiven : LayoutText → Option Bool
 layoutGiven (layout.Packed p) = some p
@@ -84,7 +83,7 @@ ticksOf (some tick) = some (expiry.Relative16 tick)
 
 -- "tick length may be `none`"
 unfoldable pub tickLengthOf : List ℕ → Option SegmentExpiry
-tickLengthOf text = pick (sameBytes text (ascii "none")) (some expiry.None) (ticksOf (durationOf text))
+tickLengthOf text = cond (sameBytes text (ascii "none")) (some expiry.None) (ticksOf (durationOf text))
 
 abbrev pub tickLengthGiven : TickLength → Option SegmentExpiry
 tickLengthGiven (tick.Of e) = some e
@@ -96,7 +95,7 @@ endingAfter (some d) = some (life.For d)
 
 -- "lifetime `never`"
 unfoldable pub lifetimeOf : List ℕ → Option Lifetime
-lifetimeOf text = pick (sameBytes text (ascii "never")) (some life.Never) (endingAfter (durationOf text))
+lifetimeOf text = cond (sameBytes text (ascii "never")) (some life.Never) (endingAfter (durationOf text))
 
 abbrev pub lifetimeGiven : LifetimeText → Option Lifetime
 lifetimeGiven (lifetime.Of l) = some l

@@ -1,6 +1,6 @@
 -- Laws of written areas, and of comparing bytes. Assumes nothing.
 use mathlib.Core.Path.{_≡_, refl, sym, ap, ap₂, _∙_}
-use mathlib.Core.Bool.{Bool, true, false}
+use mathlib.Core.Bool.{Bool, true, false, cond}
 use mathlib.Core.List.{List, [], _∷_, _++_, append-assoc, append-nil}
 use Prim.Native.Nat.{ℕ, _+_, _*_, _-_, _≤_, _<_}
 use native.Mathlib.Nat.{le-of-eq}
@@ -11,7 +11,6 @@ use borrow.Rule.Slice.PartMut.{putMid}
 use lib.Dec.{eqb}
 use lib.ListN.{length, getD, take, drop, set, length-append, length-drop, drop-of-length-le}
 use lib.Seq.{take-all, take-at, drop-at, drop-drop, set-at, drop-cons, getD-drop}
-use Rattle.hash_parts.specs.Choice.{pick}
 use Rattle.hash_parts.specs.Outcome.{accepted, refused}
 use Rattle.hash_parts.specs.declared.error.SegmentCacheBuildError.the-variants.{AreaTooShort}
 use Rattle.records.specs.Area.{over, pasted, written, spanned, sameBytes}
@@ -132,7 +131,7 @@ same-true [] (y ∷ b) e = cc
 same-true (x ∷ a) [] e = cc
 same-true (x ∷ a) (y ∷ b) e = go (eqb x y) refl e (same-true a b)
   where
-    go : (t : Bool) → eqb x y ≡ t → pick t (sameBytes a b) false ≡ true → (sameBytes a b ≡ true → a ≡ b) → x ∷ a ≡ y ∷ b
+    go : (t : Bool) → eqb x y ≡ t → cond t (sameBytes a b) false ≡ true → (sameBytes a b ≡ true → a ≡ b) → x ∷ a ≡ y ∷ b
     go true q s f =
         let h : x ≡ y = eqb-true x y q in
         let t : a ≡ b = f s in
@@ -148,7 +147,7 @@ same-lengths a b ne = go (sameBytes a b) refl
 
 -- a byte more
 same-step : (a b : List ℕ) (i : ℕ) → i < length a → i < length b
-    → sameBytes (drop i a) (drop i b) ≡ pick (eqb (getD a i 0) (getD b i 0)) (sameBytes (drop (i + 1) a) (drop (i + 1) b)) false
+    → sameBytes (drop i a) (drop i b) ≡ cond (eqb (getD a i 0) (getD b i 0)) (sameBytes (drop (i + 1) a) (drop (i + 1) b)) false
 unfolding sameBytes
 same-step a b i h k = rw (drop-cons a i 0 h, drop-cons b i 0 k, add-one i)
 

@@ -1,14 +1,13 @@
 -- Laws of the parts of a stored record: its size, the deadline's bytes, and what is read at a position by what its two prefixes say.
 -- Assumes nothing.
 use mathlib.Core.Path.{_≡_, refl, ap, ap₂, _∙_}
-use mathlib.Core.Bool.{Bool, true, false}
+use mathlib.Core.Bool.{Bool, true, false, cond}
 use mathlib.Core.List.{List, [], _∷_}
 use Prim.Native.Nat.{ℕ, _+_, _*_, _-_, _/_, _%_, _^_, _≤_, _<_}
 use native.Mathlib.Omega.{arith}
 use borrow.Author.Tests.{le-leb, lt-leb, lt-ltb, le-ltb, ltb-false}
 use lib.Dec.{ltb}
 use lib.ListN.{length, getD, set, length-append}
-use Rattle.hash_parts.specs.Choice.{pick}
 use Rattle.hash_parts.specs.Outcome.{Outcome, accepted, refused}
 use Rattle.hash_parts.specs.Setting.{bytesPerRecord}
 use Rattle.hash_parts.specs.declared.duration.Duration.{Duration}
@@ -69,7 +68,7 @@ pub size-accepted : (e : SegmentExpiry) (k v n : ℕ) → accepted n ≡ encoded
 unfolding encodedSize
 size-accepted e k v n f = go (ltb (recordSize e k v) (2 ^ 64)) f
   where
-    go : (t : Bool) → accepted n ≡ pick t (accepted (recordSize e k v)) (refused CapacityOverflow) → n ≡ recordSize e k v
+    go : (t : Bool) → accepted n ≡ cond t (accepted (recordSize e k v)) (refused CapacityOverflow) → n ≡ recordSize e k v
     go true q = ap (λ (o : Outcome). o .value) q
     go false q = absurd (let z : _≡_ {A = ℕ} 0 3 = ap (λ (o : Outcome). o .number) q in omega arith)
 
@@ -77,7 +76,7 @@ pub size-refused : (e : SegmentExpiry) (k v : ℕ) (x : SegmentCacheBuildError) 
 unfolding encodedSize
 size-refused e k v x f = go (ltb (recordSize e k v) (2 ^ 64)) refl f
   where
-    go : (t : Bool) → ltb (recordSize e k v) (2 ^ 64) ≡ t → refused x ≡ pick t (accepted (recordSize e k v)) (refused CapacityOverflow) → 2 ^ 64 ≤ recordSize e k v
+    go : (t : Bool) → ltb (recordSize e k v) (2 ^ 64) ≡ t → refused x ≡ cond t (accepted (recordSize e k v)) (refused CapacityOverflow) → 2 ^ 64 ≤ recordSize e k v
     go true l q = absurd (omega (arith, refusal-pos x, ap (λ (o : Outcome). o .number) q))
     go false l q = ltb-false (recordSize e k v) (2 ^ 64) l
 

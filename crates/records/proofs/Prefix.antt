@@ -2,7 +2,7 @@
 -- stands around the prefix does not matter; and the steps by which the code reads it.
 -- Assumes nothing.
 use mathlib.Core.Path.{_≡_, refl, ap, ap₂, _∙_}
-use mathlib.Core.Bool.{Bool, true, false}
+use mathlib.Core.Bool.{Bool, true, false, cond}
 use mathlib.Core.List.{List, _++_}
 use Prim.Native.Nat.{ℕ, zero, suc, _+_, _*_, _-_, _%_, _^_, _≤_, _<_}
 use native.Mathlib.Nat.{pow-suc, mul-comm, mul-assoc, mul-add, add-assoc, not-suc-le-zero, mod-eq-of-lt, mul-le-mul-left, mul-le-mul-right, one-le-pow}
@@ -12,7 +12,6 @@ use borrow.Author.Tests.{le-leb, lt-leb}
 use lib.Dec.{leb, lit<, leb·suc-suc}
 use lib.ListN.{length, getD, drop, length-drop, drop-of-length-le}
 use lib.Seq.{drop-at, drop-cons, drop-append-le, drop-append-add}
-use Rattle.hash_parts.specs.Choice.{pick}
 use Rattle.records.specs.Uleb128.{uleb128, Decoded, decoded, unended, continued, decode}
 use Rattle.records.specs.Varint.{limited, readVarint}
 use Rattle.records.specs.declared.varint.Varint.{Varint}
@@ -38,17 +37,17 @@ read-written p rest n at e h =
 
 -- a prefix that is read was read by the standard's reader
 read-is : (s : List ℕ) (at v n : ℕ) → readVarint s at ≡ Value v n
-    → (w : ℕ) × (m : ℕ) × (decode (drop at s) ≡ decoded w m) × (pick (leb m 10) (Value (w % 2 ^ 64) (at + m)) Unreadable ≡ Value v n)
+    → (w : ℕ) × (m : ℕ) × (decode (drop at s) ≡ decoded w m) × (cond (leb m 10) (Value (w % 2 ^ 64) (at + m)) Unreadable ≡ Value v n)
 unfolding readVarint
 read-is s at v n e = go (decode (drop at s)) refl e
   where
     go : (d : Decoded) → decode (drop at s) ≡ d → limited at d ≡ Value v n
-        → (w : ℕ) × (m : ℕ) × (decode (drop at s) ≡ decoded w m) × (pick (leb m 10) (Value (w % 2 ^ 64) (at + m)) Unreadable ≡ Value v n)
+        → (w : ℕ) × (m : ℕ) × (decode (drop at s) ≡ decoded w m) × (cond (leb m 10) (Value (w % 2 ^ 64) (at + m)) Unreadable ≡ Value v n)
     go (decoded w m) q f = (w, m, q, f)
     go unended q f = absurd (let z : _≡_ {A = ℕ} 0 1 = cc in omega arith)
 
 -- the position moves with what stands before
-moved : (t : Bool) (x v k n m : ℕ) → pick t (Value x n) Unreadable ≡ Value v m → (n ≡ m) × (pick t (Value x (k + n)) Unreadable ≡ Value v (k + m))
+moved : (t : Bool) (x v k n m : ℕ) → cond t (Value x n) Unreadable ≡ Value v m → (n ≡ m) × (cond t (Value x (k + n)) Unreadable ≡ Value v (k + m))
 moved true x v k n m e =
     let p : n ≡ m = cc in
     let q : x ≡ v = cc in
@@ -87,7 +86,7 @@ byte-next s i b e h l = rw (drop-cons s i 0 h, ← e, add-one i) (decode-next b 
 
 -- what reading answers, where the bytes before i gave acc, one bit of the next counts scale, and left bytes may stand before the last
 abbrev pub answer : ℕ → ℕ → ℕ → ℕ → Decoded → Varint
-answer acc scale i left (decoded v n) = pick (leb n (suc left)) (Value ((acc + scale * v) % 2 ^ 64) (i + n)) Unreadable
+answer acc scale i left (decoded v n) = cond (leb n (suc left)) (Value ((acc + scale * v) % 2 ^ 64) (i + n)) Unreadable
 answer acc scale i left unended = Unreadable
 
 pub answer-start : (s : List ℕ) (at : ℕ) → readVarint s at ≡ answer 0 1 at 9 (decode (drop at s))
@@ -97,7 +96,7 @@ answer-start s at = go (decode (drop at s))
     go : (d : Decoded) → limited at d ≡ answer 0 1 at 9 d
     go (decoded v n) =
         let e : v ≡ 0 + 1 * v = omega arith in
-        ap (λ (x : ℕ). pick (leb n 10) (Value (x % 2 ^ 64) (at + n)) Unreadable) e
+        ap (λ (x : ℕ). cond (leb n 10) (Value (x % 2 ^ 64) (at + n)) Unreadable) e
     go unended = refl
 
 -- one more byte, of payload b - 128
@@ -110,7 +109,7 @@ answer-next acc scale i b (suc m) (decoded v n) l h p =
     let g : i + suc n ≡ i + 1 + n = omega arith in
     let z : suc m - 1 ≡ m = omega arith in
     rw (z, leb·suc-suc n (suc m))
-    (ap₂ (λ (x y : ℕ). pick (leb n (suc m)) (Value (x % 2 ^ 64) y) Unreadable) (ap (λ (x : ℕ). acc + scale * (x + 128 * v)) e ∙ regroup (b - 128)) g)
+    (ap₂ (λ (x y : ℕ). cond (leb n (suc m)) (Value (x % 2 ^ 64) y) Unreadable) (ap (λ (x : ℕ). acc + scale * (x + 128 * v)) e ∙ regroup (b - 128)) g)
   where
     regroup : (x : ℕ) → acc + scale * (x + 128 * v) ≡ acc + x * scale + scale * 128 * v
     regroup x = rw (mul-add scale x (128 * v), ← mul-assoc scale 128 v, mul-comm scale x, ← add-assoc acc (x * scale) (scale * 128 * v))

@@ -2,7 +2,7 @@
 -- every list that holds the list.
 -- Assumes nothing.
 use mathlib.Core.Path.{_≡_, refl, sym, ap, ap₂, _∙_}
-use mathlib.Core.Bool.{Bool, true, false}
+use mathlib.Core.Bool.{Bool, true, false, cond}
 use mathlib.Core.List.{List, [], _∷_, _++_, append-assoc, append-nil}
 use mathlib.Core.Option.{some}
 use Prim.Native.Nat.{ℕ, _+_, _*_, _-_, _/_, _%_, _^_, _≤_, _<_}
@@ -12,7 +12,6 @@ use borrow.Author.Tests.{leb-true}
 use lib.Dec.{leb}
 use lib.ListN.{length, getD, drop, length-append, length-drop, List·getD-append}
 use lib.Seq.{take-at, drop-at, getD-at, getD-append-add, drop-append-add, drop-append-le, take-append-le}
-use Rattle.hash_parts.specs.Choice.{pick}
 use Rattle.hash_parts.specs.Setting.{bytesPerRecord}
 use Rattle.hash_parts.specs.declared.setting.SegmentExpiry.{SegmentExpiry}
 use Rattle.hash_parts.specs.declared.setting.SegmentExpiry.the-variants.{None, Relative16}
@@ -150,7 +149,7 @@ read-by e s at r f = after-key (readVarint s at) refl f
     clash y = absurd (let z : _≡_ {A = ℕ} 0 1 = cc in omega arith)
 
     fitting : (k p v q : ℕ) → readVarint s at ≡ varint.Value k p → readVarint s p ≡ varint.Value v q → (t : Bool) → leb (q + bytesPerRecord e + k + v) (length s) ≡ t
-        → pick t (Read (refAt e s at k v q)) Unreadable ≡ Read r → ReadBy e s at r
+        → cond t (Read (refAt e s at k v q)) Unreadable ≡ Read r → ReadBy e s at r
     fitting k p v q g h true l y = record { key = k; p = p; value = v; q = q; key-read = g; value-read = h; inside = leb-true _ _ l; is = cc }
     fitting k p v q g h false l y = clash y
 

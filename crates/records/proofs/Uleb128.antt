@@ -2,7 +2,7 @@
 -- as short reads as that number.
 -- Assumes nothing.
 use mathlib.Core.Path.{_≡_, refl, sym, ap, ap₂, _∙_, subst₂}
-use mathlib.Core.Bool.{Bool, true, false}
+use mathlib.Core.Bool.{Bool, true, false, cond}
 use mathlib.Core.List.{List, [], _∷_, _++_}
 use Prim.Native.Nat.{ℕ, zero, suc, _+_, _*_, _/_, _%_, _^_, _≤_, _<_}
 use native.Mathlib.Nat.{pow-suc, div-lt-iff-lt-mul, not-suc-le-zero}
@@ -11,7 +11,6 @@ use native.Mathlib.Omega.{arith}
 use borrow.Author.Tests.{lt-ltb, le-ltb}
 use lib.Dec.{ltb, lit<}
 use lib.ListN.{length, take}
-use Rattle.hash_parts.specs.Choice.{pick}
 use Rattle.hash_parts.proofs.Bytes.{Bytes, one-byte}
 use Rattle.records.specs.Uleb128.{ulebIn, uleb128, Decoded, decoded, unended, continued, decode}
 
@@ -23,7 +22,7 @@ unfolding ulebIn
 one-more zero n h =
     let e : n < 128 = omega arith in
     simp (lt-ltb _ _ e)
-one-more (suc steps) n h = ap (λ (r : List ℕ). pick (ltb n 128) (n ∷ []) ((n % 128 + 128) ∷ r)) (one-more steps (n / 128) (omega arith))
+one-more (suc steps) n h = ap (λ (r : List ℕ). cond (ltb n 128) (n ∷ []) ((n % 128 + 128) ∷ r)) (one-more steps (n / 128) (omega arith))
 
 enough : (steps n : ℕ) → n ≤ steps → ulebIn steps n ≡ ulebIn n n
 enough steps n h = le-ind (λ (m : ℕ). ulebIn m n ≡ ulebIn n n) refl (λ m l e. one-more m n l ∙ e) steps h
@@ -95,9 +94,9 @@ unfolding decode
 decode-inside [] v n e = absurd (let z : _≡_ {A = ℕ} 0 1 = cc in omega arith)
 decode-inside (b ∷ s) v n e = go (ltb b 128) refl e (decode s) refl (decode-inside s)
   where
-    go : (t : Bool) → ltb b 128 ≡ t → pick t (decoded b 1) (continued b (decode s)) ≡ decoded v n → (d : Decoded) → decode s ≡ d
+    go : (t : Bool) → ltb b 128 ≡ t → cond t (decoded b 1) (continued b (decode s)) ≡ decoded v n → (d : Decoded) → decode s ≡ d
         → ((w m : ℕ) → decode s ≡ decoded w m → (1 ≤ m) × (m ≤ length s) × ((post : List ℕ) → decode (s ++ post) ≡ decoded w m))
-        → (1 ≤ n) × (n ≤ suc (length s)) × ((post : List ℕ) → pick t (decoded b 1) (continued b (decode (s ++ post))) ≡ decoded v n)
+        → (1 ≤ n) × (n ≤ suc (length s)) × ((post : List ℕ) → cond t (decoded b 1) (continued b (decode (s ++ post))) ≡ decoded v n)
     go true q f d r i =
         let one : 1 ≡ n = cc in
         (omega arith, omega arith, λ post. f)

@@ -1,11 +1,10 @@
 -- Writing to the front of a lent area, parts of an area, and comparing bytes.
 -- Assumes nothing.
 use Prim.Native.Nat.{ℕ, _+_}
-use mathlib.Core.Bool.{Bool, true, false}
+use mathlib.Core.Bool.{Bool, true, false, cond}
 use mathlib.Core.List.{List, [], _∷_, _++_}
 use lib.Dec.{eqb, leb}
 use lib.ListN.{length, take, drop}
-use Rattle.hash_parts.specs.Choice.{pick}
 use Rattle.hash_parts.specs.Outcome.{Outcome, accepted, refused}
 use Rattle.hash_parts.specs.declared.error.SegmentCacheBuildError.the-variants.{AreaTooShort}
 use Rattle.records.specs.declared.record.Span.{Span}
@@ -35,7 +34,7 @@ writeResult r area = record { answer = writeOutcome r; area = area }
 -- s is written where it fits; else nothing is, and the value is 0
 unfoldable pub written : List ℕ → List ℕ → Written
 written s area =
-    pick (leb (length s) (length area))
+    cond (leb (length s) (length area))
     (record { answer = accepted (length s); area = over s area })
     (record { answer = refused AreaTooShort; area = area })
 
@@ -45,11 +44,11 @@ part at len s = take len (drop at s)
 
 -- Answer: "The value handed out is a part of the arena itself." A span that leaves the arena gives the empty part.
 unfoldable pub spanned : List ℕ → Span → List ℕ
-spanned arena span = pick (leb (span .at + span .len) (length arena)) (part (span .at) (span .len) arena) []
+spanned arena span = cond (leb (span .at + span .len) (length arena)) (part (span .at) (span .len) arena) []
 
 -- whether two lists of bytes are the same
 unfoldable pub sameBytes : List ℕ → List ℕ → Bool
 sameBytes [] [] = true
 sameBytes [] (y ∷ b) = false
 sameBytes (x ∷ a) [] = false
-sameBytes (x ∷ a) (y ∷ b) = pick (eqb x y) (sameBytes a b) false
+sameBytes (x ∷ a) (y ∷ b) = cond (eqb x y) (sameBytes a b) false

@@ -2,11 +2,11 @@
 -- little-endian, key, value."
 -- Assumes nothing.
 use Prim.Native.Nat.{ℕ, _+_, _*_, _-_, _/_, _%_, _^_}
+use mathlib.Core.Bool.{cond}
 use mathlib.Core.List.{List, [], _∷_, _++_}
 use mathlib.Core.Option.{Option, none, some}
 use lib.Dec.{leb, ltb}
 use lib.ListN.{length, getD}
-use Rattle.hash_parts.specs.Choice.{pick}
 use Rattle.hash_parts.specs.Outcome.{Outcome, accepted, refused}
 use Rattle.hash_parts.specs.Setting.{bytesPerRecord}
 use Rattle.hash_parts.specs.declared.error.SegmentCacheBuildError.the-variants.{CapacityOverflow}
@@ -43,7 +43,7 @@ sizeOutcome (size.Refused r) = refused r
 
 -- the size where it fits 64 bits
 unfoldable pub encodedSize : SegmentExpiry → ℕ → ℕ → Outcome
-encodedSize e key value = pick (ltb (recordSize e key value) (2 ^ 64)) (accepted (recordSize e key value)) (refused CapacityOverflow)
+encodedSize e key value = cond (ltb (recordSize e key value) (2 ^ 64)) (accepted (recordSize e key value)) (refused CapacityOverflow)
 
 -- ---- reading
 
@@ -65,7 +65,7 @@ refAt e s at key value q =
 
 -- it is read where it lies inside
 unfoldable pub recordOf : SegmentExpiry → List ℕ → ℕ → ℕ → ℕ → ℕ → RecordAnswer
-recordOf e s at key value q = pick (leb (q + bytesPerRecord e + key + value) (length s)) (Read (refAt e s at key value q)) Unreadable
+recordOf e s at key value q = cond (leb (q + bytesPerRecord e + key + value) (length s)) (Read (refAt e s at key value q)) Unreadable
 
 abbrev pub afterValue : SegmentExpiry → List ℕ → ℕ → ℕ → Varint → RecordAnswer
 afterValue e s at key (varint.Value value q) = recordOf e s at key value q

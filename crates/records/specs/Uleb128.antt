@@ -2,14 +2,14 @@
 -- lowest first, and the top bit set in each byte but the last.
 -- Assumes nothing.
 use Prim.Native.Nat.{ℕ, zero, suc, _+_, _*_, _/_, _%_}
+use mathlib.Core.Bool.{cond}
 use mathlib.Core.List.{List, [], _∷_}
 use lib.Dec.{ltb}
-use Rattle.hash_parts.specs.Choice.{pick}
 
 -- the bytes of n, where `steps` bytes before the last are more than enough
 unfoldable pub ulebIn : ℕ → ℕ → List ℕ
 ulebIn zero n = n ∷ []
-ulebIn (suc steps) n = let more : List ℕ = (n % 128 + 128) ∷ ulebIn steps (n / 128) in pick (ltb n 128) (n ∷ []) more
+ulebIn (suc steps) n = let more : List ℕ = (n % 128 + 128) ∷ ulebIn steps (n / 128) in cond (ltb n 128) (n ∷ []) more
 
 -- the bytes of n
 unfoldable pub uleb128 : ℕ → List ℕ
@@ -28,4 +28,4 @@ continued b unended = unended
 -- the standard's reader: any number of bytes, a number of any size
 unfoldable pub decode : List ℕ → Decoded
 decode [] = unended
-decode (b ∷ s) = pick (ltb b 128) (decoded b 1) (continued b (decode s))
+decode (b ∷ s) = cond (ltb b 128) (decoded b 1) (continued b (decode s))

@@ -1,12 +1,11 @@
 -- The ways in which open, push and finish end, with what its questions tell where one is accepted. Assumes nothing.
 use mathlib.Core.Path.{_≡_, refl, _∙_}
-use mathlib.Core.Bool.{Bool, true, false}
+use mathlib.Core.Bool.{Bool, true, false, cond}
 use mathlib.Core.List.{List}
 use Prim.Native.Nat.{ℕ, zero, suc, _*_, _≤_}
 use lib.Dec.{leb}
 use lib.ListN.{length, take}
 use borrow.Author.Tests.{leb-true, ne-eqb}
-use Rattle.hash_parts.specs.Choice.{pick}
 use Rattle.hash_parts.specs.declared.duration.Lifetime.{Lifetime}
 use Rattle.hash_parts.specs.declared.setting.SegmentCacheConfig.{SegmentCacheConfig}
 use Rattle.index.specs.Build.{cleared}
@@ -80,7 +79,7 @@ module _ (b : SegmentCacheBuilder) (target : ℕ) (index starts lengths scratch 
       (go (firstNo (take 6 questions)) refl (leb (length (segmentStarts b target index)) 256) refl)
     where
       go : (n : ℕ) → firstNo (take 6 questions) ≡ n → (t : Bool) → leb (length (segmentStarts b target index)) 256 ≡ t
-          → FinishCase (decided (decided n (pick t 0 7) (λ m. m)) (finishMade b target index starts lengths scratch) (finishRefused b target index starts lengths scratch))
+          → FinishCase (decided (decided n (cond t 0 7) (λ m. m)) (finishMade b target index starts lengths scratch) (finishRefused b target index starts lengths scratch))
       go zero e true f = finish-made (finish-asked b target index (length starts) (length lengths) (length scratch) (length arena) e) (leb-true _ _ f)
       go zero e false f = finish-many (finish-asked b target index (length starts) (length lengths) (length scratch) (length arena) e)
       go (suc n) e t f =

@@ -1,6 +1,6 @@
 -- A push into its slot: room for the record in the arena, its bytes there, and what the push leaves. Assumes nothing.
 use mathlib.Core.Path.{_≡_, refl, ap, _∙_}
-use mathlib.Core.Bool.{Bool, true, false}
+use mathlib.Core.Bool.{Bool, true, false, cond}
 use mathlib.Core.List.{List}
 use Prim.Native.Nat.{ℕ, _+_, _-_, _^_, _≤_}
 use native.Mathlib.Omega.{arith}
@@ -8,7 +8,6 @@ use lib.Dec.{leb, ltb}
 use lib.ListN.{length, take, drop, set, length-append, length-take, length-drop}
 use borrow.Author.Tests.{leb-true, leb-false, le-leb, lt-leb, ltb-false}
 use borrow.Rule.Slice.PartMut.{putMid}
-use Rattle.hash_parts.specs.Choice.{pick}
 use Rattle.hash_parts.specs.Hash.{tagOf}
 use Rattle.hash_parts.specs.Outcome.{Outcome, accepted, refused}
 use Rattle.hash_parts.specs.declared.error.SegmentCacheBuildError.{SegmentCacheBuildError}
@@ -41,7 +40,7 @@ module _ (e : SegmentExpiry) (key value : ℕ) where
   unfolding encodedSize
   size-told n q = go (ltb (recordSize e key value) (2 ^ 64)) q
     where
-      go : (b : Bool) → accepted n ≡ pick b (accepted (recordSize e key value)) (refused CapacityOverflow) → n ≡ recordSize e key value
+      go : (b : Bool) → accepted n ≡ cond b (accepted (recordSize e key value)) (refused CapacityOverflow) → n ≡ recordSize e key value
       go true f = ap (λ (o : Outcome). o .value) f
       go false f = absurd (omega (arith, ap (λ (o : Outcome). o .number) f))
 
@@ -49,7 +48,7 @@ module _ (e : SegmentExpiry) (key value : ℕ) where
   unfolding encodedSize
   size-large f q = go (ltb (recordSize e key value) (2 ^ 64)) refl q
     where
-      go : (b : Bool) → ltb (recordSize e key value) (2 ^ 64) ≡ b → refused f ≡ pick b (accepted (recordSize e key value)) (refused CapacityOverflow)
+      go : (b : Bool) → ltb (recordSize e key value) (2 ^ 64) ≡ b → refused f ≡ cond b (accepted (recordSize e key value)) (refused CapacityOverflow)
           → 2 ^ 64 ≤ recordSize e key value
       go true t g = absurd (omega (arith, refusal-pos f, ap (λ (o : Outcome). o .number) g))
       go false t g = ltb-false _ _ t

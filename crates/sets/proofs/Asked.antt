@@ -1,6 +1,6 @@
 -- What the questions of open, push and finish tell where all are answered yes. Assumes nothing.
 use mathlib.Core.Path.{_≡_, refl, sym, _∙_}
-use mathlib.Core.Bool.{Bool, true, false}
+use mathlib.Core.Bool.{Bool, true, false, cond}
 use mathlib.Core.List.{List, [], _∷_, _++_}
 use mathlib.Core.Logic.{_⊎_, inl, inr, ⊎-elim}
 use Prim.Native.Nat.{ℕ, zero, suc, _*_, _≤_, _<_}
@@ -8,7 +8,6 @@ use native.Mathlib.Omega.{arith}
 use lib.Dec.{eqb, leb, ltb}
 use lib.ListN.{length, take}
 use borrow.Author.Tests.{eq-eqb, ne-eqb, eqb-true, leb-true, ltb-true}
-use Rattle.hash_parts.specs.Choice.{pick}
 use Rattle.hash_parts.specs.Hash.{tagOf}
 use Rattle.hash_parts.specs.declared.duration.Lifetime.{Lifetime}
 use Rattle.hash_parts.specs.declared.setting.SegmentCacheConfig.{SegmentCacheConfig}
@@ -23,15 +22,15 @@ use Rattle.sets.specs.declared.builder.SegmentCacheBuilder.{SegmentCache
 use Rattle.sets.proofs.Counts.{both, AreasHoldBuilder, builder-areas-asked}
 
 -- the first question, and those after it
-pub then : (b : Bool) (n r : ℕ) → 0 < n → pick b r n ≡ 0 → (b ≡ true) × (r ≡ 0)
+pub then : (b : Bool) (n r : ℕ) → 0 < n → cond b r n ≡ 0 → (b ≡ true) × (r ≡ 0)
 then true n r h e = (refl, e)
 then false n r h e = absurd (omega (arith, e))
 
 -- the same of a question that is answered no just where its number is not 0
-pub then-own : (n r : ℕ) → pick (eqb n 0) r n ≡ 0 → (n ≡ 0) × (r ≡ 0)
+pub then-own : (n r : ℕ) → cond (eqb n 0) r n ≡ 0 → (n ≡ 0) × (r ≡ 0)
 then-own zero r e = (refl, e)
 then-own (suc n) r e =
-    let own : pick (eqb (suc n) 0) r (suc n) ≡ suc n = rw (ne-eqb (suc n) 0 (λ (z : suc n ≡ 0). omega arith)) in
+    let own : cond (eqb (suc n) 0) r (suc n) ≡ suc n = rw (ne-eqb (suc n) 0 (λ (z : suc n ≡ 0). omega arith)) in
     absurd (omega (arith, own, e))
 
 -- ---- the last question
@@ -46,12 +45,12 @@ Apart m (q ∷ l) = Other m (q .1) × Apart m l
 
 module _ (m : ℕ) where
   -- one question more after them
-  with-last : (l : List (Bool × ℕ)) (b : Bool) → Apart m l → firstNo (l ++ ((b, m) ∷ [])) ≡ decided (firstNo l) (pick b 0 m) (λ n. n)
+  with-last : (l : List (Bool × ℕ)) (b : Bool) → Apart m l → firstNo (l ++ ((b, m) ∷ [])) ≡ decided (firstNo l) (cond b 0 m) (λ n. n)
   with-last [] b a = refl
   with-last (q ∷ l) b a = go (q .0) (q .1) (a .0 .0) (with-last l b (a .1))
     where
-      go : (t : Bool) (n : ℕ) → 0 < n → firstNo (l ++ ((b, m) ∷ [])) ≡ decided (firstNo l) (pick b 0 m) (λ n. n)
-          → pick t (firstNo (l ++ ((b, m) ∷ []))) n ≡ decided (pick t (firstNo l) n) (pick b 0 m) (λ n. n)
+      go : (t : Bool) (n : ℕ) → 0 < n → firstNo (l ++ ((b, m) ∷ [])) ≡ decided (firstNo l) (cond b 0 m) (λ n. n)
+          → cond t (firstNo (l ++ ((b, m) ∷ []))) n ≡ decided (cond t (firstNo l) n) (cond b 0 m) (λ n. n)
       go true n p e = e
       go false zero p e = absurd (omega arith)
       go false (suc n) p e = refl
@@ -60,7 +59,7 @@ module _ (m : ℕ) where
   not-last [] p a e = omega (arith, e)
   not-last (q ∷ l) p a e = go (q .0) (not-last l p (a .1)) e
     where
-      go : (t : Bool) → (firstNo l ≡ m → ⊥) → pick t (firstNo l) (q .1) ≡ m → ⊥
+      go : (t : Bool) → (firstNo l ≡ m → ⊥) → cond t (firstNo l) (q .1) ≡ m → ⊥
       go true rest f = rest f
       go false rest f = a .0 .1 f
 
@@ -181,7 +180,7 @@ module _ (b : SegmentCacheBuilder) (target : ℕ) (index : List ℕ) (starts len
       (eleven, (eleven, (three, (eight, (ten, (eleven, tt))))))
 
   pub finish-last : firstNo (askFinish b target index starts lengths scratch arena)
-      ≡ decided (firstNo (take 6 (askFinish b target index starts lengths scratch arena))) (pick (leb (length (segmentStarts b target index)) 256) 0 7) (λ n. n)
+      ≡ decided (firstNo (take 6 (askFinish b target index starts lengths scratch arena))) (cond (leb (length (segmentStarts b target index)) 256) 0 7) (λ n. n)
   unfolding askFinish
   finish-last = with-last 7 (take 6 (askFinish b target index starts lengths scratch arena)) (leb (length (segmentStarts b target index)) 256) others
 

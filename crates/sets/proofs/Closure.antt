@@ -1,14 +1,13 @@
 -- Question 1 stays answered yes: an accepted open, push or finish leaves a state and areas that pass it, and no call changes the length of an area. Nothing
 -- is assumed of the state given but that the call was accepted. Assumes nothing.
 use mathlib.Core.Path.{_≡_, refl, ap, _∙_}
-use mathlib.Core.Bool.{Bool, true, false}
+use mathlib.Core.Bool.{Bool, true, false, cond}
 use mathlib.Core.List.{List, [], _∷_, _++_, map}
 use Prim.Native.Nat.{ℕ, _+_, _-_, _*_, _/_, _%_, _≤_, _<_}
 use native.Mathlib.Omega.{arith}
 use lib.Dec.{leb}
 use lib.ListN.{length, take, drop, getD, replicate, length-append, length-take, length-drop, length-map, length-set, length-replicate}
 use borrow.Author.Tests.{leb-true, le-leb}
-use Rattle.hash_parts.specs.Choice.{pick}
 use Rattle.hash_parts.specs.Duration.{livesAt}
 use Rattle.hash_parts.specs.Hash.{firstBucket}
 use Rattle.hash_parts.specs.declared.duration.Lifetime.{Lifetime}
@@ -51,7 +50,7 @@ pub cleared-length : (area : List ℕ) (count : ℕ) → length (cleared area co
 unfolding cleared
 cleared-length area count = go (leb count (length area)) refl
   where
-    go : (b : Bool) → leb count (length area) ≡ b → length (pick b (replicate count 0 ++ drop count area) area) ≡ length area
+    go : (b : Bool) → leb count (length area) ≡ b → length (cond b (replicate count 0 ++ drop count area) area) ≡ length area
     go false e = refl
     go true e =
         omega (arith, leb-true count (length area) e, length-append (replicate count 0) (drop count area), length-replicate {A = ℕ} count 0, length-drop count area)
@@ -64,14 +63,14 @@ pub displaced-length : (filter : List ℕ) (words h slot buckets : ℕ) → leng
 unfolding displacedMarked
 displaced-length filter words h slot buckets = go (leb 2 (displaced (firstBucket h buckets) (slot / 8) buckets))
   where
-    go : (b : Bool) → length (pick b (filterMarked filter words h) filter) ≡ length filter
+    go : (b : Bool) → length (cond b (filterMarked filter words h) filter) ≡ length filter
     go true = marked-length filter words h
     go false = refl
 
 split-length : (index : List ℕ) (buckets : ℕ) (ss : List ℕ) (filled target : ℕ) → length (splitWords index buckets ss filled target) ≡ length index
 split-length index buckets ss filled target = go (leb filled target)
   where
-    go : (b : Bool) → length (pick b index (map (splitWord ss) (take (8 * buckets) index) ++ drop (8 * buckets) index)) ≡ length index
+    go : (b : Bool) → length (cond b index (map (splitWord ss) (take (8 * buckets) index) ++ drop (8 * buckets) index)) ≡ length index
     go true = refl
     go false =
         omega
@@ -81,12 +80,12 @@ packed-index-length : (buckets : ℕ) (index scratch : List ℕ) → length (pac
 unfolding packedIndex
 packed-index-length buckets index scratch = go (leb (8 * buckets) (length index)) refl (leb buckets (length scratch))
   where
-    go : (p : Bool) → leb (8 * buckets) (length index) ≡ p → (q : Bool) → length (pick (pick p q false) (packed buckets index) index) ≡ length index
+    go : (p : Bool) → leb (8 * buckets) (length index) ≡ p → (q : Bool) → length (cond (cond p q false) (packed buckets index) index) ≡ length index
     go true e true = packed-length buckets index (leb-true _ _ e)
     go true e false = refl
     go false e q = refl
 
-pub layout-length : (packed : Bool) (buckets : ℕ) (index scratch : List ℕ) → length (pick packed (packedIndex buckets index scratch) index) ≡ length index
+pub layout-length : (packed : Bool) (buckets : ℕ) (index scratch : List ℕ) → length (cond packed (packedIndex buckets index scratch) index) ≡ length index
 layout-length true buckets index scratch = packed-index-length buckets index scratch
 layout-length false buckets index scratch = refl
 
@@ -246,7 +245,7 @@ module _ (s : FrozenSegmentCache) (h : ℕ) (key index filter starts lengths are
       (gotten tick (s .config .«packed_bucket_index») index (findOf s h key index filter starts lengths arena)) (gotRefused index)
       (go (findOf s h key index filter starts lengths arena)) (λ n. refl)
     where
-      live : (b : Bool) (y : FoundRecord) → length (pick b (slotMarked (s .config .«packed_bucket_index») index (y .slot)) index) ≡ length index
+      live : (b : Bool) (y : FoundRecord) → length (cond b (slotMarked (s .config .«packed_bucket_index») index (y .slot)) index) ≡ length index
       live true y = slot-marked-length (s .config .«packed_bucket_index») index (y .slot)
       live false y = refl
 

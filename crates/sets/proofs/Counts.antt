@@ -1,10 +1,9 @@
 -- What the questions on numbers tell: of a setting, of counts, of a builder and of a finished set. Assumes nothing.
 use mathlib.Core.Path.{_≡_, refl}
-use mathlib.Core.Bool.{Bool, true, false}
+use mathlib.Core.Bool.{Bool, true, false, cond}
 use Prim.Native.Nat.{ℕ, _+_, _-_, _*_, _^_, _≤_}
 use lib.Dec.{eqb, leb}
 use borrow.Author.Tests.{leb-true, eqb-true, le-leb}
-use Rattle.hash_parts.specs.Choice.{pick}
 use Rattle.hash_parts.specs.declared.setting.SegmentCacheConfig.{SegmentCacheConfig}
 use Rattle.sets.specs.Build.{areasHoldBuilder, builderFits}
 use Rattle.sets.specs.Lookup.{areasHoldSet, setFits}
@@ -13,7 +12,7 @@ use Rattle.sets.specs.declared.builder.SegmentCacheBuilder.{SegmentCache
 use Rattle.sets.specs.declared.cache.FrozenSegmentCache.{FrozenSegmentCache}
 
 -- the first of some conditions, and the others
-pub both : (b r : Bool) → pick b r false ≡ true → (b ≡ true) × (r ≡ true)
+pub both : (b r : Bool) → cond b r false ≡ true → (b ≡ true) × (r ≡ true)
 both true r e = (refl, e)
 both false r e = (e, cc)
 

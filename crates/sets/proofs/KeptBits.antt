@@ -1,6 +1,6 @@
 -- Laws of the kept segments: of any state, of the words that flags choose, and of the state that flags make. Assumes nothing.
 use mathlib.Core.Path.{_≡_, refl, sym, ap, ap₂, _∙_}
-use mathlib.Core.Bool.{Bool, true, false, not}
+use mathlib.Core.Bool.{Bool, true, false, cond, not}
 use mathlib.Core.List.{List, [], _∷_, _++_, map}
 use Prim.Native.Nat.{ℕ, zero, suc, _+_, _-_, _*_, _/_, _%_, _≤_, _<_}
 use native.Mathlib.Nat.{le-of-eq}
@@ -9,7 +9,6 @@ use borrow.Author.Tests.{not-true}
 use lib.Dec.{eqb}
 use lib.ListN.{length, getD, take, drop, replicate}
 use lib.Seq.{drop-drop, drop-nil, take-all}
-use Rattle.hash_parts.specs.Choice.{pick}
 use Rattle.index.proofs.Table.{true≢false}
 use Rattle.sets.specs.Kept.{bitsOf, chosen, countTrue, flagWord, isKept, keptCount, keptFlags, keptOf, newNumber, retained}
 use Rattle.sets.specs.declared.kept.KeptSegments.{KeptSegments}
@@ -56,7 +55,7 @@ chosen-length (f ∷ flags) [] h = absurd (omega (arith, h))
 chosen-length (f ∷ flags) (w ∷ words) h = go (eqb f 0) (chosen-length flags words (omega (arith, h)))
   where
     go : (t : Bool) → length (chosen flags words) ≡ keptCount flags
-        → length (pick t (chosen flags words) (w ∷ chosen flags words)) ≡ pick t (keptCount flags) (suc (keptCount flags))
+        → length (cond t (chosen flags words) (w ∷ chosen flags words)) ≡ cond t (keptCount flags) (suc (keptCount flags))
     go true e = e
     go false e = ap suc e
 
@@ -68,7 +67,7 @@ chosen-at (f ∷ flags) (w ∷ words) zero h e = rw (not-true (eqb f 0) e)
 chosen-at (f ∷ flags) (w ∷ words) (suc g) h e = go (eqb f 0) (chosen-at flags words g (omega (arith, h)) e)
   where
     go : (t : Bool) → getD (chosen flags words) (keptCount (take g flags)) 0 ≡ getD words g 0
-        → getD (pick t (chosen flags words) (w ∷ chosen flags words)) (pick t (keptCount (take g flags)) (suc (keptCount (take g flags)))) 0 ≡ getD words g 0
+        → getD (cond t (chosen flags words) (w ∷ chosen flags words)) (cond t (keptCount (take g flags)) (suc (keptCount (take g flags)))) 0 ≡ getD words g 0
     go true q = q
     go false q = q
 
@@ -91,7 +90,7 @@ word-bits (suc n) [] = zero-bits (suc n)
 word-bits (suc n) (f ∷ l) = go (eqb f 0) (word-bits n l)
   where
     go : (t : Bool) → bitsOf n (flagWord (take n l)) ≡ flagBits n l
-        → _≡_ {A = List Bool} (eqb ((pick t 0 1 + 2 * flagWord (take n l)) % 2) 1 ∷ bitsOf n ((pick t 0 1 + 2 * flagWord (take n l)) / 2)) (not t ∷ flagBits n l)
+        → _≡_ {A = List Bool} (eqb ((cond t 0 1 + 2 * flagWord (take n l)) % 2) 1 ∷ bitsOf n ((cond t 0 1 + 2 * flagWord (take n l)) / 2)) (not t ∷ flagBits n l)
     go true q =
         let r : (0 + 2 * flagWord (take n l)) % 2 ≡ 0 = omega arith in
         let d : (0 + 2 * flagWord (take n l)) / 2 ≡ flagWord (take n l) = omega arith in
@@ -154,7 +153,7 @@ bits-counted zero (f ∷ l) (suc g) h = absurd (omega arith)
 bits-counted (suc n) (f ∷ l) (suc g) h = go (eqb f 0) (bits-counted n l g (omega arith))
   where
     go : (t : Bool) → countTrue (take g (flagBits n l)) ≡ keptCount (take g l)
-        → countTrue (not t ∷ take g (flagBits n l)) ≡ pick t (keptCount (take g l)) (suc (keptCount (take g l)))
+        → countTrue (not t ∷ take g (flagBits n l)) ≡ cond t (keptCount (take g l)) (suc (keptCount (take g l)))
     go true q = q
     go false q = ap suc q
 

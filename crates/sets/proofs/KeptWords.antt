@@ -1,6 +1,6 @@
 -- Bits of words, and flags taken one at a time. Assumes nothing.
 use mathlib.Core.Path.{_≡_, refl, sym, ap, ap₂, _∙_}
-use mathlib.Core.Bool.{Bool, true, false}
+use mathlib.Core.Bool.{Bool, true, false, cond}
 use mathlib.Core.List.{List, [], _∷_, _++_}
 use Prim.Native.Nat.{ℕ, zero, suc, _+_, _-_, _*_, _/_, _%_, _^_, _≤_, _<_}
 use native.Mathlib.Nat.{add-zero, pow-succ', div-div-eq-div-mul}
@@ -12,7 +12,6 @@ use lib.ListN.{length, getD, take, drop, length-append, length-take, drop-of-len
 use lib.Count.{ones, onesIn, ones-step}
 use lib.Pow.{pow-pos, mod-pow-add}
 use lib.Seq.{drop-cons, take-append-le, take-append-add, getD-append-add}
-use Rattle.hash_parts.specs.Choice.{pick}
 use Rattle.records.specs.Area.{part}
 use Rattle.sets.specs.Kept.{bitsOf, chosen, countTrue, flagWord, isKept, keptCount, keptFlags, newNumber, retained}
 use Rattle.sets.specs.declared.kept.KeptSegments.{KeptSegments}
@@ -20,12 +19,12 @@ use Rattle.sets.specs.declared.kept.KeptSegments.{KeptSegments}
 -- ---- flags from the last to the first
 
 count-step : (flags : List ℕ) (i : ℕ) → i < length flags
-    → keptCount (drop i flags) ≡ pick (eqb (getD flags i 0) 0) (keptCount (drop (i + 1) flags)) (suc (keptCount (drop (i + 1) flags)))
+    → keptCount (drop i flags) ≡ cond (eqb (getD flags i 0) 0) (keptCount (drop (i + 1) flags)) (suc (keptCount (drop (i + 1) flags)))
 unfolding keptCount
 count-step flags i h = rw (drop-cons flags i 0 h, add-one i)
 
 module _ (flags : List ℕ) (left count : ℕ) (some : 0 < left) (inside : left ≤ length flags) (counted : count ≡ keptCount (drop left flags)) where
-  step : keptCount (drop (left - 1) flags) ≡ pick (eqb (getD flags (left - 1) 0) 0) count (suc count)
+  step : keptCount (drop (left - 1) flags) ≡ cond (eqb (getD flags (left - 1) 0) 0) count (suc count)
   step =
       let e : left - 1 + 1 ≡ left = omega arith in
       count-step flags (left - 1) (omega arith) ∙ rw (e, counted)
@@ -46,7 +45,7 @@ count-none flags =
 
 module _ (flags words : List ℕ) (i : ℕ) (h : i < length flags) (k : i < length words) where
   chosen-step : chosen (drop i flags) (drop i words)
-      ≡ pick (eqb (getD flags i 0) 0) (chosen (drop (i + 1) flags) (drop (i + 1) words)) (getD words i 0 ∷ chosen (drop (i + 1) flags) (drop (i + 1) words))
+      ≡ cond (eqb (getD flags i 0) 0) (chosen (drop (i + 1) flags) (drop (i + 1) words)) (getD words i 0 ∷ chosen (drop (i + 1) flags) (drop (i + 1) words))
   unfolding chosen
   chosen-step = rw (drop-cons flags i 0 h, drop-cons words i 0 k, add-one i)
 
@@ -66,7 +65,7 @@ bits-step : (n w : ℕ) → countTrue (bitsOf (suc n) w) ≡ w % 2 + countTrue (
 unfolding bitsOf
 bits-step n w = go (eqb (w % 2) 1) refl
   where
-    go : (t : Bool) → eqb (w % 2) 1 ≡ t → pick t (suc (countTrue (bitsOf n (w / 2)))) (countTrue (bitsOf n (w / 2))) ≡ w % 2 + countTrue (bitsOf n (w / 2))
+    go : (t : Bool) → eqb (w % 2) 1 ≡ t → cond t (suc (countTrue (bitsOf n (w / 2)))) (countTrue (bitsOf n (w / 2))) ≡ w % 2 + countTrue (bitsOf n (w / 2))
     go true e = omega (arith, eqb-true (w % 2) 1 e)
     go false e =
         let z : w % 2 ≡ 0 = one-bit (eqb-false (w % 2) 1 e) in
@@ -141,9 +140,9 @@ pub flag-out : (flags : List ℕ) (at : ℕ) → length flags ≤ at → 0 ≡ f
 unfolding flagWord
 flag-out flags at h = rw (drop-of-length-le flags h)
 
-flag-in : (flags : List ℕ) (at : ℕ) → at < length flags → flagWord (part at 1 flags) ≡ pick (eqb (getD flags at 0) 0) 0 1
+flag-in : (flags : List ℕ) (at : ℕ) → at < length flags → flagWord (part at 1 flags) ≡ cond (eqb (getD flags at 0) 0) 0 1
 unfolding flagWord
-flag-in flags at h = rw (drop-cons flags at 0 h) (add-zero (pick (eqb (getD flags at 0) 0) 0 1))
+flag-in flags at h = rw (drop-cons flags at 0 h) (add-zero (cond (eqb (getD flags at 0) 0) 0 1))
 
 pub flag-dropped : (flags : List ℕ) (at : ℕ) → at < length flags → getD flags at 0 ≡ 0 → 0 ≡ flagWord (part at 1 flags)
 flag-dropped flags at h e = sym (flag-in flags at h ∙ rw (eq-eqb (getD flags at 0) 0 e))
@@ -174,7 +173,7 @@ word-short n [] h = pow-pos n
 word-short zero (f ∷ l) h = absurd (omega arith)
 word-short (suc n) (f ∷ l) h = go (eqb f 0) (word-short n l (omega arith))
   where
-    go : (t : Bool) → flagWord l < 2 ^ n → pick t 0 1 + 2 * flagWord l < 2 ^ suc n
+    go : (t : Bool) → flagWord l < 2 ^ n → cond t 0 1 + 2 * flagWord l < 2 ^ suc n
     go true k = omega (arith, pow-succ' 2 n)
     go false k = omega (arith, pow-succ' 2 n)
 

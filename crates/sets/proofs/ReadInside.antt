@@ -1,13 +1,12 @@
 -- What is read in a set or a rebuild lies in the filled bytes; and what a reused push was shown. Assumes nothing.
 use mathlib.Core.Path.{_≡_, refl, ap}
-use mathlib.Core.Bool.{Bool, true, false}
+use mathlib.Core.Bool.{Bool, true, false, cond}
 use mathlib.Core.List.{List, []}
 use Prim.Native.Nat.{ℕ, zero, suc, _+_, _/_, _%_, _^_, _≤_}
 use native.Mathlib.Omega.{arith}
 use lib.Dec.{eqb, leb}
 use lib.ListN.{length, take, getD, length-take}
 use borrow.Author.Tests.{eqb-true, leb-true}
-use Rattle.hash_parts.specs.Choice.{pick}
 use Rattle.records.specs.Area.{part, sameBytes, spanned}
 use Rattle.records.specs.Record.{recordAt}
 use Rattle.records.specs.declared.record.RecordAnswer.{RecordAnswer}
@@ -53,11 +52,11 @@ module _ (view : SegmentView) (arena starts lengths : List ℕ) where
           rw (← same) (record { key-inside = omega arith; value-inside = omega arith; whole-inside = omega arith })
 
       in-bytes : (b : Bool) → leb (start + len) (length bytes) ≡ b
-          → pick b (answerMoved location start (recordAt (view .expiry) (part start len bytes) (location % 2 ^ 32))) Unreadable ≡ Read x → Inside (length bytes) x
+          → cond b (answerMoved location start (recordAt (view .expiry) (part start len bytes) (location % 2 ^ 32))) Unreadable ≡ Read x → Inside (length bytes) x
       in-bytes true h e = in-record (recordAt (view .expiry) (part start len bytes) (location % 2 ^ 32)) (leb-true _ _ h) refl e
       in-bytes false h e = absurd (let z : _≡_ {A = ℕ} 0 1 = cc in omega arith)
 
-      in-set : (b : Bool) → pick b (inSegment (view .expiry) bytes start len location) Unreadable ≡ Read x → Inside (length bytes) x
+      in-set : (b : Bool) → cond b (inSegment (view .expiry) bytes start len location) Unreadable ≡ Read x → Inside (length bytes) x
       in-set true e = in-bytes (leb (start + len) (length bytes)) refl e
       in-set false e = absurd (let z : _≡_ {A = ℕ} 0 1 = cc in omega arith)
 
@@ -68,7 +67,7 @@ spanned-short : (arena : List ℕ) (span : Span) → length (spanned arena span)
 unfolding spanned
 spanned-short arena span = go (leb (span .at + span .len) (length arena))
   where
-    go : (b : Bool) → length (pick b (part (span .at) (span .len) arena) []) ≤ span .len
+    go : (b : Bool) → length (cond b (part (span .at) (span .len) arena) []) ≤ span .len
     go true = rw length-take (omega arith)
     go false = omega arith
 

@@ -1,7 +1,7 @@
 -- Question 1 stays answered yes in rebuilds: an accepted rebuild open, reused push, copied push or rebuild finish leaves a state and areas that pass it, and
 -- none changes the length of an area. Nothing is assumed of the state given but that the call was accepted. Assumes nothing.
 use mathlib.Core.Path.{_≡_, refl, sym, ap, subst, _∙_}
-use mathlib.Core.Bool.{Bool, true, false}
+use mathlib.Core.Bool.{Bool, true, false, cond}
 use mathlib.Core.List.{List, [], _∷_}
 use Prim.Native.Nat.{ℕ, zero, suc, _+_, _-_, _*_, _≤_, _<_}
 use native.Mathlib.Decide.{decLt}
@@ -10,7 +10,6 @@ use lib.Dec.{eqb, leb}
 use lib.ListN.{length, set, getD, length-set}
 use lib.Seq.{getD-take, getD-set-same, getD-set-other}
 use borrow.Author.Tests.{eqb-true, leb-true, le-leb}
-use Rattle.hash_parts.specs.Choice.{pick}
 use Rattle.hash_parts.specs.declared.duration.Lifetime.{Lifetime}
 use Rattle.hash_parts.specs.declared.setting.SegmentExpiry.{SegmentExpiry}
 use Rattle.records.specs.Record.{recordBytes, recordSize}
@@ -74,9 +73,9 @@ chosen-inside filled (f ∷ flags) (a ∷ starts) (b ∷ lengths) hs hl each g h
     go (eqb f 0) g h
     (chosen-inside filled flags starts lengths (omega (arith, hs)) (omega (arith, hl)) (λ (i : ℕ) (k : i < length flags). each (suc i) (omega arith)))
   where
-    go : (t : Bool) (i : ℕ) → i < pick t (keptCount flags) (suc (keptCount flags))
+    go : (t : Bool) (i : ℕ) → i < cond t (keptCount flags) (suc (keptCount flags))
         → ((j : ℕ) → j < keptCount flags → getD (chosen flags starts) j 0 + getD (chosen flags lengths) j 0 ≤ filled)
-        → getD (pick t (chosen flags starts) (a ∷ chosen flags starts)) i 0 + getD (pick t (chosen flags lengths) (b ∷ chosen flags lengths)) i 0 ≤ filled
+        → getD (cond t (chosen flags starts) (a ∷ chosen flags starts)) i 0 + getD (cond t (chosen flags lengths) (b ∷ chosen flags lengths)) i 0 ≤ filled
     go true i k rest = rest i k
     go false zero k rest = each 0 (omega arith)
     go false (suc i) k rest = rest i (omega arith)
@@ -224,7 +223,7 @@ module _ (r : SharedSegmentCacheBuilder) (h : ℕ) (key value : List ℕ) (sourc
 segment-one : (bytes : ℕ) → segmentFor bytes ≤ 1
 segment-one bytes = go (eqb bytes 0)
   where
-    go : (t : Bool) → pick t 0 1 ≤ 1
+    go : (t : Bool) → cond t 0 1 ≤ 1
     go true = omega arith
     go false = omega arith
 
@@ -278,14 +277,14 @@ module _ (r : SharedSegmentCacheBuilder) (h : ℕ) (key value : List ℕ) (ttl :
 
 -- a rebuilt set has a segment, and no more than 256
 rebuilt-segments : (r : SharedSegmentCacheBuilder) → retained (r .kept) + segmentFor (r .«copied_bytes») ≤ 256
-    → (1 ≤ retained (r .kept) + pick (addsSegment r) 1 0) × (retained (r .kept) + pick (addsSegment r) 1 0 ≤ 256)
+    → (1 ≤ retained (r .kept) + cond (addsSegment r) 1 0) × (retained (r .kept) + cond (addsSegment r) 1 0 ≤ 256)
 unfolding addsSegment
 rebuilt-segments r few = go (eqb (r .«copied_bytes») 0) few (eqb (retained (r .kept)) 0) refl
   where
     n : ℕ
     n = retained (r .kept)
 
-    go : (t : Bool) → n + pick t 0 1 ≤ 256 → (u : Bool) → eqb n 0 ≡ u → (1 ≤ n + pick (pick t u true) 1 0) × (n + pick (pick t u true) 1 0 ≤ 256)
+    go : (t : Bool) → n + cond t 0 1 ≤ 256 → (u : Bool) → eqb n 0 ≡ u → (1 ≤ n + cond (cond t u true) 1 0) × (n + cond (cond t u true) 1 0 ≤ 256)
     go false f u e = (omega arith, f)
     go true f true e = let z : n ≡ 0 = eqb-true _ _ e in (omega arith, omega arith)
     go true f false e = (some n e, f)
@@ -296,14 +295,14 @@ rebuilt-segments r few = go (eqb (r .«copied_bytes») 0) few (eqb (retained (r 
 
 -- each of them lies in the filled arena
 last-inside : (r : SharedSegmentCacheBuilder) (index : ℕ) (starts lengths : List ℕ) (arena : ℕ) → AreasHoldRebuild r index starts lengths arena
-    → EachInside (filledIn r) (withLast r starts (r .«source_filled»)) (withLast r lengths (r .«copied_bytes»)) (retained (r .kept) + pick (addsSegment r) 1 0)
+    → EachInside (filledIn r) (withLast r starts (r .«source_filled»)) (withLast r lengths (r .«copied_bytes»)) (retained (r .kept) + cond (addsSegment r) 1 0)
 last-inside r index starts lengths arena f = go (addsSegment r) (rebuilt-segments r (f .numbers .few) .1)
   where
     n : ℕ
     n = retained (r .kept)
 
-    go : (t : Bool) → n + pick t 1 0 ≤ 256
-        → EachInside (filledIn r) (pick t (set starts n (r .«source_filled»)) starts) (pick t (set lengths n (r .«copied_bytes»)) lengths) (n + pick t 1 0)
+    go : (t : Bool) → n + cond t 1 0 ≤ 256
+        → EachInside (filledIn r) (cond t (set starts n (r .«source_filled»)) starts) (cond t (set lengths n (r .«copied_bytes»)) lengths) (n + cond t 1 0)
     go false few g h = f .inside g (omega arith)
     go true few g h =
         let begin : ℕ = r .«source_filled» in
@@ -320,7 +319,7 @@ last-inside r index starts lengths arena f = go (addsSegment r) (rebuilt-segment
 with-last-length : (r : SharedSegmentCacheBuilder) (area : List ℕ) (word : ℕ) → length (withLast r area word) ≡ length area
 with-last-length r area word = go (addsSegment r)
   where
-    go : (t : Bool) → length (pick t (set area (retained (r .kept)) word) area) ≡ length area
+    go : (t : Bool) → length (cond t (set area (retained (r .kept)) word) area) ≡ length area
     go true = length-set area (retained (r .kept)) word
     go false = refl
 
@@ -370,5 +369,5 @@ module _ (r : SharedSegmentCacheBuilder) (index starts lengths scratch arena : L
           let made : buildOf r lengths ≡ b = cc in
           let same : rebuiltSet r lengths ≡ b .cache = ap (λ (q : SharedSegmentCacheBuild). q .cache) made in
           rw (← same)
-          (segments-pass (filledIn r) (withLast r starts (r .«source_filled»)) (withLast r lengths (r .«copied_bytes»)) (retained (r .kept) + pick (addsSegment r) 1 0)
+          (segments-pass (filledIn r) (withLast r starts (r .«source_filled»)) (withLast r lengths (r .«copied_bytes»)) (retained (r .kept) + cond (addsSegment r) 1 0)
           (last-inside r (length index) starts lengths (length arena) (a .areas)))

@@ -1,6 +1,6 @@
 -- The steps of a rebuild: its segments one by one, its new segment areas, its plans, and what its pushes and its finish leave. Assumes nothing.
 use mathlib.Core.Path.{_≡_, refl, ap, _∙_}
-use mathlib.Core.Bool.{Bool, true, false}
+use mathlib.Core.Bool.{Bool, true, false, cond}
 use mathlib.Core.List.{List, [], _∷_, _++_, append-assoc}
 use Prim.Native.Nat.{ℕ, zero, suc, _+_, _-_, _*_, _%_, _^_, _≤_, _<_}
 use native.Mathlib.Omega.{arith}
@@ -8,7 +8,6 @@ use lib.Dec.{eqb, leb}
 use lib.ListN.{length, take, drop, replicate, set, getD, length-append, length-replicate}
 use lib.Seq.{take-all}
 use borrow.Author.Tests.{le-leb, leb-true, leb-false, eqb-true}
-use Rattle.hash_parts.specs.Choice.{pick}
 use Rattle.hash_parts.specs.Hash.{tagOf}
 use Rattle.hash_parts.specs.declared.duration.Lifetime.{Lifetime}
 use Rattle.records.specs.Area.{over, pasted}
@@ -132,7 +131,7 @@ module _ (r : SharedSegmentCacheBuilder) (h key value : ℕ) (ttl : Lifetime) (i
 pub segment-most : (bytes : ℕ) → segmentFor bytes ≤ 1
 segment-most bytes = go (eqb bytes 0)
   where
-    go : (b : Bool) → pick b 0 1 ≤ 1
+    go : (b : Bool) → cond b 0 1 ≤ 1
     go true = omega arith
     go false = omega arith
 
@@ -141,7 +140,7 @@ unfolding keptCount
 kept-most [] = omega arith
 kept-most (f ∷ l) = go (eqb f 0) (kept-most l)
   where
-    go : (b : Bool) → keptCount l ≤ length l → pick b (keptCount l) (suc (keptCount l)) ≤ suc (length l)
+    go : (b : Bool) → keptCount l ≤ length l → cond b (keptCount l) (suc (keptCount l)) ≤ suc (length l)
     go true h = omega arith
     go false h = omega arith
 
@@ -211,23 +210,23 @@ reopen-left s records flags tick index filter zeroed blank starts lengths starts
 
 -- the segment that finish adds has a number
 module _ (r : SharedSegmentCacheBuilder) where
-  pub adds-few : retained (r .kept) + segmentFor (r .«copied_bytes») ≤ 256 → retained (r .kept) + pick (addsSegment r) 1 0 ≤ 256
+  pub adds-few : retained (r .kept) + segmentFor (r .«copied_bytes») ≤ 256 → retained (r .kept) + cond (addsSegment r) 1 0 ≤ 256
   unfolding addsSegment
   adds-few h = go (eqb (r .«copied_bytes») 0) (eqb (retained (r .kept)) 0) refl h
     where
-      go : (b d : Bool) → eqb (retained (r .kept)) 0 ≡ d → retained (r .kept) + pick b 0 1 ≤ 256 → retained (r .kept) + pick (pick b d true) 1 0 ≤ 256
+      go : (b d : Bool) → eqb (retained (r .kept)) 0 ≡ d → retained (r .kept) + cond b 0 1 ≤ 256 → retained (r .kept) + cond (cond b d true) 1 0 ≤ 256
       go true true e k = omega (arith, eqb-true (retained (r .kept)) 0 e)
       go true false e k = omega arith
       go false d e k = omega arith
 
-  pub adds-below : addsSegment r ≡ true → retained (r .kept) + pick (addsSegment r) 1 0 ≤ 256 → retained (r .kept) < 256
+  pub adds-below : addsSegment r ≡ true → retained (r .kept) + cond (addsSegment r) 1 0 ≤ 256 → retained (r .kept) < 256
   adds-below e h =
-      let one : _≡_ {A = ℕ} (pick (addsSegment r) 1 0) 1 = rw e in
+      let one : _≡_ {A = ℕ} (cond (addsSegment r) 1 0) 1 = rw e in
       omega (arith, one, h)
 
 pub refinish-left : (r : SharedSegmentCacheBuilder) (index starts lengths scratch laid starts′ lengths′ left : List ℕ) (build : SharedSegmentCacheBuild) → build ≡ buildOf r lengths
     → starts′ ≡ withLast r starts (r .«source_filled») → lengths′ ≡ withLast r lengths (r .«copied_bytes»)
-    → laid ≡ pick (r .config .«packed_bucket_index») (packedIndex (r .«bucket_count») index scratch) index
-    → left ≡ pick (r .config .«packed_bucket_index») (packedScratch (r .«bucket_count») index scratch) scratch
+    → laid ≡ cond (r .config .«packed_bucket_index») (packedIndex (r .«bucket_count») index scratch) index
+    → left ≡ cond (r .config .«packed_bucket_index») (packedScratch (r .«bucket_count») index scratch) scratch
     → _≡_ {A = RebuildFinished} (record { answer = accept build; index = laid; starts = starts′; lengths = lengths′; scratch = left }) (rebuildFinishMade r index starts lengths scratch)
 refinish-left r index starts lengths scratch laid starts′ lengths′ left build made begun long packed-it wrote = rw (made, begun, long, packed-it, wrote)

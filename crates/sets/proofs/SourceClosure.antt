@@ -1,14 +1,13 @@
 -- A finished set can be a source: what an accepted finish or rebuild finish leaves passes question 1 of a rebuild open. Nothing is assumed of the state
 -- given but that the call was accepted. Assumes nothing.
 use mathlib.Core.Path.{_≡_, refl, sym, ap, _∙_}
-use mathlib.Core.Bool.{Bool, true, false}
+use mathlib.Core.Bool.{Bool, true, false, cond}
 use mathlib.Core.List.{List, [], _∷_}
 use Prim.Native.Nat.{ℕ, zero, suc, _+_, _*_, _≤_, _<_}
 use native.Mathlib.Omega.{arith}
 use lib.Dec.{eqb, leb, ltb}
 use lib.ListN.{length, getD, take}
 use borrow.Author.Tests.{eqb-true, leb-true, ltb-true, ne-eqb}
-use Rattle.hash_parts.specs.Choice.{pick}
 use Rattle.index.specs.Segments.{allInside, inside, lengthsOf, noStart, nextStart, startAfter, startsAfter, startsOf}
 use Rattle.index.specs.Word.{wordStored}
 use Rattle.index.proofs.Splits.{lengths-length}
@@ -34,7 +33,7 @@ use Rattle.sets.proofs.RebuildClosure.{filled-inside, refinish-passes, 
 location-inside : (filled w location : ℕ) → inside filled w ≡ true → wordStored w ≡ location + 1 → location < filled
 location-inside filled w location e named = go (eqb w 0) refl e
   where
-    go : (t : Bool) → eqb w 0 ≡ t → pick t true (pick (eqb (wordStored w) 0) false (leb (wordStored w) filled)) ≡ true → location < filled
+    go : (t : Bool) → eqb w 0 ≡ t → cond t true (cond (eqb (wordStored w) 0) false (leb (wordStored w) filled)) ≡ true → location < filled
     go true z q = absurd (omega (arith, ap wordStored (eqb-true w 0 z)))
     go false z q =
         let held : leb (wordStored w) filled ≡ true = rw (ne-eqb (wordStored w) 0 (λ (n : wordStored w ≡ 0). omega arith)) at q in
@@ -53,7 +52,7 @@ module _ (words : List ℕ) (filled target : ℕ) (asked : allInside filled word
       next : ℕ
       next = nextStart words (last + target)
 
-      go : (z w : Bool) → pick z noStart (pick w noStart next) < noStart → pick z noStart (pick w noStart next) < filled
+      go : (z w : Bool) → cond z noStart (cond w noStart next) < noStart → cond z noStart (cond w noStart next) < filled
       go true w h = absurd (omega arith)
       go false true h = absurd (omega arith)
       go false false h = next-inside (last + target) h
@@ -70,7 +69,7 @@ module _ (words : List ℕ) (filled target : ℕ) (asked : allInside filled word
       rest = startsAfter n words filled target next
 
       go : (t : Bool) → ltb next noStart ≡ t → ((j : ℕ) → j < length rest → getD rest j 0 < filled)
-          → (j : ℕ) → j < length (pick t (next ∷ rest) []) → getD (pick t (next ∷ rest) []) j 0 < filled
+          → (j : ℕ) → j < length (cond t (next ∷ rest) []) → getD (cond t (next ∷ rest) []) j 0 < filled
       go false e each j k = absurd (omega (arith, k))
       go true e each zero k = after-inside last (ltb-true next noStart e)
       go true e each (suc j) k = each j (omega (arith, k))

@@ -1,13 +1,12 @@
 -- What finish leaves: where a question before the split is answered no, and after the split. Assumes nothing.
 use mathlib.Core.Path.{_≡_, refl, sym, ap, _∙_}
-use mathlib.Core.Bool.{Bool, true, false}
+use mathlib.Core.Bool.{Bool, true, false, cond}
 use mathlib.Core.List.{List}
 use Prim.Native.Nat.{ℕ}
 use native.Mathlib.Omega.{arith}
 use lib.Dec.{leb}
 use lib.ListN.{length, take}
 use borrow.Author.Tests.{le-leb, ne-eqb}
-use Rattle.hash_parts.specs.Choice.{pick}
 use Rattle.hash_parts.specs.Error.{errorNumber}
 use Rattle.hash_parts.specs.Outcome.{accepted, refused}
 use Rattle.hash_parts.specs.declared.error.SegmentCacheBuildError.{SegmentCacheBuildError}
@@ -32,7 +31,7 @@ module _ (b : SegmentCacheBuilder) (target : ℕ) (index starts lengths scratch 
   abbrev few : Bool
   few = leb (length (segmentStarts b target index)) 256
 
-  last : firstNo (askFinish b target index (length starts) (length lengths) (length scratch) (length arena)) ≡ decided checked (pick few 0 7) (λ n. n)
+  last : firstNo (askFinish b target index (length starts) (length lengths) (length scratch) (length arena)) ≡ decided checked (cond few 0 7) (λ n. n)
   last = finish-last b target index (length starts) (length lengths) (length scratch) (length arena)
 
   -- one of them is answered no
@@ -44,7 +43,7 @@ module _ (b : SegmentCacheBuilder) (target : ℕ) (index starts lengths scratch 
       let other : errorNumber e ≡ 7 → ⊥ =
       λ (z : errorNumber e ≡ 7). finish-not-seven b target index (length starts) (length lengths) (length scratch) (length arena) (sym q ∙ z) in
       let refuses = decided-refused e (finishMade b target index starts lengths scratch) (finishRefused b target index starts lengths scratch) in
-      rw (last, ← q, decided-refused e (pick few 0 7) (λ n. n), refuses, ne-eqb (errorNumber e) 7 other)
+      rw (last, ← q, decided-refused e (cond few 0 7) (λ n. n), refuses, ne-eqb (errorNumber e) 7 other)
 
   -- the split, where all of them are answered yes
   splits : checked ≡ 0 → split index (b .«bucket_count») (b .filled) target starts lengths
@@ -56,7 +55,7 @@ module _ (b : SegmentCacheBuilder) (target : ℕ) (index starts lengths scratch 
 
   abbrev splitTo : Bool → Split
   splitTo t =
-      pick t
+      cond t
       (record {
         answer = accepted (length (segmentStarts b target index));
         index = indexSplit b target index;
@@ -66,7 +65,7 @@ module _ (b : SegmentCacheBuilder) (target : ℕ) (index starts lengths scratch 
       (record { answer = refused ArenaTooLarge; index = index; starts = startsWritten b target index starts; lengths = lengths })
 
   abbrev finishTo : Bool → Finished
-  finishTo t = decided (pick t 0 7) (finishMade b target index starts lengths scratch) (finishRefused b target index starts lengths scratch)
+  finishTo t = decided (cond t 0 7) (finishMade b target index starts lengths scratch) (finishRefused b target index starts lengths scratch)
 
   finishes : checked ≡ 0 → afterFinish b target index starts lengths scratch arena ≡ finishTo few
   unfolding afterFinish
@@ -86,8 +85,8 @@ module _ (b : SegmentCacheBuilder) (target : ℕ) (index starts lengths scratch 
 
   pub split-made : (index′ starts′ lengths′ : List ℕ) (n : ℕ) (set : FrozenSegmentCache) (laid left : List ℕ) → checked ≡ 0
       → splitResult (Segments n) index′ starts′ lengths′ ≡ split index (b .«bucket_count») (b .filled) target starts lengths → set ≡ setOf b n
-      → laid ≡ pick (b .config .«packed_bucket_index») (packedIndex (b .«bucket_count») index′ scratch) index′
-      → left ≡ pick (b .config .«packed_bucket_index») (packedScratch (b .«bucket_count») index′ scratch) scratch
+      → laid ≡ cond (b .config .«packed_bucket_index») (packedIndex (b .«bucket_count») index′ scratch) index′
+      → left ≡ cond (b .config .«packed_bucket_index») (packedScratch (b .«bucket_count») index′ scratch) scratch
       → _≡_ {A = Finished} (record { answer = accept set; index = laid; starts = starts′; lengths = lengths′; scratch = left })
       (afterFinish b target index starts lengths scratch arena)
   split-made index′ starts′ lengths′ n set laid left z q made packed-it wrote = go few (q ∙ splits z) ∙ sym (finishes z)

@@ -1,10 +1,9 @@
 -- How many words the areas of so many records take, so that nobody counts them by hand; asked as open asks.
 -- Assumes nothing.
-use mathlib.Core.Bool.{Bool}
+use mathlib.Core.Bool.{Bool, cond}
 use mathlib.Core.List.{List, [], _∷_}
 use Prim.Native.Nat.{ℕ, _*_}
 use lib.Dec.{leb}
-use Rattle.hash_parts.specs.Choice.{pick}
 use Rattle.hash_parts.specs.Error.{errorNumber}
 use Rattle.hash_parts.specs.declared.setting.SegmentCacheConfig.{SegmentCacheConfig}
 use Rattle.sets.specs.Answers.{Reply, accept, refuse}
@@ -30,7 +29,7 @@ wordsNeeded c records =
       filter = filterWordsIn c records;
       starts = 256;
       lengths = 256;
-      scratch = pick (c .«packed_bucket_index») (bucketsIn c records) 0;
+      scratch = cond (c .«packed_bucket_index») (bucketsIn c records) 0;
     }
 
 abbrev pub areaWordsReply : AreaWordsAnswer → Reply AreaWords (Unit {0})

@@ -1,11 +1,10 @@
 -- Building a set: open, push, finish. Each call by the questions that it asks, in document 01's order, and by what it leaves.
 -- Assumes nothing.
-use mathlib.Core.Bool.{Bool, true, false}
+use mathlib.Core.Bool.{Bool, true, false, cond}
 use mathlib.Core.List.{List, [], _∷_}
 use Prim.Native.Nat.{ℕ, _+_, _-_, _*_}
 use lib.Dec.{eqb, leb, ltb}
 use lib.ListN.{length, take, set}
-use Rattle.hash_parts.specs.Choice.{pick}
 use Rattle.hash_parts.specs.Duration.{encodedExpiry}
 use Rattle.hash_parts.specs.Hash.{tagOf}
 use Rattle.hash_parts.specs.Outcome.{Outcome}
@@ -213,16 +212,16 @@ abbrev pub finishMade : SegmentCacheBuilder → ℕ → List ℕ → List ℕ �
 finishMade b target index starts lengths scratch =
     record {
       answer = accept (setOf b (length (segmentStarts b target index)));
-      index = pick (b .config .«packed_bucket_index») (packedIndex (b .«bucket_count») (indexSplit b target index) scratch) (indexSplit b target index);
+      index = cond (b .config .«packed_bucket_index») (packedIndex (b .«bucket_count») (indexSplit b target index) scratch) (indexSplit b target index);
       starts = startsWritten b target index starts;
       lengths = replaced (padded (lengthsOf (b .filled) (segmentStarts b target index))) lengths;
-      scratch = pick (b .config .«packed_bucket_index») (packedScratch (b .«bucket_count») (indexSplit b target index) scratch) scratch;
+      scratch = cond (b .config .«packed_bucket_index») (packedScratch (b .«bucket_count») (indexSplit b target index) scratch) scratch;
     }
 
 -- the one refusal that writes: "7; the starts area then holds the first 256 starts, and the builder stays open"
 abbrev pub finishRefused : SegmentCacheBuilder → ℕ → List ℕ → List ℕ → List ℕ → List ℕ → ℕ → Finished
 finishRefused b target index starts lengths scratch n =
-    record { answer = refuse n b; index = index; starts = pick (eqb n 7) (startsWritten b target index starts) starts; lengths = lengths; scratch = scratch }
+    record { answer = refuse n b; index = index; starts = cond (eqb n 7) (startsWritten b target index starts) starts; lengths = lengths; scratch = scratch }
 
 unfoldable pub afterFinish : SegmentCacheBuilder → ℕ → List ℕ → List ℕ → List ℕ → List ℕ → List ℕ → Finished
 afterFinish b target index starts lengths scratch arena =

@@ -1,12 +1,11 @@
 -- Which segments of its source a rebuild keeps: a bit for each of 256 segments, in four words. Document 01, Rebuilt set: "Keeps chosen segments unmoved";
 -- questions: "keep flags .. (0 drops, else kept)"; "the kept segments' starts and lengths, numbered anew in order".
 -- Assumes nothing.
-use mathlib.Core.Bool.{Bool, false}
+use mathlib.Core.Bool.{Bool, false, cond}
 use mathlib.Core.List.{List, [], _∷_, _++_}
 use Prim.Native.Nat.{ℕ, zero, suc, _+_, _*_, _/_, _%_}
 use lib.Dec.{eqb}
 use lib.ListN.{take, getD}
-use Rattle.hash_parts.specs.Choice.{pick}
 use Rattle.records.specs.Area.{part}
 use Rattle.sets.specs.declared.kept.KeptSegments.{KeptSegments}
 
@@ -23,7 +22,7 @@ keptFlags k = bitsOf 64 (k .w0) ++ (bitsOf 64 (k .w1) ++ (bitsOf 64 (k .w2) ++ b
 
 abbrev pub countTrue : List Bool → ℕ
 countTrue [] = 0
-countTrue (b ∷ l) = pick b (suc (countTrue l)) (countTrue l)
+countTrue (b ∷ l) = cond b (suc (countTrue l)) (countTrue l)
 
 unfoldable pub isKept : KeptSegments → ℕ → Bool
 isKept k g = getD (keptFlags k) g false
@@ -41,12 +40,12 @@ newNumber k g = countTrue (take g (keptFlags k))
 -- how many are kept by flags
 unfoldable pub keptCount : List ℕ → ℕ
 keptCount [] = 0
-keptCount (f ∷ l) = pick (eqb f 0) (keptCount l) (suc (keptCount l))
+keptCount (f ∷ l) = cond (eqb f 0) (keptCount l) (suc (keptCount l))
 
 -- a number whose lowest bits are flags
 unfoldable pub flagWord : List ℕ → ℕ
 flagWord [] = 0
-flagWord (f ∷ l) = pick (eqb f 0) 0 1 + 2 * flagWord l
+flagWord (f ∷ l) = cond (eqb f 0) 0 1 + 2 * flagWord l
 
 abbrev pub keptOf : List ℕ → KeptSegments
 keptOf flags =
@@ -61,4 +60,4 @@ keptOf flags =
 unfoldable pub chosen : List ℕ → List ℕ → List ℕ
 chosen [] words = []
 chosen (f ∷ flags) [] = []
-chosen (f ∷ flags) (w ∷ words) = pick (eqb f 0) (chosen flags words) (w ∷ chosen flags words)
+chosen (f ∷ flags) (w ∷ words) = cond (eqb f 0) (chosen flags words) (w ∷ chosen flags words)

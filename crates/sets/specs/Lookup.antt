@@ -1,12 +1,11 @@
 -- The calls on a finished set: lookup, peek, mark clearing, probe, the step of the walk, statistics. Each by the questions that it asks, in document
 -- 01's order, and by what it leaves. Assumes nothing.
-use mathlib.Core.Bool.{Bool, false}
+use mathlib.Core.Bool.{Bool, false, cond}
 use mathlib.Core.List.{List, [], _∷_}
 use mathlib.Core.Option.{Option, none, some}
 use Prim.Native.Nat.{ℕ, zero, suc, _-_, _*_, _/_, _%_, _^_}
 use lib.Dec.{leb}
 use lib.ListN.{length, getD, set}
-use Rattle.hash_parts.specs.Choice.{pick}
 use Rattle.hash_parts.specs.Duration.{livesAt, remaining}
 use Rattle.hash_parts.specs.ZeroBytes.{bytesOf}
 use Rattle.hash_parts.specs.declared.setting.SegmentCacheConfig.{SegmentCacheConfig}
@@ -83,22 +82,22 @@ findOf s h key index filter starts lengths arena =
 
 unfoldable pub slotMarked : Bool → List ℕ → ℕ → List ℕ
 slotMarked packed index slot =
-    pick packed (set index (slot / 8) (withByte markedByte (slot % 8) (getD index (slot / 8) 0))) (set index slot (marked (getD index slot 0)))
+    cond packed (set index (slot / 8) (withByte markedByte (slot % 8) (getD index (slot / 8) 0))) (set index slot (marked (getD index slot 0)))
 
 unfoldable pub slotCleared : Bool → List ℕ → ℕ → List ℕ
 slotCleared packed index slot =
-    pick packed (set index (slot / 8) (withByte unmarkedByte (slot % 8) (getD index (slot / 8) 0))) (set index slot (unmarked (getD index slot 0)))
+    cond packed (set index (slot / 8) (withByte unmarkedByte (slot % 8) (getD index (slot / 8) 0))) (set index slot (unmarked (getD index slot 0)))
 
 unfoldable pub slotAccessed : Bool → List ℕ → ℕ → Bool
-slotAccessed packed index slot = pick packed (leb 128 (getD (bytesOf 8 (getD index (slot / 8) 0)) (slot % 8) 0)) (leb (2 ^ 63) (getD index slot 0))
+slotAccessed packed index slot = cond packed (leb 128 (getD (bytesOf 8 (getD index (slot / 8) 0)) (slot % 8) 0)) (leb (2 ^ 63) (getD index slot 0))
 
 -- ---- lookup: "A live hit sets its mark"
 
 unfoldable pub liveValue : ℕ → FoundRecord → Reply (Option Span) (Unit {0})
-liveValue tick y = pick (livesAt (y .entry .«expires_at») tick) (accept (some (y .entry .value))) (accept none)
+liveValue tick y = cond (livesAt (y .entry .«expires_at») tick) (accept (some (y .entry .value))) (accept none)
 
 unfoldable pub liveMarked : ℕ → Bool → List ℕ → FoundRecord → List ℕ
-liveMarked tick packed index y = pick (livesAt (y .entry .«expires_at») tick) (slotMarked packed index (y .slot)) index
+liveMarked tick packed index y = cond (livesAt (y .entry .«expires_at») tick) (slotMarked packed index (y .slot)) index
 
 -- what a lookup leaves: its answer and the index
 pub record Got : Type 0 where

@@ -1,10 +1,9 @@
 -- Document 01, "The questions each call asks": what is asked of a setting, of a state's numbers and of the lengths of the areas lent with it.
 -- Assumes nothing.
-use mathlib.Core.Bool.{Bool, true, false, not}
+use mathlib.Core.Bool.{Bool, true, false, cond, not}
 use mathlib.Core.List.{List, [], _∷_}
 use Prim.Native.Nat.{ℕ, zero, suc, _*_, _^_}
 use lib.Dec.{eqb, leb, ltb}
-use Rattle.hash_parts.specs.Choice.{pick}
 use Rattle.hash_parts.specs.Duration.{ceilDiv, nanosOf}
 use Rattle.hash_parts.specs.Error.{errorNumber}
 use Rattle.hash_parts.specs.declared.duration.EncodedExpiry.{EncodedExpiry}
@@ -25,13 +24,13 @@ use Rattle.sets.specs.declared.questions.Check.the-variants.{Passed, Ref
 -- "The number is the answer when it is no." The number of the first question that is answered no; 0 where all are answered yes
 abbrev pub firstNo : List (Bool × ℕ) → ℕ
 firstNo [] = 0
-firstNo (q ∷ l) = pick (q .0) (firstNo l) (q .1)
+firstNo (q ∷ l) = cond (q .0) (firstNo l) (q .1)
 
 -- whether all of some conditions hold
 abbrev pub all : List Bool → Bool
 all [] = true
 all (b ∷ []) = b
-all (b ∷ c ∷ l) = pick b (all (c ∷ l)) false
+all (b ∷ c ∷ l) = cond b (all (c ∷ l)) false
 
 -- what a call leaves where no question is answered no; else what it leaves when refused with the number of the first that is
 abbrev pub decided : {A : Type 0} → ℕ → A → (ℕ → A) → A
@@ -94,7 +93,7 @@ unfoldable pub targetFits : ℕ → Bool
 targetFits target = all (leb 1 target ∷ leb target 100_663_296 ∷ [])
 
 unfoldable pub scratchHolds : SegmentCacheConfig → ℕ → ℕ → Bool
-scratchHolds c buckets scratch = pick (c .«packed_bucket_index») (leb buckets scratch) true
+scratchHolds c buckets scratch = cond (c .«packed_bucket_index») (leb buckets scratch) true
 
 -- question 3: "Index, filter and segment areas long enough .. ? 10." Of these index and filter, which go by the records; the others are asked beside it.
 unfoldable pub openAreasHold : SegmentCacheConfig → ℕ → ℕ → ℕ → Bool

@@ -2,12 +2,11 @@
 -- leaves. Rebuilt set: "Keeps chosen segments unmoved, appends copied records as one last segment after the filled arena (the rebuilt set's filled bytes are
 -- the source's plus the copied, whatever was dropped)".
 -- Assumes nothing.
-use mathlib.Core.Bool.{Bool, true, false}
+use mathlib.Core.Bool.{Bool, true, false, cond}
 use mathlib.Core.List.{List, [], _∷_}
 use Prim.Native.Nat.{ℕ, zero, suc, _+_, _-_, _*_, _/_, _%_, _^_}
 use lib.Dec.{eqb, leb, ltb}
 use lib.ListN.{length, set, getD}
-use Rattle.hash_parts.specs.Choice.{pick}
 use Rattle.hash_parts.specs.Duration.{encodedExpiry}
 use Rattle.hash_parts.specs.Hash.{tagOf}
 use Rattle.hash_parts.specs.Outcome.{Outcome}
@@ -40,7 +39,7 @@ use Rattle.sets.specs.declared.rebuild.SharedSegmentCacheBuilder.{Shared
 -- "In rebuild calls, does each segment lie in the filled arena?" The first so many segments of two areas
 unfoldable pub segmentsInside : ℕ → ℕ → List ℕ → List ℕ → Bool
 segmentsInside zero filled starts lengths = true
-segmentsInside (suc n) filled starts lengths = pick (segmentsInside n filled starts lengths) (leb (getD starts n 0 + getD lengths n 0) filled) false
+segmentsInside (suc n) filled starts lengths = cond (segmentsInside n filled starts lengths) (leb (getD starts n 0 + getD lengths n 0) filled) false
 
 -- of a source, with its segment areas and arena
 unfoldable pub areasHoldSource : FrozenSegmentCache → List ℕ → List ℕ → ℕ → Bool
@@ -57,7 +56,7 @@ filledIn r = r .«source_filled» + r .«copied_bytes»
 
 -- one segment for some bytes, none for no bytes
 abbrev pub segmentFor : ℕ → ℕ
-segmentFor bytes = pick (eqb bytes 0) 0 1
+segmentFor bytes = cond (eqb bytes 0) 0 1
 
 -- of a rebuild: "a rebuild's kept ones, plus one if copied bytes stand, at most 256"
 unfoldable pub rebuildFits : SharedSegmentCacheBuilder → Bool
@@ -293,7 +292,7 @@ askRebuildFinish r index starts lengths scratch arena =
 
 -- "No segment is added for zero copied bytes unless none is kept."
 unfoldable pub addsSegment : SharedSegmentCacheBuilder → Bool
-addsSegment r = pick (eqb (r .«copied_bytes») 0) (eqb (retained (r .kept)) 0) true
+addsSegment r = cond (eqb (r .«copied_bytes») 0) (eqb (retained (r .kept)) 0) true
 
 -- the sum of the first so many words of an area
 unfoldable pub sumOf : ℕ → List ℕ → ℕ
@@ -307,7 +306,7 @@ rebuiltSet r lengths =
       entries = r .«expected_entries»;
       buckets = r .«bucket_count»;
       «filter_words» = r .«filter_words»;
-      segments = retained (r .kept) + pick (addsSegment r) 1 0;
+      segments = retained (r .kept) + cond (addsSegment r) 1 0;
       filled = filledIn r;
       «record_bytes» = sumOf (retained (r .kept)) lengths + r .«copied_bytes»;
       «logical_key_bytes» = r .«logical_key_bytes»;
@@ -339,16 +338,16 @@ rebuildFinishResult a index starts lengths scratch =
 
 -- "its finish adds the last"
 abbrev pub withLast : SharedSegmentCacheBuilder → List ℕ → ℕ → List ℕ
-withLast r area word = pick (addsSegment r) (set area (retained (r .kept)) word) area
+withLast r area word = cond (addsSegment r) (set area (retained (r .kept)) word) area
 
 abbrev pub rebuildFinishMade : SharedSegmentCacheBuilder → List ℕ → List ℕ → List ℕ → List ℕ → RebuildFinished
 rebuildFinishMade r index starts lengths scratch =
     record {
       answer = accept (buildOf r lengths);
-      index = pick (r .config .«packed_bucket_index») (packedIndex (r .«bucket_count») index scratch) index;
+      index = cond (r .config .«packed_bucket_index») (packedIndex (r .«bucket_count») index scratch) index;
       starts = withLast r starts (r .«source_filled»);
       lengths = withLast r lengths (r .«copied_bytes»);
-      scratch = pick (r .config .«packed_bucket_index») (packedScratch (r .«bucket_count») index scratch) scratch;
+      scratch = cond (r .config .«packed_bucket_index») (packedScratch (r .«bucket_count») index scratch) scratch;
     }
 
 unfoldable pub afterRebuildFinish : SharedSegmentCacheBuilder → List ℕ → List ℕ → List ℕ → List ℕ → List ℕ → RebuildFinished

@@ -1,8 +1,8 @@
 -- Statistics of a set.
 -- Assumes nothing.
+use mathlib.Core.Bool.{cond}
 use Prim.Native.Nat.{ℕ, _+_, _-_, _*_, _/_, _^_, min}
 use lib.Dec.{eqb, leb}
-use Rattle.hash_parts.specs.Choice.{pick}
 use Rattle.sets.specs.declared.cache.FrozenSegmentCache.{FrozenSegmentCache}
 use Rattle.sets.specs.declared.stats.SegmentCacheStats.{SegmentCacheStats}
 
@@ -22,8 +22,8 @@ statsOf s =
 
 -- a number of 16 bits; 10,000 for all above
 abbrev pub capped : ℕ → ℕ
-capped n = pick (leb n 65535) n 10000
+capped n = cond (leb n 65535) n 10000
 
 -- entries in ten-thousandths of the slots, as the Rust works them out for any numbers: the product stops at the largest number
 unfoldable pub loadOf : ℕ → ℕ → ℕ
-loadOf entries slots = pick (eqb slots 0) 0 (capped (min (entries * 10000) (2 ^ 64 - 1) / slots))
+loadOf entries slots = cond (eqb slots 0) 0 (capped (min (entries * 10000) (2 ^ 64 - 1) / slots))

@@ -9,9 +9,9 @@ use hash_parts::setting::SegmentCacheConfig;
 use index::build::bucket_count;
 use index::segments::MAX_RECORD_SEGMENTS;
 use index::word::BUCKET_SLOTS;
+ghost use mathlib.Core.Bool.{cond};
 ghost use mathlib.Core.Path.{_≡_};
 ghost use Prim.Native.Nat.{_≤_};
-ghost use Rattle.hash_parts.specs.Choice.{pick};
 ghost use Rattle.sets.specs.Areas.{areaWordsFor, areaWordsReply, wordsNeeded};
 
 // Words of 64 bits.
@@ -64,7 +64,7 @@ fn words_needed(config: SegmentCacheConfig, entry_count: usize) -> AreaWords
 }
 
 fn scratch_words(packed: bool, buckets: usize) -> usize
-    ensures { λ r. ⌜ r ≡ pick packed buckets 0 ⌝ }
+    ensures { λ r. ⌜ r ≡ cond packed buckets 0 ⌝ }
 {
     if packed { buckets } else { 0 }
 }

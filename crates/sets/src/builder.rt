@@ -18,12 +18,12 @@ use index::word::BUCKET_SLOTS;
 use index::word::encode_index_word;
 use records::record::SizeAnswer;
 use records::record::append_record;
+ghost use mathlib.Core.Bool.{cond};
 ghost use mathlib.Core.Path.{_≡_};
 ghost use Prim.Native.Nat.{_+_, _*_, _<_, _≤_, _^_};
 ghost use lib.ListN.{length};
 ghost use Rattle.index.specs.Packed.{packedIndex, packedScratch};
 ghost use Rattle.records.specs.Record.{encodedSize, sizeOutcome};
-ghost use Rattle.hash_parts.specs.Choice.{pick};
 ghost use Rattle.sets.specs.Build.{afterFinish, afterOpen, afterPush, builderGrown, builderOpened, finishResult, openResult, pushEnd, pushMade, pushResult, setOf};
 
 pub struct SegmentCacheBuilder {
@@ -268,7 +268,7 @@ fn opened_builder(config: SegmentCacheConfig, entry_count: usize) -> SegmentCach
 
 // The packed layout, where the setting asks for it.
 pub(crate) fn pack_index(packed: bool, index: &mut [u64], buckets: usize, scratch: &mut [u64])
-    ensures { λ r. ⌜ (now (index .exit) ≡ pick packed (packedIndex buckets (now (index .entry)) (now (scratch .entry))) (now (index .entry))) × (now (scratch .exit) ≡ pick packed (packedScratch buckets (now (index .entry)) (now (scratch .entry))) (now (scratch .entry))) ⌝ }
+    ensures { λ r. ⌜ (now (index .exit) ≡ cond packed (packedIndex buckets (now (index .entry)) (now (scratch .entry))) (now (index .entry))) × (now (scratch .exit) ≡ cond packed (packedScratch buckets (now (index .entry)) (now (scratch .entry))) (now (scratch .entry))) ⌝ }
 {
     if packed {
         finish_packed_index(index, buckets, scratch);

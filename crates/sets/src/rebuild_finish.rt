@@ -6,10 +6,9 @@ use crate::rebuild::SharedSegmentCacheBuild;
 use crate::rebuild::SharedSegmentCacheBuilder;
 use hash_parts::error::SegmentCacheBuildError;
 ghost use mathlib.Core.Path.{_≡_};
-ghost use mathlib.Core.Bool.{true};
+ghost use mathlib.Core.Bool.{true, cond};
 ghost use Prim.Native.Nat.{_+_, _<_, _≤_, _^_};
 ghost use lib.ListN.{length};
-ghost use Rattle.hash_parts.specs.Choice.{pick};
 ghost use Rattle.sets.specs.Kept.{retained};
 ghost use Rattle.sets.specs.Questions.{checkNumber, countsFit, firstNo};
 ghost use Rattle.sets.specs.Rebuild.{addsSegment, askRebuildFinish, buildOf, filledIn, rebuiltSet, sumOf, withLast};
@@ -51,7 +50,7 @@ impl SharedSegmentCacheBuilder {
 
     // The start and the length of the segment of the copied records, where there is one.
     pub(crate) fn add_segment(self, starts: &mut [u64], lengths: &mut [u64])
-        requires { ⌜ (256 ≤ length (now starts)) × (256 ≤ length (now lengths)) × (retained (self .kept) + pick (addsSegment self) 1 0 ≤ 256) ⌝ }
+        requires { ⌜ (256 ≤ length (now starts)) × (256 ≤ length (now lengths)) × (retained (self .kept) + cond (addsSegment self) 1 0 ≤ 256) ⌝ }
         ensures { λ r. ⌜ (now (starts .exit) ≡ withLast self (now (starts .entry)) (self .«source_filled»)) × (now (lengths .exit) ≡ withLast self (now (lengths .entry)) (self .«copied_bytes»)) ⌝ }
     {
         if self.adds_segment() {
@@ -99,7 +98,7 @@ impl SharedSegmentCacheBuilder {
 
     // The kept segments, and that of the copied records.
     fn segment_count(self) -> usize
-        ensures { λ r. ⌜ r ≡ retained (self .kept) + pick (addsSegment self) 1 0 ⌝ }
+        ensures { λ r. ⌜ r ≡ retained (self .kept) + cond (addsSegment self) 1 0 ⌝ }
     {
         let kept = self.kept;
         let retained = kept.retained();

@@ -2,14 +2,13 @@
 use mathlib.Core.Path.{_≡_, refl, ap, _∙_}
 use mathlib.Core.List.{List, []}
 use Prim.Native.Nat.{ℕ, _+_, _≤_, _<_}
-use mathlib.Core.Bool.{Bool, true, false}
+use mathlib.Core.Bool.{Bool, true, false, cond}
 use lib.Dec.{leb}
 use native.Mathlib.Omega.{arith}
 use borrow.Author.Tests.{ne-eqb, le-leb, lt-leb}
 use lib.ListN.{length}
 use Rattle.hash_parts.proofs.Refusals.{refusal-pos}
 use Rattle.hash_parts.specs.Error.{errorNumber}
-use Rattle.hash_parts.specs.Choice.{pick}
 use Rattle.hash_parts.specs.Outcome.{accepted, refused}
 use Rattle.hash_parts.specs.declared.error.SegmentCacheBuildError.{SegmentCacheBuildError}
 use Rattle.hash_parts.specs.declared.error.SegmentCacheBuildError.the-variants.{AreaTooShort}
@@ -50,7 +49,7 @@ record-long e key value deadline = omega (arith, size-is e key value deadline, l
 
 module _ (s area : List ℕ) where
   abbrev left : Bool → Written
-  left b = pick b (record { answer = accepted (length s); area = over s area }) (record { answer = refused AreaTooShort; area = area })
+  left b = cond b (record { answer = accepted (length s); area = over s area }) (record { answer = refused AreaTooShort; area = area })
 
   pub wrote-none : 0 < length s → written s area .answer .value ≡ 0 → written s area .answer ≡ refused AreaTooShort
   unfolding written

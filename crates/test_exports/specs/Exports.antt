@@ -1,10 +1,9 @@
 -- The answers of the lower calls as numbers and words. Assumes nothing.
 use Prim.Native.Nat.{ℕ, _+_, _^_}
-use mathlib.Core.Bool.{Bool, true, false}
+use mathlib.Core.Bool.{Bool, true, false, cond}
 use mathlib.Core.List.{List, [], _∷_}
 use lib.Dec.{eqb, leb, ltb}
 use lib.ListN.{length, getD}
-use Rattle.hash_parts.specs.Choice.{pick}
 use Rattle.hash_parts.specs.Outcome.{Outcome}
 use Rattle.hash_parts.specs.declared.duration.Duration.{Duration}
 use Rattle.hash_parts.specs.declared.duration.Lifetime.{Lifetime}
@@ -29,10 +28,10 @@ abbrev pub durationOf : ℕ → ℕ → Duration
 durationOf secs nanos = record { secs = secs; nanos = nanos }
 
 abbrev pub expiryOf : Bool → ℕ → ℕ → SegmentExpiry
-expiryOf on secs nanos = pick on (Relative16 (durationOf secs nanos)) None
+expiryOf on secs nanos = cond on (Relative16 (durationOf secs nanos)) None
 
 abbrev pub lifetimeOf : Bool → ℕ → ℕ → Lifetime
-lifetimeOf finite secs nanos = pick finite (life.For (durationOf secs nanos)) life.Never
+lifetimeOf finite secs nanos = cond finite (life.For (durationOf secs nanos)) life.Never
 
 abbrev pub spanOf : ℕ → ℕ → Span
 spanOf at len = record { at = at; len = len }
@@ -44,7 +43,7 @@ viewOf on filled segments = record { expiry = expiryOf on 1 0; filled = filled; 
 
 -- an answer as one number: its value, or a base and the refusal's number
 unfoldable pub codeOf : ℕ → Outcome → ℕ
-codeOf base o = pick (eqb (o .number) 0) (o .value) (base + o .number)
+codeOf base o = cond (eqb (o .number) 0) (o .value) (base + o .number)
 
 -- a slot as one number: itself, or 2^63 and 4 for a duplicate, 3 for a full index
 abbrev pub slotCode : Outcome → ℕ
@@ -52,7 +51,7 @@ slotCode o = codeOf (2 ^ 63) o
 
 -- lent words with these written over their front where all of them fit; else as they were
 unfoldable pub placed : List ℕ → List ℕ → List ℕ
-placed words out = pick (leb (length words) (length out)) (over words out) out
+placed words out = cond (leb (length words) (length out)) (over words out) out
 
 -- an answer and words
 pub record Told (A : Type 0) : Type 0 where
@@ -68,7 +67,7 @@ lent t out = told (t .answer) (placed (t .words) out)
 
 -- the refusal's number, or 0 and the value
 unfoldable pub outcomeTold : Outcome → Told ℕ
-outcomeTold o = told (o .number) (pick (eqb (o .number) 0) (o .value ∷ []) [])
+outcomeTold o = told (o .number) (cond (eqb (o .number) 0) (o .value ∷ []) [])
 
 -- 0: nothing is left; 1: it never lapses; 2: seconds and nanoseconds
 abbrev pub leftTold : SegmentRemainingTtl → Told ℕ
@@ -94,4 +93,4 @@ foundTold (found.Found f) = told true (f .slot ∷ recordTold (record-answer.Rea
 
 -- the byte at i, or 256 past the end
 unfoldable pub byteOr256 : List ℕ → ℕ → ℕ
-byteOr256 s i = pick (ltb i (length s)) (getD s i 0) 256
+byteOr256 s i = cond (ltb i (length s)) (getD s i 0) 256

@@ -1,13 +1,12 @@
 -- Document 01's trials marked P, as one table of tests on the definitions that the contracts cite.
 -- Assumes nothing.
 use mathlib.Core.Path.{_≡_}
-use mathlib.Core.Bool.{Bool, true, false, not, _&&_}
+use mathlib.Core.Bool.{Bool, true, false, cond, not, _&&_}
 use mathlib.Core.List.{List, [], _∷_}
 use Prim.Native.Nat.{ℕ, _+_, _-_, _^_, _<_}
 use native.Mathlib.Omega.{arith}
 use borrow.Author.Tests.{le-ltb}
 use lib.Dec.{T, eqb}
-use Rattle.hash_parts.specs.Choice.{pick}
 use Rattle.hash_parts.specs.Duration.{encodedExpiry, deadlineAt, livesAt}
 use Rattle.hash_parts.specs.Hash.{tagOf, firstBucket, controlTag, secondaryTag, mixedHash, rotated}
 use Rattle.hash_parts.specs.Outcome.{Outcome}
@@ -24,7 +23,7 @@ use Rattle.records.specs.Uleb128.{uleb128, ulebIn}
 
 abbrev all : List Bool → Bool
 all [] = true
-all (b ∷ bs) = pick b (all bs) false
+all (b ∷ bs) = cond b (all bs) false
 
 -- the outcome has this number and this value
 abbrev gives : Outcome → ℕ → ℕ → Bool

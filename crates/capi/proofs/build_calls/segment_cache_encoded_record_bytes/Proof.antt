@@ -1,6 +1,6 @@
 -- `segment_cache_encoded_record_bytes` meets its contract: the form of the words, then the call and what it hands back. Assumes nothing.
 use mathlib.Core.Path.{_≡_, refl, sym, ap, _∙_}
-use mathlib.Core.Bool.{Bool, true, false}
+use mathlib.Core.Bool.{Bool, true, false, cond}
 use mathlib.Core.List.{List}
 use Prim.Native.Nat.{ℕ, zero, suc, _≤_}
 use native.Mathlib.Omega.{arith}
@@ -8,7 +8,6 @@ use lib.Dec.{eqb}
 use lib.ListN.{length}
 use borrow.Author.Needs.{needs}
 use borrow.Author.Tests.{eq-eqb, ne-eqb, eqb-true}
-use Rattle.hash_parts.specs.Choice.{pick}
 use Rattle.hash_parts.specs.declared.setting.SegmentCacheConfig.{SegmentCacheConfig}
 use Rattle.sets.specs.Questions.{decided}
 use Rattle.capi.specs.Calls.{exportedSize}
@@ -23,7 +22,7 @@ six : (w : List ℕ) (c : SegmentCacheConfig) → settingAlone w ≡ setting.Is 
 unfolding settingAlone
 six w c e = go (eqb (length w) 6) refl e
   where
-    go : (b : Bool) → eqb (length w) 6 ≡ b → pick b (settingIn w) setting.Malformed ≡ setting.Is c → 6 ≤ length w
+    go : (b : Bool) → eqb (length w) 6 ≡ b → cond b (settingIn w) setting.Malformed ≡ setting.Is c → 6 ≤ length w
     go true q f = omega (arith, eqb-true (length w) 6 q)
     go false q f = absurd (let z : _≡_ {A = ℕ} 0 1 = cc in omega arith)
 

@@ -1,16 +1,15 @@
 -- `one_byte_prefixes` meets its contract: it says yes only after all its tests. Assumes nothing.
 use mathlib.Core.Path.{_≡_, ap}
-use mathlib.Core.Bool.{Bool, true, false}
+use mathlib.Core.Bool.{Bool, true, false, cond}
 use Prim.Native.Nat.{ℕ, _<_}
 use native.Mathlib.Omega.{arith}
 use borrow.Author.Needs.{needs}
 use borrow.Author.Tests.{ltb-true}
-use Rattle.hash_parts.specs.Choice.{pick}
 use Rattle.records.proofs.record.one_byte_prefixes.Statement.{statement}
 use Rattle.records.proofs.record.one_byte_prefixes.Tie as tie
 
 says-no : false ≡ true → ⊥
-says-no e = let z : _≡_ {A = ℕ} 0 1 = ap (λ (b : Bool). pick b 1 0) e in omega arith
+says-no e = let z : _≡_ {A = ℕ} 0 1 = ap (λ (b : Bool). cond b 1 0) e in omega arith
 
 returns : tie.Need-returns
 returns c e = absurd (says-no e)
