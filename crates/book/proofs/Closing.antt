@@ -7,6 +7,7 @@ use Prim.Native.Nat.{ℕ, _+_, _*_, _^_, _≤_, _<_}
 use native.Mathlib.Omega.{arith}
 use lib.ListN.{length, take}
 use Rattle.hash_parts.specs.declared.setting.SegmentExpiry.{SegmentExpiry}
+use Rattle.records.specs.Area.{over}
 use Rattle.index.specs.Segments as cuts
 use Rattle.index.proofs.Contents.{storedIn}
 use Rattle.index.proofs.Filling.{filled-back}
@@ -16,7 +17,7 @@ use Rattle.sets.specs.Lookup.{areasHoldLookup, viewOf}
 use Rattle.sets.specs.Questions.{scratchHolds}
 use Rattle.sets.specs.declared.builder.SegmentCacheBuilder.{SegmentCacheBuilder}
 use Rattle.sets.proofs.Asked.{FinishAsked}
-use Rattle.book.specs.Book.{Entry, Book, startsOf}
+use Rattle.book.specs.Book.{Entry, Book, bookStarts}
 use Rattle.book.specs.World.{Areas}
 use Rattle.book.proofs.Cutting.{index-starts, every-start}
 use Rattle.book.proofs.Finishing.{split-reads, laid-out}
@@ -50,7 +51,7 @@ module _ (H : List ℕ → ℕ) where
               lengths = finishMade b target (a .index) (a .starts) (a .lengths) scratch .lengths;
             };
       }
-      record { list = k .list; starts = startsOf (length (k .tape)) target (k .list); filled = length (k .tape) }
+      record { list = k .list; starts = bookStarts (length (k .tape)) target (k .list); filled = length (k .tape) }
   unfolding scratchHolds cuts.startsOf
   builder-finish b a arena scratch target k ok asked few memory passes =
       record {
@@ -79,14 +80,14 @@ module _ (H : List ℕ → ℕ) where
       short : length tape ≤ 2 ^ 30
       short = omega (arith, ok .filled, asked .areas .filled-held, asked .areas .arena-short)
 
-      same : ss ≡ startsOf (length tape) target (k .list)
+      same : ss ≡ bookStarts (length tape) target (k .list)
       same =
           rw (← ok .filled)
           (index-starts (b .«bucket_count») (a .index) (a .filter) (b .«filter_words») (b .filled) target (k .list) (ok .index) (asked .some-target) (rw (ok .filled) (ok .below)) (omega (arith, ok .filled, short)) few)
 
       Reads : ℕ → Entry → Type 0
       Reads m e =
-          storedIn (viewOf (setOf b (length ss))) arena (cuts.replaced (cuts.padded ss) (a .starts)) (cuts.replaced (cuts.padded (cuts.lengthsOf (b .filled) ss)) (a .lengths)) m
+          storedIn (viewOf (setOf b (length ss))) arena (over (cuts.padded ss) (a .starts)) (over (cuts.padded (cuts.lengthsOf (b .filled) ss)) (a .lengths)) m
           ≡ some (storedOf e)
 
       located : (e : Entry) → Stands x tape (places (k .list)) 0 e → ⊥

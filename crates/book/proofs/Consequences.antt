@@ -10,7 +10,7 @@ use lib.ListN.{length, take, getElem?}
 use Rattle.hash_parts.specs.declared.setting.SegmentCacheConfig.{SegmentCacheConfig}
 use Rattle.hash_parts.specs.declared.setting.SegmentExpiry.{SegmentExpiry}
 use Rattle.book.specs.Book.{Entry, ListedSet, Book, blank, heard, bookAfter, firstOf, ruled, replyFrom, replied, replies}
-use Rattle.book.specs.Calls.{Call, opening, push, finish, lookup, peek, clear, probe, walk, stats, reopen, reuse, copy, refinish, bare, value, nothing, refused}
+use Rattle.book.specs.Calls.{Call, opening, push, finish, lookup, peek, clear, probe, walk, stats, reopen, reuse, copy, refinish, bare, value, nothing, denied}
 use Rattle.book.specs.Premise.{EqualHashes, Hashes64}
 use Rattle.book.specs.World.{FinishedSet, World, unopened, step, worldAfter, told, answers}
 use Rattle.book.proofs.Hashing.{AllHashed, hashed}
@@ -22,20 +22,20 @@ use Rattle.book.proofs.Theorem.{every-list}
 -- ---- refusals
 
 -- the book's rule never says `refused`
-never-ruled : (tick : ℕ) (o : Option Entry) → ruled tick o ≡ refused → ⊥
+never-ruled : (tick : ℕ) (o : Option Entry) → ruled tick o ≡ denied → ⊥
 never-ruled tick none e = let z : _≡_ {A = ℕ} 0 1 = cc in omega arith
 never-ruled tick (some d) e = go (eqb (d .deadline) 65535) (ltb tick (d .deadline)) e
   where
-    go : (never before : Bool) → cond never (value (d .value)) (cond before (value (d .value)) nothing) ≡ refused → ⊥
+    go : (never before : Bool) → cond never (value (d .value)) (cond before (value (d .value)) nothing) ≡ denied → ⊥
     go true before f = let z : _≡_ {A = ℕ} 0 1 = cc in omega arith
     go false true f = let z : _≡_ {A = ℕ} 0 1 = cc in omega arith
     go false false f = let z : _≡_ {A = ℕ} 0 1 = cc in omega arith
 
-never-from : (o : Option ListedSet) (key : List ℕ) (tick : ℕ) → replyFrom o key tick ≡ refused → ⊥
+never-from : (o : Option ListedSet) (key : List ℕ) (tick : ℕ) → replyFrom o key tick ≡ denied → ⊥
 never-from none key tick e = let z : _≡_ {A = ℕ} 0 1 = cc in omega arith
 never-from (some l) key tick e = never-ruled tick (firstOf key (l .list)) e
 
-never-replied : (k : Book) (c : Call (Unit {0})) → Every (λ y. y ≡ refused → ⊥) (replied k c)
+never-replied : (k : Book) (c : Call (Unit {0})) → Every (λ y. y ≡ denied → ⊥) (replied k c)
 never-replied k (opening config records arena index filter starts lengths) = every-nil
 never-replied k (push key v h lifetime) = every-nil
 never-replied k (finish target scratch) = every-nil
@@ -54,13 +54,13 @@ every-append : {A : Type 0} {P : A → Type 0} {l m : List A} → Every P l → 
 every-append every-nil s = s
 every-append (every-cons x r) s = every-cons x (every-append r s)
 
-never-in : (k : Book) (ts : List (Call (Unit {0}) × Bool)) → Every (λ y. y ≡ refused → ⊥) (replies k ts)
+never-in : (k : Book) (ts : List (Call (Unit {0}) × Bool)) → Every (λ y. y ≡ denied → ⊥) (replies k ts)
 never-in k [] = every-nil
 never-in k (t ∷ ts) = every-append (never-replied k (t .0)) (never-in (heard k t) ts)
 
 -- no lookup and no peek in a finished set is refused
 pub no-lookup-refused : (arena : List ℕ) (config : SegmentCacheConfig) (calls : List (Call (List ℕ))) → EqualHashes calls → Hashes64 calls
-    → Every (λ y. y ≡ refused → ⊥) (answers (unopened arena) calls)
+    → Every (λ y. y ≡ denied → ⊥) (answers (unopened arena) calls)
 no-lookup-refused arena config calls equal small =
     rw (every-list arena config calls equal small) (never-in (blank config) (told (unopened arena) calls))
 

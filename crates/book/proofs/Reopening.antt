@@ -8,8 +8,9 @@ use native.Mathlib.Omega.{arith}
 use lib.Dec.{eqb}
 use lib.ListN.{length, take, getD}
 use lib.Seq.{getD-take, length-take-le}
+use Rattle.records.specs.Area.{over}
 use Rattle.index.specs.Build.{cleared}
-use Rattle.index.specs.Segments.{padded, replaced}
+use Rattle.index.specs.Segments.{padded}
 use Rattle.index.proofs.Filling.{filled-back}
 use Rattle.index.proofs.Kept.{cleared-indexed}
 use Rattle.index.proofs.Table.{true≢false}
@@ -52,13 +53,13 @@ module _ (H : List ℕ → ℕ) where
       → (records copied : ℕ) (flags : List ℕ) (tick : ℕ) (index filter starts lengths : List ℕ)
       → ReopenAsked (s .cache) (s .areas .starts) (s .areas .lengths) (length arena) records copied flags (length index) (length filter) (length starts) (length lengths)
       → rebuildPasses (rebuildOpened (s .cache) records flags tick) (length (cleared index (8 * bucketsIn (s .cache .config) records))) (length (cleared filter (filterWordsIn (s .cache .config) records)))
-      (replaced (padded (chosen flags (s .areas .starts))) starts) (replaced (padded (chosen flags (s .areas .lengths))) lengths) (length arena) ≡ true
+      (over (padded (chosen flags (s .areas .starts))) starts) (over (padded (chosen flags (s .areas .lengths))) lengths) (length arena) ≡ true
       → RebuildHolds H (rebuildOpened (s .cache) records flags tick)
       record {
         index = cleared index (8 * bucketsIn (s .cache .config) records);
         filter = cleared filter (filterWordsIn (s .cache .config) records);
-        starts = replaced (padded (chosen flags (s .areas .starts))) starts;
-        lengths = replaced (padded (chosen flags (s .areas .lengths))) lengths;
+        starts = over (padded (chosen flags (s .areas .starts))) starts;
+        lengths = over (padded (chosen flags (s .areas .lengths))) lengths;
       }
       (length arena) (reopened k flags tick)
   rebuild-open s l k arena top ok newer low records copied flags tick index filter starts lengths asked passes =
@@ -68,7 +69,7 @@ module _ (H : List ℕ → ℕ) where
         filled = omega (arith, ok .filled, cut);
         tick = refl;
         passes = passes;
-        kept = ap (λ (n : ℕ). take n (replaced (padded kept) starts)) (retained-kept flags few ∙ sym size) ∙ filled-back kept starts short ∙ same;
+        kept = ap (λ (n : ℕ). take n (over (padded kept) starts)) (retained-kept flags few ∙ sym size) ∙ filled-back kept starts short ∙ same;
         sourced = sourced;
         index = cleared-indexed (bucketsIn (s .cache .config) records) index _ (filterWordsIn (s .cache .config) records) (asked .index-holds);
       }
@@ -100,7 +101,7 @@ module _ (H : List ℕ → ℕ) where
       same : kept ≡ keptBy flags (startsIn (newest (k .sets)))
       same = sym (chosen-front flags (s .areas .starts)) ∙ ap (chosen flags) listed ∙ sym (kept-chosen flags (startsIn (newest (k .sets))))
 
-      sourced : (g : ℕ) → isKept (keptOf flags) g ≡ true → getD (replaced (padded kept) starts) (newNumber (keptOf flags) g) 0 ≡ getD (startsIn (newest (k .sets))) g 0
+      sourced : (g : ℕ) → isKept (keptOf flags) g ≡ true → getD (over (padded kept) starts) (newNumber (keptOf flags) g) 0 ≡ getD (startsIn (newest (k .sets))) g 0
       sourced g e =
           let flag : not (eqb (getD flags g 0) 0) ≡ true = sym (is-kept-flag flags g few) ∙ e in
           filled-at kept starts (newNumber (keptOf flags) g) short (omega (arith, number-below (keptOf flags) g e, retained-kept flags few, size))

@@ -14,7 +14,7 @@ use Rattle.records.specs.Area.{pasted}
 use Rattle.records.specs.Record.{recordBytes, recordSize}
 use Rattle.records.proofs.Parts.{size-is}
 use Rattle.index.proofs.Kept.{cleared-indexed}
-use Rattle.index.proofs.Filling.{replaced-length}
+use Rattle.index.proofs.Filling.{over-padded-length}
 use Rattle.sets.specs.Lookup.{afterPeek, areasHoldLookup}
 use Rattle.sets.specs.Answers.{Reply, accept, refuse, Placed}
 use Rattle.sets.specs.Build.{afterOpen, Opened, Pushed, Finished}
@@ -23,7 +23,7 @@ use Rattle.sets.specs.declared.builder.SegmentCacheBuilder.{SegmentCacheBuilder
 use Rattle.sets.specs.declared.cache.FrozenSegmentCache.{FrozenSegmentCache}
 use Rattle.sets.proofs.Accepted.{OpenCase, open-made, open-refused, open-case, PushCase, push-made, push-refused, push-case, FinishCase, finish-made, finish-many, finish-refused, finish-case}
 use Rattle.sets.proofs.Closure.{builderPasses, builder-lengths, builder-filter-holds, open-passes, push-passes, finish-passes}
-use Rattle.book.specs.Book.{ListedSet, Book, startsOf, blank, joined, closed, filledIn, heard, replyFrom, replied}
+use Rattle.book.specs.Book.{ListedSet, Book, bookStarts, blank, joined, closed, filledIn, heard, replyFrom, replied}
 use Rattle.book.specs.Calls.{Call, opening, push, finish, lookup, peek, clear, probe, walk, stats, reopen, reuse, copy, refinish, bare, Answer, newest}
 use Rattle.book.specs.World.{Areas, Current, idle, building, rebuilding, FinishedSet, World, isAccepted, unopened, openLeaves, opened, openedOr, openingStep, pushLeaves, pushStep, finishLeaves, finishStep, lookupStep, peekStep, clearStep, probeStep, walkStep, statsStep, step, answerFrom, peekedFrom, answered}
 use Rattle.book.proofs.Appending.{appended, joins}
@@ -85,7 +85,7 @@ module _ (H : List ℕ → ℕ) where
     where
       go : {f : Finished} → FinishCase b target (a .index) (a .starts) (a .lengths) scratch (w .arena) f
           → ((s : FrozenSegmentCache) → f .answer ≡ accept s → areasHoldLookup s (length (f .index)) (length (a .filter)) (length (f .starts)) (length (f .lengths)) (length (w .arena)) ≡ true)
-          → Holds H (finishLeaves w a f .after) (cond (isAccepted (f .answer)) (closed k (startsOf (length (k .tape)) target (k .list))) k)
+          → Holds H (finishLeaves w a f .after) (cond (isAccepted (f .answer)) (closed k (bookStarts (length (k .tape)) target (k .list))) k)
       go (finish-refused n) passes = record { memory = m .memory; top = m .top; current = is-building ok; sets = m .sets }
       go (finish-many asked) passes =
           record {
@@ -97,7 +97,7 @@ module _ (H : List ℕ → ℕ) where
                   expiry = ok .expiry;
                   filled = ok .filled;
                   passes =
-                      ap (λ (n : ℕ). builderPasses b (length (a .index)) (length (a .filter)) n (length (a .lengths)) (length (w .arena))) (replaced-length _ (a .starts) (asked .starts-hold))
+                      ap (λ (n : ℕ). builderPasses b (length (a .index)) (length (a .filter)) n (length (a .lengths)) (length (w .arena))) (over-padded-length _ (a .starts) (asked .starts-hold))
                       ∙ ok .passes;
                   below = ok .below;
                   index = ok .index;

@@ -2,7 +2,7 @@
 -- Assumes nothing.
 use mathlib.Core.Path.{_≡_, refl}
 use mathlib.Core.Bool.{Bool, true, false}
-use mathlib.Core.List.{List, [], _∷_, _++_, map}
+use mathlib.Core.List.{List, [], _∷_, _++_, flatMap, map}
 use Prim.Native.Nat.{ℕ, _+_, _^_}
 use lib.ListN.{replicate, take}
 use Rattle.hash_parts.specs.Duration as duration
@@ -239,7 +239,7 @@ unfolding run byBook accepted starts bookStarts example firstIndex
     slots.bucketsFor slots.cleared slots.buildRecord slots.holdsKey slots.looks slots.searched slots.searchedAll slots.slotFor
     filters.bitPast filters.filterWord filters.filterMask filters.filterMarked filters.displaced filters.displacedMarked filters.filterHas
     find.slotAt find.looksFrom find.scan find.sweep find.hasEmpty find.found find.findIn
-    packing.wordsOf packing.wordBytes packing.concatMap packing.controlWord packing.referenceWords packing.packed packing.packedIndex
+    packing.wordsOf packing.wordBytes flatMap packing.controlWord packing.referenceWords packing.packed packing.packedIndex
     packing.packedScratch packing.packedSlot packing.packedSlotsOf packing.packedBucket packing.withByte
     cuts.nextStart cuts.startAfter cuts.startsAfter cuts.startsOf cuts.lengthsOf cuts.segmentOf cuts.splitWord cuts.padded cuts.allInside
     cuts.locationsInside
@@ -255,5 +255,5 @@ unfolding run byBook accepted starts bookStarts example firstIndex
     rebuilds.sumOf rebuilds.afterRebuildFinish
     questions.nanosecondsFit questions.lifetimeFits questions.occupancyFits questions.tickRuns questions.settingFits questions.countsFit questions.arenaHolds
     questions.segmentAreasHold questions.targetFits questions.scratchHolds questions.openAreasHold questions.askOpen
-    books.startsFrom books.startsOf books.keptBy books.prefixBytes books.sameKey
+    books.startsFrom books.bookStarts books.keptBy books.prefixBytes books.sameKey
 trials = (refl, refl, refl, refl, refl, refl, refl, refl, refl, refl, refl, refl, refl, refl, refl, refl, refl, refl, refl, refl, refl)

@@ -63,8 +63,8 @@ startsFrom (suc n) target l none = []
 startsFrom (suc n) target l (some start) = start ∷ startsFrom n target l (lowestFrom (start + target) l)
 
 -- the starts of a set's segments, at most 256
-unfoldable pub startsOf : ℕ → ℕ → List Entry → List ℕ
-startsOf filled target l = cond (leb filled target) (0 ∷ []) (startsFrom 255 target l (some 0))
+unfoldable pub bookStarts : ℕ → ℕ → List Entry → List ℕ
+bookStarts filled target l = cond (leb filled target) (0 ∷ []) (startsFrom 255 target l (some 0))
 
 -- ---- the newest set
 
@@ -163,7 +163,7 @@ rejoined b key v place =
 abbrev pub noted : Book → Call (Unit {0}) → Book
 noted b (opening config records arena index filter starts lengths) = blank config
 noted b (push key v h lifetime) = joined b key v (encodedExpiry (b .expiry) lifetime 0 .value)
-noted b (finish target scratch) = closed b (startsOf (length (b .tape)) target (b .list))
+noted b (finish target scratch) = closed b (bookStarts (length (b .tape)) target (b .list))
 noted b (lookup j key h tick) = b
 noted b (peek j key h tick) = b
 noted b (clear j key h) = b

@@ -56,7 +56,7 @@ bare (refinish scratch) = refinish tt
 pub data Answer : Type 0 where
   value : List ℕ → Answer
   nothing : Answer
-  refused : Answer
+  denied : Answer
   absent : Answer
 
 -- the newest of some sets, the last

@@ -31,7 +31,7 @@ use Rattle.sets.specs.declared.rebuild.RebuildOpenAnswer.{RebuildOpenAnswer}
 use Rattle.sets.specs.declared.rebuild.RebuildOpenAnswer.the-variants as reopens
 use Rattle.sets.specs.declared.rebuild.RebuildPushAnswer.{RebuildPushAnswer}
 use Rattle.sets.specs.declared.rebuild.RebuildPushAnswer.the-variants as repushes
-use Rattle.book.specs.Calls.{Answer, value, nothing, refused, newest}
+use Rattle.book.specs.Calls.{Answer, value, nothing, denied, newest}
 use Rattle.book.specs.World.{Areas, Current, idle, building, rebuilding, FinishedSet, World, Step}
 
 -- ---- worlds
@@ -93,7 +93,7 @@ getAccepted (gets.Refused e) = false
 abbrev pub getGives : List ℕ → GetAnswer → List Answer
 getGives arena (gets.Value span) = value (spanned arena span) ∷ []
 getGives arena gets.Nothing = nothing ∷ []
-getGives arena (gets.Refused e) = refused ∷ []
+getGives arena (gets.Refused e) = denied ∷ []
 
 abbrev pub takeAccepted : TakeAnswer → Bool
 takeAccepted (takes.Accessed was) = true

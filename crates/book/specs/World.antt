@@ -22,7 +22,7 @@ use Rattle.sets.specs.declared.cache.FrozenSegmentCache.{FrozenSegmentCache}
 use Rattle.sets.specs.declared.rebuild.SegmentRecordLocation.{SegmentRecordLocation}
 use Rattle.sets.specs.declared.rebuild.SharedSegmentCacheBuild.{SharedSegmentCacheBuild}
 use Rattle.sets.specs.declared.rebuild.SharedSegmentCacheBuilder.{SharedSegmentCacheBuilder}
-use Rattle.book.specs.Calls.{Call, opening, push, finish, lookup, peek, clear, probe, walk, stats, reopen, reuse, copy, refinish, bare, Answer, value, nothing, refused, absent, newest}
+use Rattle.book.specs.Calls.{Call, opening, push, finish, lookup, peek, clear, probe, walk, stats, reopen, reuse, copy, refinish, bare, Answer, value, nothing, denied, absent, newest}
 
 -- ---- states with their areas
 
@@ -314,7 +314,7 @@ told w (c ∷ cs) = (bare c, step w c .accepted) ∷ told (step w c .after) cs
 abbrev pub answerOf : List ℕ → Reply (Option Span) (Unit {0}) → Answer
 answerOf arena (accept none) = nothing
 answerOf arena (accept (some span)) = value (spanned arena span)
-answerOf arena (refuse n u) = refused
+answerOf arena (refuse n u) = denied
 
 abbrev pub answerFrom : World → Option FinishedSet → List ℕ → ℕ → ℕ → Answer
 answerFrom w none key h tick = absent

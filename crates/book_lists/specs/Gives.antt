@@ -3,7 +3,7 @@
 use mathlib.Core.List.{List, [], _∷_}
 use Prim.Native.Nat.{ℕ}
 use Rattle.records.specs.Area.{spanned}
-use Rattle.book.specs.Calls.{Answer, value, nothing, refused, absent}
+use Rattle.book.specs.Calls.{Answer, value, nothing, denied, absent}
 use Rattle.book_lists.specs.declared.build_list.ListAnswer.{ListAnswer}
 use Rattle.book_lists.specs.declared.build_list.ListAnswer.the-variants.{Value, Nothing, Refused, Absent}
 
@@ -11,5 +11,5 @@ use Rattle.book_lists.specs.declared.build_list.ListAnswer.the-variants.
 abbrev pub gives : List ℕ → ListAnswer → List Answer
 gives arena (Value span) = value (spanned arena span) ∷ []
 gives arena Nothing = nothing ∷ []
-gives arena (Refused e) = refused ∷ []
+gives arena (Refused e) = denied ∷ []
 gives arena Absent = absent ∷ []

@@ -28,10 +28,14 @@ unfoldable pub deadlineAt : ℕ → ℕ → ℕ → Outcome
 deadlineAt base lifetime tick =
     cond (leb (base + ceilDiv lifetime tick) 65534) (accepted (base + ceilDiv lifetime tick)) (refused ExpiryOutOfRange)
 
--- Setting: "No lifetime is 65,535, never." Question 4: "No lifetime where expiry is off? 5." A tick of no length is refused as in the Rust;
+-- Setting: "No lifetime is 65,535, never."
+abbrev pub neverExpires : ℕ
+neverExpires = 65535
+
+-- question 4: "No lifetime where expiry is off? 5." A tick of no length is refused as in the Rust;
 -- question 3 refuses it before.
 unfoldable pub encodedExpiry : SegmentExpiry → Lifetime → ℕ → Outcome
-encodedExpiry e life.Never base = accepted 65535
+encodedExpiry e life.Never base = accepted neverExpires
 encodedExpiry None (life.For lifetime) base = refused ExpiryDisabled
 encodedExpiry (Relative16 tick) (life.For lifetime) base =
     cond (eqb (nanosOf tick) 0) (refused ZeroExpiryTick) (deadlineAt base (nanosOf lifetime) (nanosOf tick))
@@ -40,9 +44,9 @@ abbrev pub expiryOutcome : EncodedExpiry → Outcome
 expiryOutcome (At deadline) = accepted deadline
 expiryOutcome (Refused e) = refused e
 
--- a record lives before its deadline, and always where that is 65,535
+-- a record lives before its deadline, and always where it never expires
 unfoldable pub livesAt : ℕ → ℕ → Bool
-livesAt deadline tick = cond (eqb deadline 65535) true (ltb tick deadline)
+livesAt deadline tick = cond (eqb deadline neverExpires) true (ltb tick deadline)
 
 -- so many times a duration; "None also stands where the product passes the largest duration."
 unfoldable pub product : Duration → ℕ → SegmentRemainingTtl
@@ -58,4 +62,4 @@ ticksLeft (Relative16 tick) n = product tick n
 
 -- Answer: "the remaining time: never, a duration, or none"
 unfoldable pub remaining : SegmentExpiry → ℕ → ℕ → SegmentRemainingTtl
-remaining e deadline tick = cond (eqb deadline 65535) Never (cond (leb deadline tick) Nothing (ticksLeft e (deadline - tick)))
+remaining e deadline tick = cond (eqb deadline neverExpires) Never (cond (leb deadline tick) Nothing (ticksLeft e (deadline - tick)))

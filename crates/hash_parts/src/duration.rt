@@ -8,7 +8,7 @@ ghost use lib.Dec.{eqb, leb};
 ghost use Rattle.hash_parts.specs.Duration.{nanosOf, ceilDiv, deadlineAt, encodedExpiry, expiryOutcome, livesAt, product, remaining};
 
 // The deadline of a record that never lapses.
-const NEVER_EXPIRES: u16 = 65_535;
+pub const NEVER_EXPIRES: u16 = 65_535;
 
 const MAX_EXPIRY_TICK: u64 = 65_534;
 

@@ -3,7 +3,8 @@ ghost use mathlib.Core.Path.{_≡_};
 ghost use Prim.Native.Nat.{_≤_};
 ghost use Rattle.hash_parts.specs.ZeroBytes.{lowestSet, withoutLowest, zeroMarks};
 
-const BYTE_HIGH_BITS: u64 = 0x8080_8080_8080_8080;
+// 0x80 in each byte.
+pub const BYTE_HIGH_BITS: u64 = 0x8080_8080_8080_8080;
 
 const BYTE_LOW_SEVEN_BITS: u64 = 0x7f7f_7f7f_7f7f_7f7f;
 

@@ -12,7 +12,7 @@ use Rattle.hash_parts.specs.Hash.{tagOf, firstBucket}
 use Rattle.hash_parts.specs.declared.setting.SegmentExpiry.{SegmentExpiry}
 use Rattle.records.specs.Record.{Stored}
 use Rattle.records.proofs.Area.{same-true}
-use Rattle.index.specs.Build.{Look, buildRecord, hasKey, holdsKey, looks, searched, slotFor, never}
+use Rattle.index.specs.Build.{PushLook, buildRecord, hasKey, holdsKey, looks, searched, slotFor, never}
 use Rattle.index.specs.Walk.{rot}
 use Rattle.index.specs.Word.{wordTag, wordStored}
 use Rattle.index.specs.declared.build.BuildSlot.{BuildSlot}
@@ -64,7 +64,7 @@ module _ {E : Type 0} {stored : E → Stored} {H : List ℕ → ℕ} {Holds : �
     test = holdsKey (buildRecord ex bytes) key (tagOf h)
 
     -- the key's walk, as the search sees it and as the table has it
-    abbrev seen : List Look
+    abbrev seen : List PushLook
     seen = rot (8 * firstBucket h buckets) (looks test 0 (take (8 * buckets) index))
 
     abbrev walk : List (Option E)

@@ -38,7 +38,7 @@ cleared-slots : (buckets : ℕ) (index : List ℕ) → 8 * buckets ≤ length in
 unfolding cleared
 cleared-slots buckets index long =
     simp (le-leb _ _ long)
-    (ap (map wordSlot) (take-at (replicate (8 * buckets) 0) (drop (8 * buckets) index) (8 * buckets) (length-replicate (8 * buckets) 0)) ∙ zeros-empty (8 * buckets))
+    (ap (map wordSlot) (take-at (replicate (8 * buckets) 0) _ (8 * buckets) (length-replicate (8 * buckets) 0)) ∙ zeros-empty (8 * buckets))
 
 -- ---- packing
 

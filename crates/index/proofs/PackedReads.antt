@@ -1,7 +1,7 @@
 -- What is read from a packed index: the slots that were packed, each by two words at most, and the same under any marks. Assumes nothing.
 use mathlib.Core.Path.{_≡_, refl, sym, ap, _∙_}
 use mathlib.Core.Bool.{Bool, true, false, cond}
-use mathlib.Core.List.{List, [], _∷_, _++_, map, append-assoc}
+use mathlib.Core.List.{List, [], _∷_, _++_, map, append-assoc, flatMap}
 use Prim.Native.Nat.{ℕ, zero, suc, _+_, _-_, _*_, _%_, _^_, _≤_, _<_}
 use native.Mathlib.Nat.{add-zero}
 use native.Mathlib.Decide.{decLt, ℕ-discrete}
@@ -13,7 +13,7 @@ use lib.Seq.{take-at, drop-at, drop-drop, drop-set-lt, getD-take, getD-drop, get
 use Rattle.hash_parts.specs.Hash.{controlTag, secondaryTag}
 use Rattle.hash_parts.specs.ZeroBytes.{bytesOf, numberOf}
 use Rattle.hash_parts.proofs.Bytes.{Bytes, no-bytes, one-byte, bytes-append, bytes-take, bytes-drop, bytes-set, bytes-of, length-bytes, bytes-number, number-bytes}
-use Rattle.index.specs.Packed.{wordsOf, wordBytes, concatMap, controlByte, referenceBytes, controlWord, controlWords, referenceWords, packed, referenceIn, packedSlot, packedSlotsOf, packedBucket, withByte, markedByte, unmarkedByte}
+use Rattle.index.specs.Packed.{wordsOf, wordBytes, controlByte, referenceBytes, controlWord, controlWords, referenceWords, packed, referenceIn, packedSlot, packedSlotsOf, packedBucket, withByte, markedByte, unmarkedByte}
 use Rattle.index.specs.Slot.{wordSlot}
 use Rattle.index.specs.Walk.{bucketsOf}
 use Rattle.index.specs.Word.{wordOf, wordTag, wordStored}
@@ -40,16 +40,16 @@ control-bytes (w ∷ ws) =
     let h : controlByte w < 256 = omega (arith, control-small w) in
     one-byte h (control-bytes ws)
 
-references-bytes : (ws : List ℕ) → Bytes (concatMap referenceBytes ws)
-unfolding concatMap
+references-bytes : (ws : List ℕ) → Bytes (flatMap referenceBytes ws)
+unfolding flatMap
 references-bytes [] = no-bytes
 references-bytes (w ∷ ws) = bytes-append (reference-bytes w) (references-bytes ws)
 
-length-reference-bytes : (ws : List ℕ) → length (concatMap referenceBytes ws) ≡ 7 * length ws
-unfolding concatMap
+length-reference-bytes : (ws : List ℕ) → length (flatMap referenceBytes ws) ≡ 7 * length ws
+unfolding flatMap
 length-reference-bytes [] = refl
 length-reference-bytes (w ∷ ws) =
-    length-append (referenceBytes w) (concatMap referenceBytes ws) ∙ omega (arith, length-reference w, length-reference-bytes ws)
+    length-append (referenceBytes w) (flatMap referenceBytes ws) ∙ omega (arith, length-reference w, length-reference-bytes ws)
 
 slot-kept : (w : ℕ) → packedSlot (controlByte w) (referenceBytes w) ≡ repacked (wordSlot w)
 unfolding packedSlot wordSlot
@@ -71,11 +71,11 @@ slot-kept w = go (eqb w 0)
         let rest : numberOf (drop 2 (s ++ l)) ≡ wordStored w = ap numberOf (drop-at s l 2 (length-bytes 2 (secondaryTag tag))) ∙ number-bytes 5 (wordStored w) ∙ omega arith in
         rw (c, n, front, rest)
 
-slots-kept : (ws : List ℕ) → packedSlotsOf (map controlByte ws) (concatMap referenceBytes ws) ≡ map (λ w. repacked (wordSlot w)) ws
-unfolding packedSlotsOf concatMap
+slots-kept : (ws : List ℕ) → packedSlotsOf (map controlByte ws) (flatMap referenceBytes ws) ≡ map (λ w. repacked (wordSlot w)) ws
+unfolding packedSlotsOf flatMap
 slots-kept [] = refl
 slots-kept (w ∷ ws) =
-    let r : List ℕ = concatMap referenceBytes ws in
+    let r : List ℕ = flatMap referenceBytes ws in
     rw (take-at (referenceBytes w) r 7 (length-reference w), drop-at (referenceBytes w) r 7 (length-reference w), slot-kept w, slots-kept ws)
 
 bucket-kept : (bucket : List ℕ) → length bucket ≡ 8
@@ -84,31 +84,31 @@ unfolding controlWord referenceWords
 bucket-kept bucket h =
     rw (
       bytes-number 8 (control-bytes bucket) (length-map bucket controlByte ∙ h),
-      words-bytes 7 (concatMap referenceBytes bucket) (omega (arith, length-reference-bytes bucket)) (references-bytes bucket),
+      words-bytes 7 (flatMap referenceBytes bucket) (omega (arith, length-reference-bytes bucket)) (references-bytes bucket),
     ) (slots-kept bucket)
 
 -- ---- the whole index
 
-length-reference-words : (buckets : List (List ℕ)) → length (concatMap referenceWords buckets) ≡ 7 * length buckets
-unfolding concatMap
+length-reference-words : (buckets : List (List ℕ)) → length (flatMap referenceWords buckets) ≡ 7 * length buckets
+unfolding flatMap
 length-reference-words [] = refl
 length-reference-words (b ∷ bs) =
-    length-append (referenceWords b) (concatMap referenceWords bs) ∙ omega (arith, length-references b, length-reference-words bs)
+    length-append (referenceWords b) (flatMap referenceWords bs) ∙ omega (arith, length-references b, length-reference-words bs)
 
 length-controls : (B : ℕ) (index : List ℕ) → length (controlWords B index) ≡ B
 length-controls B index = length-map (bucketsOf B index) controlWord ∙ length-buckets B index
 
 -- control words and references fill the buckets' words just
-length-packed-words : (B : ℕ) (index : List ℕ) → length (controlWords B index ++ concatMap referenceWords (bucketsOf B index)) ≡ 8 * B
+length-packed-words : (B : ℕ) (index : List ℕ) → length (controlWords B index ++ flatMap referenceWords (bucketsOf B index)) ≡ 8 * B
 length-packed-words B index =
-    length-append (controlWords B index) (concatMap referenceWords (bucketsOf B index))
+    length-append (controlWords B index) (flatMap referenceWords (bucketsOf B index))
     ∙ omega (arith, length-controls B index, length-reference-words (bucketsOf B index), length-buckets B index)
 
 pub packed-length : (B : ℕ) (index : List ℕ) → 8 * B ≤ length index → length (packed B index) ≡ length index
 unfolding packed
 packed-length B index h =
-    ap length (sym (append-assoc (controlWords B index) (concatMap referenceWords (bucketsOf B index)) (drop (8 * B) index)))
-    ∙ length-append (controlWords B index ++ concatMap referenceWords (bucketsOf B index)) (drop (8 * B) index)
+    ap length (sym (append-assoc (controlWords B index) (flatMap referenceWords (bucketsOf B index)) (drop (8 * B) index)))
+    ∙ length-append (controlWords B index ++ flatMap referenceWords (bucketsOf B index)) (drop (8 * B) index)
     ∙ omega (arith, length-packed-words B index, length-drop (8 * B) index)
 
 -- buckets of eight
@@ -122,18 +122,18 @@ eights zero index h = none
 eights (suc B) index h = eight (length-take-le 8 index (omega arith)) (eights B (drop 8 index) (rw (length-drop 8 index) (omega arith)))
 
 -- buckets whose control words stand from word b on, and whose references from word B + 7 b on
-buckets-kept : (B b : ℕ) (index c r : List ℕ) {bs : List (List ℕ)} → Eights bs → drop b index ≡ map controlWord bs ++ c → drop (B + 7 * b) index ≡ concatMap referenceWords bs ++ r
+buckets-kept : (B b : ℕ) (index c r : List ℕ) {bs : List (List ℕ)} → Eights bs → drop b index ≡ map controlWord bs ++ c → drop (B + 7 * b) index ≡ flatMap referenceWords bs ++ r
     → packedBuckets B index b (length bs) ≡ map (map (λ w. repacked (wordSlot w))) bs
-unfolding packedBuckets packedBucket concatMap
+unfolding packedBuckets packedBucket flatMap
 buckets-kept B b index c r none e f = refl
 buckets-kept B b index c r (eight {b = x} {bs = bs} h s) e f =
     let word : getD index b 0 ≡ controlWord x = ap (λ (i : ℕ). getD index i 0) (sym (add-zero b)) ∙ sym (getD-drop b index 0 0) ∙ ap (λ (l : List ℕ). getD l 0 0) e in
-    let split : drop (B + 7 * b) index ≡ referenceWords x ++ (concatMap referenceWords bs ++ r) = f ∙ append-assoc (referenceWords x) (concatMap referenceWords bs) r in
+    let split : drop (B + 7 * b) index ≡ referenceWords x ++ (flatMap referenceWords bs ++ r) = f ∙ append-assoc (referenceWords x) (flatMap referenceWords bs) r in
     let words : take 7 (drop (B + 7 * b) index) ≡ referenceWords x = ap (take 7) split ∙ take-at (referenceWords x) _ 7 (length-references x) in
     let at : B + 7 * b + 7 ≡ B + 7 * suc b = omega arith in
     let next : b + 1 ≡ suc b = omega arith in
     let e′ : drop (suc b) index ≡ map controlWord bs ++ c = ap (λ (n : ℕ). drop n index) (sym next) ∙ sym (drop-drop 1 b index) ∙ ap (drop 1) e in
-    let f′ : drop (B + 7 * suc b) index ≡ concatMap referenceWords bs ++ r =
+    let f′ : drop (B + 7 * suc b) index ≡ flatMap referenceWords bs ++ r =
     ap (λ (n : ℕ). drop n index) (sym at) ∙ sym (drop-drop 7 (B + 7 * b) index) ∙ ap (drop 7) split ∙ drop-at (referenceWords x) _ 7 (length-references x) in
     rw (word, words, bucket-kept x h, buckets-kept B (suc b) index c r s e′ f′)
 
@@ -141,7 +141,7 @@ buckets-kept B b index c r (eight {b = x} {bs = bs} h s) e f =
 pub packed-read : (B : ℕ) (index : List ℕ) → 8 * B ≤ length index → packedBuckets B (packed B index) 0 B ≡ map (map (λ w. repacked (wordSlot w))) (bucketsOf B index)
 unfolding packed
 packed-read B index h =
-    let rest : List ℕ = concatMap referenceWords (bucketsOf B index) ++ drop (8 * B) index in
+    let rest : List ℕ = flatMap referenceWords (bucketsOf B index) ++ drop (8 * B) index in
     let past : drop (B + 0) (packed B index) ≡ rest = rw (add-zero B) (drop-at (controlWords B index) rest B (length-controls B index)) in
     rw (length-buckets B index) at (buckets-kept B 0 (packed B index) rest (drop (8 * B) index) (eights B index h) refl past)
 

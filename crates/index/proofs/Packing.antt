@@ -1,7 +1,7 @@
 -- Packing a bucket. Assumes nothing.
 use mathlib.Core.Path.{_≡_, refl, sym, ap, ap₂, _∙_}
 use mathlib.Core.Bool.{Bool, true, false, cond}
-use mathlib.Core.List.{List, [], _∷_, _++_, append-assoc}
+use mathlib.Core.List.{List, [], _∷_, _++_, append-assoc, flatMap}
 use Prim.Native.Nat.{ℕ, _+_, _*_, _/_, _%_, _^_, _≤_, _<_}
 use native.Mathlib.Numerals.{add-one, add-two, add-three, add-four, add-five, add-six}
 use native.Mathlib.Omega.{arith}
@@ -13,7 +13,7 @@ use Rattle.hash_parts.specs.Hash.{controlTag, secondaryTag}
 use Rattle.hash_parts.specs.ZeroBytes.{bytesOf, numberOf}
 use Rattle.hash_parts.proofs.Bytes.{Bytes, bytes-append, bytes-of, length-bytes, bytes-number, number-small, number-bytes, number-two}
 use Rattle.records.specs.Area.{pasted}
-use Rattle.index.specs.Packed.{wordsOf, concatMap, controlByte, controlWord, referenceBytes, referenceWords, packedSlot}
+use Rattle.index.specs.Packed.{wordsOf, controlByte, controlWord, referenceBytes, referenceWords, packedSlot}
 use Rattle.index.specs.declared.slot.IndexSlot.the-variants.{Empty, Used}
 use Rattle.index.specs.Word.{wordTag, wordStored}
 use Rattle.index.proofs.Bytes.{number-front, seven-words}
@@ -94,7 +94,7 @@ pub reference-words : (w0 w1 w2 w3 w4 w5 w6 w7 : ℕ)
     ∷ (reference w5 / 0x100_0000_0000 + reference w6 % 0x1_0000_0000_0000 * 0x1_0000)
     ∷ (reference w6 / 0x1_0000_0000_0000 + reference w7 * 0x100)
     ∷ []
-unfolding referenceWords concatMap
+unfolding referenceWords flatMap
 reference-words w0 w1 w2 w3 w4 w5 w6 w7 =
     ap (wordsOf 7) (join w0 (join w1 (join w2 (join w3 (join w4 (join w5 (join w6 (join w7 refl))))))))
     ∙ seven-words (reference w0) (reference w1) (reference w2) (reference w3) (reference w4) (reference w5) (reference w6) (reference w7) (reference-small w0) (reference-small w1)

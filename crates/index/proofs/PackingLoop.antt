@@ -1,7 +1,7 @@
 -- Packing an index bucket by bucket, from the last to the first. Assumes nothing.
 use mathlib.Core.Path.{_≡_, refl, sym, ap, ap₂, _∙_}
 use mathlib.Core.Bool.{Bool, true, false, cond}
-use mathlib.Core.List.{List, [], _∷_, _++_, map, append-assoc}
+use mathlib.Core.List.{List, [], _∷_, _++_, map, append-assoc, flatMap}
 use Prim.Native.Nat.{ℕ, zero, suc, _+_, _-_, _*_, _≤_, _<_}
 use native.Mathlib.Nat.{add-zero, sub-zero, sub-self, mul-comm, not-suc-le-zero, le-of-suc-le-suc}
 use native.Mathlib.Numerals.{add-one, add-two, add-three, add-four, add-five, add-six, add-seven}
@@ -11,7 +11,7 @@ use lib.ListN.{length, getD, take, drop, set, length-append, length-drop, length
 use lib.Dec.{leb}
 use lib.Seq.{drop-cons, take-suc, set-at, take-at, drop-at, drop-drop, take-take, take-append-le, length-take-le}
 use Rattle.records.specs.Area.{pasted}
-use Rattle.index.specs.Packed.{concatMap, referenceBytes, controlWord, controlWords, wordsOf, referenceWords, packed, packedIndex, packedScratch}
+use Rattle.index.specs.Packed.{referenceBytes, controlWord, controlWords, wordsOf, referenceWords, packed, packedIndex, packedScratch}
 use Rattle.index.specs.Walk.{bucketsOf}
 use Rattle.index.proofs.Walks.{drop-take, length-buckets}
 
@@ -66,7 +66,7 @@ length-words (suc n) l = ap suc (length-words n (drop 8 l))
 
 pub length-references : (bucket : List ℕ) → length (referenceWords bucket) ≡ 7
 unfolding referenceWords
-length-references bucket = length-words 7 (concatMap referenceBytes bucket)
+length-references bucket = length-words 7 (flatMap referenceBytes bucket)
 
 -- the buckets from bucket c on
 abbrev bucketsFrom : ℕ → ℕ → List ℕ → List (List ℕ)
@@ -83,7 +83,7 @@ buckets-next buckets c index h =
 
 pub record Packing (buckets : ℕ) (index₀ scratch₀ index scratch : List ℕ) (left : ℕ) : Type 0 where
   pub front : take (8 * left) index ≡ take (8 * left) index₀
-  pub back : drop (buckets + 7 * left) index ≡ concatMap referenceWords (bucketsFrom buckets left index₀) ++ drop (8 * buckets) index₀
+  pub back : drop (buckets + 7 * left) index ≡ flatMap referenceWords (bucketsFrom buckets left index₀) ++ drop (8 * buckets) index₀
   pub controls : drop left scratch ≡ map controlWord (bucketsFrom buckets left index₀) ++ drop buckets scratch₀
   pub size : length index ≡ length index₀
   pub scratch-size : length scratch ≡ length scratch₀
@@ -92,7 +92,7 @@ pub record Packing (buckets : ℕ) (index₀ scratch₀ index scratch : List ℕ
   pub within : left ≤ buckets
 
 pub packing-begins : (buckets : ℕ) (index scratch : List ℕ) → 8 * buckets ≤ length index → buckets ≤ length scratch → Packing buckets index scratch index scratch buckets
-unfolding bucketsOf concatMap
+unfolding bucketsOf flatMap
 packing-begins buckets index scratch h k =
     let e : buckets + 7 * buckets ≡ 8 * buckets = omega arith in
     record {
@@ -109,7 +109,7 @@ packing-begins buckets index scratch h k =
 pub packing-next : {buckets : ℕ} {index₀ scratch₀ index scratch : List ℕ} {left : ℕ} (c : ℕ) (index′ scratch′ : List ℕ) → Packing buckets index₀ scratch₀ index scratch left → left ≡ suc c
     → index′ ≡ pasted (buckets + 7 * c) (referenceWords (take 8 (drop (8 * c) index))) index → scratch′ ≡ set scratch c (controlWord (take 8 (drop (8 * c) index)))
     → Packing buckets index₀ scratch₀ index′ scratch′ c
-unfolding concatMap
+unfolding flatMap
 packing-next {buckets} {index₀} {scratch₀} {index} {scratch} {left} c index′ scratch′ p e f g =
     let at : ℕ = buckets + 7 * c in
     let bucket : List ℕ = take 8 (drop (8 * c) index₀) in
@@ -155,7 +155,7 @@ pub packing-ends : {buckets : ℕ} {index₀ scratch₀ index scratch : List ℕ
 unfolding packedIndex packedScratch packed
 packing-ends {buckets} {index₀} {scratch₀} {index} {scratch} {left} index′ p e f =
     let all : scratch ≡ controlWords buckets index₀ ++ drop buckets scratch₀ = rw (e, sub-zero buckets) at (p .controls) in
-    let rest : drop buckets index ≡ concatMap referenceWords (bucketsOf buckets index₀) ++ drop (8 * buckets) index₀ = rw (e, sub-zero buckets, add-zero buckets) at (p .back) in
+    let rest : drop buckets index ≡ flatMap referenceWords (bucketsOf buckets index₀) ++ drop (8 * buckets) index₀ = rw (e, sub-zero buckets, add-zero buckets) at (p .back) in
     let front : take buckets scratch ≡ controlWords buckets index₀ =
     ap (take buckets) all ∙ take-at (controlWords buckets index₀) _ buckets (length-map (bucketsOf buckets index₀) controlWord ∙ length-buckets buckets index₀) in (
       rw (le-leb (8 * buckets) (length index₀) (p .room), le-leb buckets (length scratch₀) (p .scratch-room)) (f ∙ ap₂ _++_ front rest),

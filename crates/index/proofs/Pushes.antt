@@ -13,7 +13,7 @@ use Rattle.hash_parts.specs.Hash.{tagOf, firstBucket}
 use Rattle.hash_parts.proofs.Products.{first-bucket-below}
 use Rattle.records.specs.Record.{Stored}
 use Rattle.records.proofs.Area.{same-true}
-use Rattle.index.specs.Build.{Look, vacant, passed, looks, slotFor}
+use Rattle.index.specs.Build.{PushLook, vacant, passed, looks, slotFor}
 use Rattle.index.specs.Filter.{displaced, filterHas, filterMarked}
 use Rattle.index.specs.Slot.{wordSlot}
 use Rattle.index.specs.Walk.{rot}
@@ -117,7 +117,7 @@ module _ {E : Type 0} {stored : E → Stored} {H : List ℕ → ℕ} {Holds : �
   push-slot =
       let a : ℕ = 8 * firstBucket h buckets in
       let ws : List ℕ = take (8 * buckets) index in
-      let l : List Look = looks taken 0 ws in
+      let l : List PushLook = looks taken 0 ws in
       let long : 8 * buckets ≤ length index = words-long buckets index x in
       let many : length ws ≡ 8 * buckets = length-take-le (8 * buckets) index long in
       let size : length l ≡ 8 * buckets = length-looks taken 0 ws ∙ many in

@@ -12,7 +12,7 @@ use lib.ListN.{length, getD, take, drop}
 use borrow.Author.Tests.{le-leb}
 use Rattle.hash_parts.specs.Hash.{tagOf, firstBucket}
 use Rattle.records.specs.Record.{Stored}
-use Rattle.index.specs.Build.{Look, vacant, same, passed, look, looks, searched, searchedAll, slotFor}
+use Rattle.index.specs.Build.{PushLook, vacant, same, passed, pushLook, looks, searched, searchedAll, slotFor}
 use Rattle.index.specs.Slot.{wordSlot}
 use Rattle.index.specs.Walk.{rot, bucketWalk}
 use Rattle.index.specs.Word.{wordTag, wordStored}
@@ -27,14 +27,14 @@ use Rattle.index.proofs.Table.{hits, past, gapAt}
 
 -- ---- the search as one over the slots of the walk
 
-searched-append : (l m : List Look) (after : BuildSlot) → searched (l ++ m) after ≡ searched l (searched m after)
+searched-append : (l m : List PushLook) (after : BuildSlot) → searched (l ++ m) after ≡ searched l (searched m after)
 unfolding searched
 searched-append [] m after = refl
 searched-append (vacant i ∷ l) m after = refl
 searched-append (same ∷ l) m after = refl
 searched-append (passed ∷ l) m after = searched-append l m after
 
-searched-flat : (f g : ℕ → List Look) → ((b : ℕ) → f b ≡ g b) → (bs : List ℕ) → searchedAll f bs ≡ searched (flatten (map g bs)) build.Full
+searched-flat : (f g : ℕ → List PushLook) → ((b : ℕ) → f b ≡ g b) → (bs : List ℕ) → searchedAll f bs ≡ searched (flatten (map g bs)) build.Full
 unfolding searchedAll searched flatten
 searched-flat f g e [] = refl
 searched-flat f g e (b ∷ bs) = ap₂ searched (e b) (searched-flat f g e bs) ∙ sym (searched-append (g b) (flatten (map g bs)) build.Full)
@@ -44,7 +44,7 @@ module _ (taken : ℕ → Bool) where
   unfolding looks
   looks-take zero i l = refl
   looks-take (suc n) i [] = refl
-  looks-take (suc n) i (w ∷ l) = ap (λ (r : List Look). look taken i w ∷ r) (looks-take n (suc i) l)
+  looks-take (suc n) i (w ∷ l) = ap (λ (r : List PushLook). pushLook taken i w ∷ r) (looks-take n (suc i) l)
 
   looks-drop : (n i : ℕ) (l : List ℕ) → drop n (looks taken i l) ≡ looks taken (i + n) (drop n l)
   unfolding looks
@@ -59,19 +59,19 @@ module _ (taken : ℕ → Bool) where
   length-looks i [] = refl
   length-looks i (w ∷ l) = ap suc (length-looks (suc i) l)
 
-  getD-looks : (i : ℕ) (l : List ℕ) (p : ℕ) → p < length l → getD (looks taken i l) p passed ≡ look taken (i + p) (getD l p 0)
+  getD-looks : (i : ℕ) (l : List ℕ) (p : ℕ) → p < length l → getD (looks taken i l) p passed ≡ pushLook taken (i + p) (getD l p 0)
   unfolding looks
   getD-looks i [] p h = absurd (omega arith)
   getD-looks i (w ∷ l) zero h = rw (add-zero i)
   getD-looks i (w ∷ l) (suc p) h =
       let e : suc i + p ≡ i + suc p = omega arith in
-      getD-looks (suc i) l p (omega arith) ∙ ap (λ (j : ℕ). look taken j (getD l p 0)) e
+      getD-looks (suc i) l p (omega arith) ∙ ap (λ (j : ℕ). pushLook taken j (getD l p 0)) e
 
   -- a slot is vacant only under its own number
   pub vacant-own : (l : List ℕ) (p s : ℕ) → p < length l → getD (looks taken 0 l) p passed ≡ vacant s → s ≡ p
   vacant-own l p s h e =
       let z : 0 + p ≡ p = omega arith in
-      go (eqb (getD l p 0) 0) (taken (getD l p 0)) (sym (getD-looks 0 l p h ∙ ap (λ (j : ℕ). look taken j (getD l p 0)) z) ∙ e)
+      go (eqb (getD l p 0) 0) (taken (getD l p 0)) (sym (getD-looks 0 l p h ∙ ap (λ (j : ℕ). pushLook taken j (getD l p 0)) z) ∙ e)
     where
       go : (x y : Bool) → cond x (vacant p) (cond y same passed) ≡ vacant s → s ≡ p
       go true y q = cc
@@ -84,7 +84,7 @@ module _ (taken : ℕ → Bool) where
   slot-search index buckets h long =
       simp (le-leb _ _ long)
       (searched-flat _ (bucketAt (looks taken 0 index)) bucket (bucketWalk h buckets)
-      ∙ ap (λ (l : List Look). searched l build.Full)
+      ∙ ap (λ (l : List PushLook). searched l build.Full)
       (walk-slots (looks taken 0 index) buckets (firstBucket h buckets) (omega (arith, length-looks 0 index))
       ∙ ap (rot (8 * firstBucket h buckets)) (looks-take (8 * buckets) 0 index)))
     where
@@ -97,13 +97,13 @@ module _ (taken : ℕ → Bool) where
 
 -- `Tells b e`: what is known of an entry where its word is taken by the key, or not
 module _ {E : Type 0} (Tells : Bool → E → Type 0) where
-  pub data Says : Look → Option E → Type 0 where
+  pub data Says : PushLook → Option E → Type 0 where
     says-vacant : {i : ℕ} → Says (vacant i) none
     says-same : {e : E} → Tells true e → Says same (some e)
     says-passed : {e : E} → Tells false e → Says passed (some e)
 
   -- the answer Empty names the first empty slot
-  pub empty-gap : {l : List Look} {m : List (Option E)} {s : ℕ} → Forall₂ Says l m → searched l build.Full ≡ build.Empty s
+  pub empty-gap : {l : List PushLook} {m : List (Option E)} {s : ℕ} → Forall₂ Says l m → searched l build.Full ≡ build.Empty s
       → (gapAt m < length m) × (getD l (gapAt m) passed ≡ vacant s)
   unfolding searched
   empty-gap Forall₂·nil e = absurd (let z : _≡_ {A = ℕ} 0 1 = cc in omega arith)
@@ -112,7 +112,7 @@ module _ {E : Type 0} (Tells : Bool → E → Type 0) where
   empty-gap (Forall₂·cons (says-passed t) r) e = let q = empty-gap r e in (omega arith, q .1)
 
   -- where there is an empty slot the answer is never Full
-  pub never-full : {l : List Look} {m : List (Option E)} → Forall₂ Says l m → gapAt m < length m → searched l build.Full ≡ build.Full → ⊥
+  pub never-full : {l : List PushLook} {m : List (Option E)} → Forall₂ Says l m → gapAt m < length m → searched l build.Full ≡ build.Full → ⊥
   unfolding searched
   never-full Forall₂·nil h e = omega arith
   never-full (Forall₂·cons says-vacant r) h e = let z : _≡_ {A = ℕ} 0 1 = cc in omega arith
@@ -120,7 +120,7 @@ module _ {E : Type 0} (Tells : Bool → E → Type 0) where
   never-full (Forall₂·cons (says-passed t) r) h e = never-full r (omega arith) e
 
   -- the answer Duplicate comes from a word that is taken
-  pub duplicate-taken : {l : List Look} {m : List (Option E)} → Forall₂ Says l m → searched l build.Full ≡ build.Duplicate → (e : E) × Tells true e
+  pub duplicate-taken : {l : List PushLook} {m : List (Option E)} → Forall₂ Says l m → searched l build.Full ≡ build.Duplicate → (e : E) × Tells true e
   unfolding searched
   duplicate-taken Forall₂·nil e = absurd (let z : _≡_ {A = ℕ} 0 1 = cc in omega arith)
   duplicate-taken (Forall₂·cons says-vacant r) e = absurd (let z : _≡_ {A = ℕ} 0 1 = cc in omega arith)
@@ -132,14 +132,14 @@ module _ {E : Type 0} (has : E → Bool) where
   abbrev pub Passes : Bool → E → Type 0
   Passes b e = has e ≡ b
 
-  pub empty-hits : {l : List Look} {m : List (Option E)} {s : ℕ} → Forall₂ (Says Passes) l m → searched l build.Full ≡ build.Empty s → hits has (past m) ≡ [] → hits has m ≡ []
+  pub empty-hits : {l : List PushLook} {m : List (Option E)} {s : ℕ} → Forall₂ (Says Passes) l m → searched l build.Full ≡ build.Empty s → hits has (past m) ≡ [] → hits has m ≡ []
   unfolding searched
   empty-hits Forall₂·nil e p = refl
   empty-hits (Forall₂·cons says-vacant r) e p = p
   empty-hits (Forall₂·cons (says-same t) r) e p = absurd (let z : _≡_ {A = ℕ} 0 1 = cc in omega arith)
   empty-hits (Forall₂·cons (says-passed t) r) e p = rw t (empty-hits r e p)
 
-  pub duplicate-hits : {l : List Look} {m : List (Option E)} → Forall₂ (Says Passes) l m → searched l build.Full ≡ build.Duplicate → hits has m ≡ [] → ⊥
+  pub duplicate-hits : {l : List PushLook} {m : List (Option E)} → Forall₂ (Says Passes) l m → searched l build.Full ≡ build.Duplicate → hits has m ≡ [] → ⊥
   unfolding searched
   duplicate-hits Forall₂·nil e p = let z : _≡_ {A = ℕ} 0 1 = cc in omega arith
   duplicate-hits (Forall₂·cons says-vacant r) e p = let z : _≡_ {A = ℕ} 0 1 = cc in omega arith
@@ -148,7 +148,7 @@ module _ {E : Type 0} (has : E → Bool) where
 
 module _ {E : Type 0} {stored : E → Stored} {H : List ℕ → ℕ} {Holds : ℕ → E → Type 0} (taken : ℕ → Bool) (Tells : Bool → E → Type 0)
     (tells : (w : ℕ) (e : E) → wordTag w ≡ tagOf (H (stored e .key)) → Holds (wordStored w) e → Tells (taken w) e) where
-  look-says : (i w : ℕ) {c : Option E} → Cell stored H false Holds (wordSlot w) c → Says Tells (look taken i w) c
+  look-says : (i w : ℕ) {c : Option E} → Cell stored H false Holds (wordSlot w) c → Says Tells (pushLook taken i w) c
   unfolding wordSlot
   look-says i w x = go (eqb w 0) x
     where

@@ -16,7 +16,7 @@ use Rattle.records.specs.declared.record.RecordAnswer.the-variants.{Read, Unrea
 use Rattle.records.specs.declared.record.RecordRef.{RecordRef}
 use Rattle.records.proofs.Area.{spanned-in}
 use Rattle.records.proofs.Stored.{record-inside}
-use Rattle.index.specs.Build.{Look, vacant, same, passed, buildRecord, hasKey, holdsKey, looks, searched, searchedAll, slotFor, slotOutcome, nextBucket}
+use Rattle.index.specs.Build.{PushLook, vacant, same, passed, buildRecord, hasKey, holdsKey, looks, searched, searchedAll, slotFor, slotOutcome, nextBucket}
 use Rattle.index.specs.Word.{wordTag, wordStored}
 use Rattle.index.specs.declared.build.BuildSlot.{BuildSlot}
 use Rattle.index.specs.declared.build.BuildSlot.the-variants.{Empty, Duplicate, Full}
@@ -94,14 +94,14 @@ module _ (taken : ℕ → Bool) (index : List ℕ) (left slot : ℕ) (after : Bu
 
 -- ---- a bucket's answer is the answer, unless all its slots are passed over
 
-pub searched-on : (b : List Look) (after : BuildSlot) → searched b Full ≡ Full → searched b after ≡ after
+pub searched-on : (b : List PushLook) (after : BuildSlot) → searched b Full ≡ Full → searched b after ≡ after
 unfolding searched
 searched-on [] after e = refl
 searched-on (vacant i ∷ b) after e = absurd (let z : _≡_ {A = ℕ} 0 1 = cc in omega arith)
 searched-on (same ∷ b) after e = absurd (let z : _≡_ {A = ℕ} 0 1 = cc in omega arith)
 searched-on (passed ∷ b) after e = searched-on b after e
 
-pub searched-ends : (b : List Look) (after : BuildSlot) → (searched b Full ≡ Full → ⊥) → searched b after ≡ searched b Full
+pub searched-ends : (b : List PushLook) (after : BuildSlot) → (searched b Full ≡ Full → ⊥) → searched b after ≡ searched b Full
 unfolding searched
 searched-ends [] after n = absurd (n refl)
 searched-ends (vacant i ∷ b) after n = refl
@@ -115,7 +115,7 @@ unfolding slotFor
 slots-short taken index buckets h l = let s : length index < 8 * buckets = omega arith in simp (lt-leb _ _ s)
 
 -- what the slots of a bucket say
-abbrev pub bucketLooks : (ℕ → Bool) → List ℕ → ℕ → List Look
+abbrev pub bucketLooks : (ℕ → Bool) → List ℕ → ℕ → List PushLook
 bucketLooks taken index bucket = looks taken (8 * bucket) (take 8 (drop (8 * bucket) index))
 
 -- the answer of one bucket

@@ -11,11 +11,12 @@ use lib.ListN.{length, take, drop, getD, set, drop-of-length-le}
 use lib.Seq.{drop-cons, getD-take, length-take-le}
 use borrow.Author.Tests.{le-leb, lt-leb, eq-eqb, ne-eqb}
 use Rattle.hash_parts.specs.declared.error.SegmentCacheBuildError.the-variants.{ArenaTooLarge, AreaTooShort}
+use Rattle.records.specs.Area.{over}
 use Rattle.index.specs.Word.{wordOf, wordTag, wordStored}
-use Rattle.index.specs.Segments.{startsOf, lengthsOf, segmentOf, segmented, splitWord, padded, replaced, split, splitBy, splitResult}
+use Rattle.index.specs.Segments.{startsOf, lengthsOf, segmentOf, segmented, splitWord, padded, split, splitBy, splitResult}
 use Rattle.index.specs.SegmentStarts.{Ascends, StartsIn}
 use Rattle.index.specs.declared.segments.SplitAnswer.the-variants.{Segments, Refused}
-use Rattle.index.proofs.Filling.{replaced-length, filled-back}
+use Rattle.index.proofs.Filling.{over-padded-length, filled-back}
 use Rattle.index.proofs.Starts.{starts-ascend, starts-first}
 
 -- ---- the segment of a location
@@ -160,7 +161,7 @@ module _ (index : List ℕ) (buckets filled target : ℕ) (starts lengths : List
         areas-long = simp (le-leb (8 * buckets) (length index) words-in, le-leb 256 (length starts) in-starts, le-leb 256 (length lengths) in-lengths)
 
         -- the starts area after the starts were written, and their count
-        module _ (count : ℕ) (starts′ : List ℕ) (counted : count ≡ length all-starts) (written : starts′ ≡ replaced (padded all-starts) starts) where
+        module _ (count : ℕ) (starts′ : List ℕ) (counted : count ≡ length all-starts) (written : starts′ ≡ over (padded all-starts) starts) where
           pub split-refused : 256 < count → splitResult (Refused ArenaTooLarge) index starts′ lengths ≡ split index buckets filled target starts lengths
           split-refused h =
               let many : 256 < length all-starts = omega arith in
@@ -179,12 +180,12 @@ module _ (index : List ℕ) (buckets filled target : ℕ) (starts lengths : List
                 let some : 0 < count = omega arith in
                 record {
                   some = some;
-                  within = omega (arith, ap length written ∙ replaced-length all-starts starts in-starts);
+                  within = omega (arith, ap length written ∙ over-padded-length all-starts starts in-starts);
                   first = sym (getD-take count starts′ 0 0 some) ∙ ap (λ (l : List ℕ). getD l 0 0) starts-back ∙ first .0;
                   ascend = rw starts-back (starts-ascend (take (8 * buckets) index) filled target);
                 }
 
-            module _ (lengths′ : List ℕ) (measured : lengths′ ≡ replaced (padded (lengthsOf filled (take count starts′))) lengths) where
+            module _ (lengths′ : List ℕ) (measured : lengths′ ≡ over (padded (lengthsOf filled (take count starts′))) lengths) where
               pub split-whole : filled ≤ target → splitResult (Segments count) index starts′ lengths′ ≡ split index buckets filled target starts lengths
               split-whole h =
                   sym (areas-long ∙ rw (measured, starts-back, written, counted) (simp (le-leb (length all-starts) 256 few-starts, le-leb filled target h)))

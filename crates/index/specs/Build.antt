@@ -13,7 +13,7 @@ use Rattle.hash_parts.specs.Hash.{tagOf}
 use Rattle.hash_parts.specs.Outcome.{Outcome, accepted, refused}
 use Rattle.hash_parts.specs.declared.error.SegmentCacheBuildError.the-variants.{CapacityOverflow, DuplicateKey}
 use Rattle.hash_parts.specs.declared.setting.SegmentExpiry.{SegmentExpiry}
-use Rattle.records.specs.Area.{sameBytes}
+use Rattle.records.specs.Area.{over, sameBytes}
 use Rattle.records.specs.Record.{Stored, storedAt}
 use Rattle.index.specs.Walk.{bucketWalk}
 use Rattle.index.specs.Word.{wordTag, wordStored}
@@ -26,14 +26,14 @@ bucketsFor records occupied = cond (eqb occupied 0) 1 (max 1 (ceilDiv records oc
 
 -- an area with its first words set to 0; a shorter one as it is
 unfoldable pub cleared : List ℕ → ℕ → List ℕ
-cleared area count = cond (leb count (length area)) (replicate count 0 ++ drop count area) area
+cleared area count = cond (leb count (length area)) (over (replicate count 0) area) area
 
 -- ---- what a slot says to a push
 
-pub data Look : Type 0 where
-  vacant : ℕ → Look
-  same : Look
-  passed : Look
+pub data PushLook : Type 0 where
+  vacant : ℕ → PushLook
+  same : PushLook
+  passed : PushLook
 
 -- the record under a stored location of a build, whose locations count from the arena's start
 unfoldable pub buildRecord : SegmentExpiry → List ℕ → ℕ → Option Stored
@@ -50,23 +50,23 @@ unfoldable pub holdsKey : (ℕ → Option Stored) → List ℕ → ℕ → ℕ �
 holdsKey read key tag w = cond (eqb (wordTag w) tag) (hasKey key (read (wordStored w))) false
 
 -- slot i, whose word is w; `taken` says whether a word holds the key
-abbrev pub look : (ℕ → Bool) → ℕ → ℕ → Look
-look taken i w = cond (eqb w 0) (vacant i) (cond (taken w) same passed)
+abbrev pub pushLook : (ℕ → Bool) → ℕ → ℕ → PushLook
+pushLook taken i w = cond (eqb w 0) (vacant i) (cond (taken w) same passed)
 
 -- the slots from i on
-unfoldable pub looks : (ℕ → Bool) → ℕ → List ℕ → List Look
+unfoldable pub looks : (ℕ → Bool) → ℕ → List ℕ → List PushLook
 looks taken i [] = []
-looks taken i (w ∷ l) = look taken i w ∷ looks taken (suc i) l
+looks taken i (w ∷ l) = pushLook taken i w ∷ looks taken (suc i) l
 
 -- what the first slot of a bucket says that is not passed over; where all are, the answer of the buckets after it
-unfoldable pub searched : List Look → BuildSlot → BuildSlot
+unfoldable pub searched : List PushLook → BuildSlot → BuildSlot
 searched [] after = after
 searched (vacant i ∷ l) after = Empty i
 searched (same ∷ l) after = Duplicate
 searched (passed ∷ l) after = searched l after
 
 -- the same of the buckets of a walk
-unfoldable pub searchedAll : (ℕ → List Look) → List ℕ → BuildSlot
+unfoldable pub searchedAll : (ℕ → List PushLook) → List ℕ → BuildSlot
 searchedAll looks [] = Full
 searchedAll looks (b ∷ bs) = searched (looks b) (searchedAll looks bs)
 

@@ -2,7 +2,7 @@
 -- byte: (tag mod 128) mod 127 + 1, empty 0, top bit the mark." The references of a bucket, 8 × 7 bytes, are just seven words.
 -- Assumes nothing.
 use mathlib.Core.Bool.{Bool, false, cond}
-use mathlib.Core.List.{List, [], _∷_, _++_, map}
+use mathlib.Core.List.{List, [], _∷_, _++_, map, flatMap}
 use Prim.Native.Nat.{ℕ, zero, suc, _+_, _-_, _*_, _%_}
 use lib.Dec.{eqb, leb}
 use lib.ListN.{length, take, drop, set, getD}
@@ -24,12 +24,6 @@ unfoldable pub wordBytes : List ℕ → List ℕ
 wordBytes [] = []
 wordBytes (w ∷ l) = bytesOf 8 w ++ wordBytes l
 
-module _ {A B : Type 0} where
-  -- the lists that f gives, one after the other
-  unfoldable pub concatMap : (A → List B) → List A → List B
-  concatMap f [] = []
-  concatMap f (x ∷ l) = f x ++ concatMap f l
-
 -- ---- packing: the words of one slot each, a bucket at a time
 
 abbrev pub controlByte : ℕ → ℕ
@@ -43,14 +37,14 @@ unfoldable pub controlWord : List ℕ → ℕ
 controlWord bucket = numberOf (map controlByte bucket)
 
 unfoldable pub referenceWords : List ℕ → List ℕ
-referenceWords bucket = wordsOf 7 (concatMap referenceBytes bucket)
+referenceWords bucket = wordsOf 7 (flatMap referenceBytes bucket)
 
 abbrev pub controlWords : ℕ → List ℕ → List ℕ
 controlWords buckets index = map controlWord (bucketsOf buckets index)
 
 -- the packed index of an index of words
 unfoldable pub packed : ℕ → List ℕ → List ℕ
-packed buckets index = controlWords buckets index ++ (concatMap referenceWords (bucketsOf buckets index) ++ drop (8 * buckets) index)
+packed buckets index = controlWords buckets index ++ (flatMap referenceWords (bucketsOf buckets index) ++ drop (8 * buckets) index)
 
 -- "Finish uses the first `buckets` scratch words lent, which then hold the control words": where both areas are long enough; else nothing is written
 abbrev pub packable : ℕ → List ℕ → List ℕ → Bool

@@ -8,7 +8,8 @@ use lib.Dec.{eqb, leb, ltb}
 use lib.ListN.{length, take, drop, getD, replicate}
 use Rattle.hash_parts.specs.Outcome.{Outcome, accepted, refused}
 use Rattle.hash_parts.specs.declared.error.SegmentCacheBuildError.the-variants.{ArenaTooLarge, AreaTooShort}
-use Rattle.index.specs.Word.{wordOf, wordTag, wordStored}
+use Rattle.records.specs.Area.{over}
+use Rattle.index.specs.Word.{locationIn, locations, wordOf, wordTag, wordStored}
 use Rattle.index.specs.declared.segments.SplitAnswer.{SplitAnswer}
 use Rattle.index.specs.declared.segments.SplitAnswer.the-variants.{Segments, Refused}
 
@@ -16,7 +17,11 @@ use Rattle.index.specs.declared.segments.SplitAnswer.the-variants.{Segme
 
 -- above every location
 abbrev pub noStart : ℕ
-noStart = 2 ^ 40
+noStart = locations
+
+-- "two 256-word areas": a set has at most so many segments
+abbrev pub mostSegments : ℕ
+mostSegments = 256
 
 -- a word whose location is not below a bound; one of stored location 0 has none
 abbrev pub startsAt : ℕ → ℕ → Bool
@@ -42,9 +47,9 @@ startsAfter (suc n) words filled target last =
     let next : ℕ = startAfter words filled target last in
     cond (ltb next noStart) (next ∷ startsAfter n words filled target next) []
 
--- the starts, at most 257: one more than a set can have
+-- the starts, at most one more than a set can have
 unfoldable pub startsOf : List ℕ → ℕ → ℕ → List ℕ
-startsOf words filled target = 0 ∷ startsAfter 256 words filled target 0
+startsOf words filled target = 0 ∷ startsAfter mostSegments words filled target 0
 
 -- ---- lengths, and a location's segment
 
@@ -59,9 +64,9 @@ segmentOf [] location = 0
 segmentOf (start ∷ []) location = 0
 segmentOf (start ∷ next ∷ starts) location = cond (leb next location) (suc (segmentOf (next ∷ starts) location)) 0
 
--- segment × 2^32 + offset
+-- a location by its segment and the offset in it
 abbrev pub segmented : List ℕ → ℕ → ℕ
-segmented starts location = segmentOf starts location * 2 ^ 32 + (location - getD starts (segmentOf starts location) 0)
+segmented starts location = locationIn (segmentOf starts location) (location - getD starts (segmentOf starts location) 0)
 
 -- a word with its location split, without its mark; a word that names no record as it is
 unfoldable pub splitWord : List ℕ → ℕ → ℕ
@@ -71,11 +76,7 @@ splitWord starts w = cond (eqb (wordStored w) 0) w (wordOf (wordTag w) (segmente
 
 -- a list, and zeros up to 256
 unfoldable pub padded : List ℕ → List ℕ
-padded l = take 256 l ++ replicate (256 - length l) 0
-
--- the front of an area replaced
-abbrev pub replaced : List ℕ → List ℕ → List ℕ
-replaced front area = front ++ drop (length front) area
+padded l = take mostSegments l ++ replicate (mostSegments - length l) 0
 
 -- what a split leaves: the answer, and the content of the index, starts and lengths areas
 pub record Split : Type 0 where
@@ -93,7 +94,7 @@ splitResult r index starts lengths = record { answer = splitOutcome r; index = i
 
 -- the areas hold the words of so many buckets, and 256 starts and lengths
 abbrev pub splittable : List ℕ → ℕ → List ℕ → List ℕ → Bool
-splittable index buckets starts lengths = cond (leb (8 * buckets) (length index)) (cond (leb 256 (length starts)) (leb 256 (length lengths)) false) false
+splittable index buckets starts lengths = cond (leb (8 * buckets) (length index)) (cond (leb mostSegments (length starts)) (leb mostSegments (length lengths)) false) false
 
 -- the index with every word split; marks stay where nothing is split
 abbrev pub splitWords : List ℕ → ℕ → List ℕ → ℕ → ℕ → List ℕ
@@ -102,14 +103,14 @@ splitWords index buckets ss filled target = cond (leb filled target) index (map 
 -- of more than 256 segments only the first 256 starts are written
 abbrev pub splitBy : List ℕ → List ℕ → ℕ → ℕ → ℕ → List ℕ → List ℕ → Split
 splitBy ss index buckets filled target starts lengths =
-    cond (leb (length ss) 256)
+    cond (leb (length ss) mostSegments)
     (record {
       answer = accepted (length ss);
       index = splitWords index buckets ss filled target;
-      starts = replaced (padded ss) starts;
-      lengths = replaced (padded (lengthsOf filled ss)) lengths;
+      starts = over (padded ss) starts;
+      lengths = over (padded (lengthsOf filled ss)) lengths;
     })
-    (record { answer = refused ArenaTooLarge; index = index; starts = replaced (padded ss) starts; lengths = lengths })
+    (record { answer = refused ArenaTooLarge; index = index; starts = over (padded ss) starts; lengths = lengths })
 
 unfoldable pub split : List ℕ → ℕ → ℕ → ℕ → List ℕ → List ℕ → Split
 split index buckets filled target starts lengths =

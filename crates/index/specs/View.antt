@@ -3,7 +3,7 @@
 -- Assumes nothing.
 use mathlib.Core.Bool.{Bool, false, cond}
 use mathlib.Core.List.{List}
-use Prim.Native.Nat.{ℕ, zero, suc, _+_, _/_, _%_, _^_}
+use Prim.Native.Nat.{ℕ, zero, suc, _+_}
 use lib.Dec.{leb, ltb}
 use lib.ListN.{length, take, getD}
 use Rattle.hash_parts.specs.declared.setting.SegmentExpiry.{SegmentExpiry}
@@ -12,6 +12,7 @@ use Rattle.records.specs.Record.{recordAt}
 use Rattle.records.specs.declared.record.RecordAnswer.{RecordAnswer}
 use Rattle.records.specs.declared.record.RecordAnswer.the-variants.{Read, Unreadable}
 use Rattle.records.specs.declared.record.RecordRef.{RecordRef}
+use Rattle.index.specs.Word.{offsetPart, segmentPart}
 use Rattle.index.specs.declared.view.SegmentView.{SegmentView}
 
 -- a record of a segment that starts at `begin`, with its location in the set and its spans in the arena
@@ -32,7 +33,7 @@ answerMoved location begin Unreadable = Unreadable
 -- a location in its segment; `bytes` are the filled bytes
 unfoldable pub inSegment : SegmentExpiry → List ℕ → ℕ → ℕ → ℕ → RecordAnswer
 inSegment e bytes start len location =
-    cond (leb (start + len) (length bytes)) (answerMoved location start (recordAt e (part start len bytes) (location % 2 ^ 32))) Unreadable
+    cond (leb (start + len) (length bytes)) (answerMoved location start (recordAt e (part start len bytes) (offsetPart location))) Unreadable
 
 -- whether a segment is one of the set's
 abbrev pub isSegment : SegmentView → List ℕ → List ℕ → ℕ → Bool
@@ -42,6 +43,6 @@ isSegment view starts lengths g = cond (ltb g (view .segments)) (cond (ltb g (le
 unfoldable pub recordIn : SegmentView → List ℕ → List ℕ → List ℕ → ℕ → RecordAnswer
 recordIn view arena starts lengths zero = Unreadable
 recordIn view arena starts lengths (suc location) =
-    cond (isSegment view starts lengths (location / 2 ^ 32))
-    (inSegment (view .expiry) (take (view .filled) arena) (getD starts (location / 2 ^ 32) 0) (getD lengths (location / 2 ^ 32) 0) location)
+    cond (isSegment view starts lengths (segmentPart location))
+    (inSegment (view .expiry) (take (view .filled) arena) (getD starts (segmentPart location) 0) (getD lengths (segmentPart location) 0) location)
     Unreadable

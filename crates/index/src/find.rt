@@ -12,6 +12,7 @@ use hash_parts::hash::hash_tag;
 use hash_parts::hash::packed_control_tag;
 use hash_parts::hash::packed_secondary_tag;
 use hash_parts::hash::reduce_hash;
+use hash_parts::zero_bytes::BYTE_HIGH_BITS;
 use hash_parts::zero_bytes::lowest_marked_byte;
 use hash_parts::zero_bytes::without_lowest_mark;
 use hash_parts::zero_bytes::zero_byte_high_bits;
@@ -37,8 +38,6 @@ ghost use Rattle.index.specs.declared.slot.IndexSlot.the-variants as slo
 const PACKED_CONTROL_TAG_BITS: u64 = 0x7f7f_7f7f_7f7f_7f7f;
 
 const BYTE_LOW_BITS: u64 = 0x0101_0101_0101_0101;
-
-const BYTE_HIGH_BITS: u64 = 0x8080_8080_8080_8080;
 
 // A record that was found, and the slot that names it.
 pub struct FoundRecord {

@@ -1,6 +1,8 @@
 // Splitting the filled arena into segments that begin at records.
 use crate::build::clear_words;
 use crate::word::BUCKET_SLOTS;
+use crate::word::LOCATIONS;
+use crate::word::SEGMENT_BYTES;
 use crate::word::encode_index_word;
 use crate::word::index_location;
 use crate::word::index_tag;
@@ -10,16 +12,15 @@ ghost use mathlib.Core.Path.{_≡_};
 ghost use mathlib.Core.List.{[], _++_, map};
 ghost use Prim.Native.Nat.{_+_, _-_, _*_, _<_, _≤_, min};
 ghost use lib.ListN.{length, take, drop, getD};
+ghost use Rattle.records.specs.Area.{over};
 ghost use Rattle.index.specs.Word.{wordStored};
-ghost use Rattle.index.specs.Segments.{inside, lengthsOf, locationsInside, padded, replaced, segmentOf, split, splitResult, splitWord, startAfter, startIn, startsAt, startsOf};
+ghost use Rattle.index.specs.Segments.{inside, lengthsOf, locationsInside, mostSegments, padded, segmentOf, split, splitResult, splitWord, startAfter, startIn, startsAt, startsOf};
 ghost use Rattle.index.specs.SegmentStarts.{StartsIn};
 
 pub const MAX_RECORD_SEGMENTS: usize = 256;
 
 // Above every location.
-const NO_START: u64 = 0x100_0000_0000;
-
-const OFFSETS: u64 = 0x1_0000_0000;
+const NO_START: u64 = LOCATIONS;
 
 pub enum SplitAnswer {
     Segments(usize),
@@ -123,8 +124,8 @@ fn location_inside(word: u64, filled: usize) -> bool
 
 // Sets the first 256 words to 0.
 fn clear_segments(area: &mut [u64])
-    requires { ⌜ 256 ≤ length (now area) ⌝ }
-    ensures { λ r. ⌜ now (area .exit) ≡ replaced (padded []) (now (area .entry)) ⌝ }
+    requires { ⌜ mostSegments ≤ length (now area) ⌝ }
+    ensures { λ r. ⌜ now (area .exit) ≡ over (padded []) (now (area .entry)) ⌝ }
 {
     clear_words(area, MAX_RECORD_SEGMENTS);
 }
@@ -137,8 +138,8 @@ fn write_starts(
     target: usize,
     starts: &mut [u64],
 ) -> usize
-    requires { ⌜ (8 * buckets ≤ length (now index)) × (256 ≤ length (now starts)) ⌝ }
-    ensures { λ r. ⌜ (r ≡ length (startsOf (take (8 * buckets) (now (index .entry))) filled target)) × (now (starts .exit) ≡ replaced (padded (startsOf (take (8 * buckets) (now (index .entry))) filled target)) (now (starts .entry))) ⌝ }
+    requires { ⌜ (8 * buckets ≤ length (now index)) × (mostSegments ≤ length (now starts)) ⌝ }
+    ensures { λ r. ⌜ (r ≡ length (startsOf (take (8 * buckets) (now (index .entry))) filled target)) × (now (starts .exit) ≡ over (padded (startsOf (take (8 * buckets) (now (index .entry))) filled target)) (now (starts .entry))) ⌝ }
 {
     clear_segments(starts);
     let mut count = 0;
@@ -172,8 +173,8 @@ fn start_after(index: &[u64], buckets: usize, filled: usize, target: usize, last
 }
 
 fn write_lengths(starts: &[u64], count: usize, filled: usize, lengths: &mut [u64])
-    requires { ⌜ StartsIn (now starts) count × (count ≤ 256) × (256 ≤ length (now lengths)) ⌝ }
-    ensures { λ r. ⌜ now (lengths .exit) ≡ replaced (padded (lengthsOf filled (take count (now (starts .entry))))) (now (lengths .entry)) ⌝ }
+    requires { ⌜ StartsIn (now starts) count × (count ≤ mostSegments) × (mostSegments ≤ length (now lengths)) ⌝ }
+    ensures { λ r. ⌜ now (lengths .exit) ≡ over (padded (lengthsOf filled (take count (now (starts .entry))))) (now (lengths .entry)) ⌝ }
 {
     clear_segments(lengths);
     let last = count - 1;
@@ -197,7 +198,7 @@ fn bytes_past(start: u64, filled: u64) -> u64
 
 // Splits the location of every word.
 fn split_words(index: &mut [u64], buckets: usize, starts: &[u64], count: usize)
-    requires { ⌜ (8 * buckets ≤ length (now index)) × StartsIn (now starts) count × (count ≤ 256) ⌝ }
+    requires { ⌜ (8 * buckets ≤ length (now index)) × StartsIn (now starts) count × (count ≤ mostSegments) ⌝ }
     ensures { λ r. ⌜ now (index .exit) ≡ map (splitWord (take count (now (starts .entry)))) (take (8 * buckets) (now (index .entry))) ++ drop (8 * buckets) (now (index .entry)) ⌝ }
 {
     let words = buckets * BUCKET_SLOTS;
@@ -209,7 +210,7 @@ fn split_words(index: &mut [u64], buckets: usize, starts: &[u64], count: usize)
 }
 
 fn split_word(word: u64, starts: &[u64], count: usize) -> u64
-    requires { ⌜ StartsIn (now starts) count × (count ≤ 256) ⌝ }
+    requires { ⌜ StartsIn (now starts) count × (count ≤ mostSegments) ⌝ }
     ensures { λ r. ⌜ r ≡ splitWord (take count (now (starts .entry))) word ⌝ }
 {
     let stored = index_location(word);
@@ -219,7 +220,7 @@ fn split_word(word: u64, starts: &[u64], count: usize) -> u64
     let location = stored - 1;
     let segment = find_segment(starts, count, location);
     let offset = location - starts[segment];
-    encode_index_word(index_tag(word), (segment as u64) * OFFSETS + offset)
+    encode_index_word(index_tag(word), (segment as u64) * SEGMENT_BYTES + offset)
 }
 
 // The last start that is not above a location, by bisection.

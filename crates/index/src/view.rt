@@ -1,4 +1,5 @@
 // The records of a finished set: segments of the filled arena.
+use crate::word::SEGMENT_BYTES;
 use hash_parts::setting::SegmentExpiry;
 use records::record::RecordAnswer;
 use records::record::RecordRef;
@@ -32,7 +33,7 @@ pub fn record_at_location(
         return RecordAnswer::Unreadable;
     }
     let location = stored - 1;
-    let segment = (location >> 32) as usize;
+    let segment = (location / SEGMENT_BYTES) as usize;
     if segment >= view.segments {
         return RecordAnswer::Unreadable;
     }
@@ -64,7 +65,7 @@ fn record_in_segment(
     }
     let begin = start as usize;
     let stop = (start + length) as usize;
-    let offset = (location % 0x1_0000_0000) as usize;
+    let offset = (location % SEGMENT_BYTES) as usize;
     let expiry = view.expiry;
     let RecordAnswer::Read(read) = record_at(&arena[begin..stop], expiry, offset) else {
         return RecordAnswer::Unreadable;

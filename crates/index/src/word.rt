@@ -6,7 +6,11 @@ ghost use Rattle.index.specs.Word.{wordOf, wordTag, wordStored, marked, 
 
 pub const BUCKET_SLOTS: usize = 8;
 
-const LOCATIONS: u64 = 0x100_0000_0000;
+// The lowest 40 bits of a word are its stored location.
+pub(crate) const LOCATIONS: u64 = 0x100_0000_0000;
+
+// A location of a finished set is its segment's number times so many, and an offset.
+pub const SEGMENT_BYTES: u64 = 0x1_0000_0000;
 
 const TAGS: u64 = 0x80_0000;
 

@@ -7,6 +7,7 @@ use mathlib.Core.List.{List, [], _∷_, _++_}
 use mathlib.Core.Option.{Option, none, some}
 use lib.Dec.{leb, ltb}
 use lib.ListN.{length, getD}
+use Rattle.hash_parts.specs.Duration.{neverExpires}
 use Rattle.hash_parts.specs.Outcome.{Outcome, accepted, refused}
 use Rattle.hash_parts.specs.Setting.{bytesPerRecord}
 use Rattle.hash_parts.specs.declared.error.SegmentCacheBuildError.the-variants.{CapacityOverflow}
@@ -47,9 +48,9 @@ encodedSize e key value = cond (ltb (recordSize e key value) (2 ^ 64)) (accepted
 
 -- ---- reading
 
--- the deadline at a position; 65,535, never, where records keep none
+-- the deadline at a position; never, where records keep none
 abbrev pub deadlineIn : SegmentExpiry → List ℕ → ℕ → ℕ
-deadlineIn None s at = 65535
+deadlineIn None s at = neverExpires
 deadlineIn (Relative16 tick) s at = getD s at 0 + getD s (at + 1) 0 * 256
 
 -- the record at a position whose prefixes say key and value and end at q

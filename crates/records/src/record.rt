@@ -3,6 +3,7 @@ use crate::varint::Varint;
 use crate::varint::put_varint;
 use crate::varint::read_varint;
 use crate::varint::varint_bytes;
+use hash_parts::duration::NEVER_EXPIRES;
 use hash_parts::error::SegmentCacheBuildError;
 use hash_parts::setting::SegmentExpiry;
 ghost use mathlib.Core.Path.{_≡_};
@@ -229,7 +230,7 @@ fn deadline_in(records: &[u8], expiry: SegmentExpiry, at: usize) -> u16
     ensures { λ r. ⌜ r ≡ deadlineIn expiry (now (records .entry)) at ⌝ }
 {
     let SegmentExpiry::Relative16 { tick: _ } = expiry else {
-        return 65535;
+        return NEVER_EXPIRES;
     };
     wide(records[at]) + wide(records[at + 1]) * 256
 }

@@ -15,6 +15,7 @@ use Rattle.hash_parts.specs.declared.setting.SegmentCacheConfig.{SegmentCacheCo
 use Rattle.hash_parts.specs.declared.setting.SegmentExpiry.{SegmentExpiry}
 use Rattle.records.specs.Area.{pasted, over}
 use Rattle.records.specs.Record.{recordBytes, recordSize}
+use Rattle.records.proofs.Area.{over-length}
 use Rattle.records.proofs.Parts.{size-is}
 use Rattle.index.specs.Build.{cleared}
 use Rattle.index.specs.Filter.{displaced, displacedMarked, filterMarked}
@@ -24,7 +25,7 @@ use Rattle.index.specs.Word.{marked, unmarked}
 use Rattle.index.specs.declared.find.FindAnswer.{FindAnswer}
 use Rattle.index.specs.declared.find.FindAnswer.the-variants as find
 use Rattle.index.specs.declared.find.FoundRecord.{FoundRecord}
-use Rattle.index.proofs.Filling.{replaced-length}
+use Rattle.index.proofs.Filling.{over-padded-length}
 use Rattle.index.proofs.Filters.{marked-length}
 use Rattle.index.proofs.PackedReads.{packed-length}
 use Rattle.index.proofs.Starts.{starts-first}
@@ -50,10 +51,9 @@ pub cleared-length : (area : List ℕ) (count : ℕ) → length (cleared area co
 unfolding cleared
 cleared-length area count = go (leb count (length area)) refl
   where
-    go : (b : Bool) → leb count (length area) ≡ b → length (cond b (replicate count 0 ++ drop count area) area) ≡ length area
+    go : (b : Bool) → leb count (length area) ≡ b → length (cond b (over (replicate count 0) area) area) ≡ length area
     go false e = refl
-    go true e =
-        omega (arith, leb-true count (length area) e, length-append (replicate count 0) (drop count area), length-replicate {A = ℕ} count 0, length-drop count area)
+    go true e = over-length (replicate count 0) area (omega (arith, leb-true count (length area) e, length-replicate {A = ℕ} count 0))
 
 pub pasted-length : (at : ℕ) (s area : List ℕ) → at + length s ≤ length area → length (pasted at s area) ≡ length area
 pasted-length at s area h =
@@ -210,11 +210,11 @@ module _ (b : SegmentCacheBuilder) (target : ℕ) (index starts lengths scratch 
       go : {f : Finished} → FinishCase b target index starts lengths scratch arena f
           → (length (f .index) ≡ length index) × (length (f .starts) ≡ length starts) × (length (f .lengths) ≡ length lengths)
       go (finish-refused n) = (refl, refl, refl)
-      go (finish-many a) = (refl, replaced-length _ starts (a .starts-hold), refl)
+      go (finish-many a) = (refl, over-padded-length _ starts (a .starts-hold), refl)
       go (finish-made a few) = (
         layout-length (b .config .«packed_bucket_index») (b .«bucket_count») _ scratch ∙ split-length index (b .«bucket_count») _ (b .filled) target,
-        replaced-length _ starts (a .starts-hold),
-        replaced-length _ lengths (a .lengths-hold),
+        over-padded-length _ starts (a .starts-hold),
+        over-padded-length _ lengths (a .lengths-hold),
       )
 
   -- what an accepted finish leaves passes question 1; the filter is not lent to it

@@ -4,8 +4,9 @@ use mathlib.Core.List.{List}
 use Prim.Native.Nat.{ℕ, zero, suc, _*_}
 use lib.ListN.{length}
 use Rattle.hash_parts.specs.declared.duration.Lifetime.{Lifetime}
+use Rattle.records.specs.Area.{over}
 use Rattle.index.specs.Build.{cleared, emptySlot}
-use Rattle.index.specs.Segments.{padded, replaced}
+use Rattle.index.specs.Segments.{padded}
 use Rattle.sets.specs.Answers.{accept, refuse}
 use Rattle.sets.specs.Kept.{chosen}
 use Rattle.sets.specs.Questions.{bucketsIn, decided, filterWordsIn, firstNo}
@@ -25,8 +26,8 @@ module _ (s : FrozenSegmentCache) (sourceStarts sourceLengths arena : List ℕ) 
         answer = accept (rebuildOpened s records flags tick);
         index = cleared index (8 * bucketsIn (s .config) records);
         filter = cleared filter (filterWordsIn (s .config) records);
-        starts = replaced (padded (chosen flags sourceStarts)) starts;
-        lengths = replaced (padded (chosen flags sourceLengths)) lengths;
+        starts = over (padded (chosen flags sourceStarts)) starts;
+        lengths = over (padded (chosen flags sourceLengths)) lengths;
       }
 
   pub data ReopenCase : RebuildOpened → Type 0 where

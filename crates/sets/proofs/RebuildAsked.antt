@@ -17,7 +17,7 @@ use Rattle.index.specs.declared.build.BuildSlot.the-variants.{Empty}
 use Rattle.sets.specs.Kept.{isKept, keptCount, retained}
 use Rattle.sets.specs.Lookup.{setFits}
 use Rattle.sets.specs.Questions.{arenaHolds, bucketsIn, bytesFit, countsFit, filterWordsIn, firstNo, lifetimeFits, openAreasHold, scratchHolds, segmentAreasHold}
-use Rattle.sets.specs.Rebuild.{areasHoldRebuild, areasHoldSource, askCopied, askRebuildFinish, askRebuildOpen, askReused, copiedDeadline, copiedSize, filledIn, holdsRecord, keptView, movedLocation, rebuildFits, segmentFor, segmentsInside}
+use Rattle.sets.specs.Rebuild.{areasHoldRebuild, areasHoldSource, askCopied, askRebuildFinish, askRebuildOpen, askReused, copiedDeadline, copiedSize, rebuildFilled, holdsRecord, keptView, movedLocation, rebuildFits, segmentFor, segmentsInside}
 use Rattle.sets.specs.declared.cache.FrozenSegmentCache.{FrozenSegmentCache}
 use Rattle.sets.specs.declared.rebuild.SegmentRecordLocation.{SegmentRecordLocation}
 use Rattle.sets.specs.declared.rebuild.SharedSegmentCacheBuilder.{SharedSegmentCacheBuilder}
@@ -76,9 +76,9 @@ pub record AreasHoldRebuild (r : SharedSegmentCacheBuilder) (index : ℕ) (start
   pub index-holds : 8 * r .«bucket_count» ≤ index
   pub starts-hold : 256 ≤ length starts
   pub lengths-hold : 256 ≤ length lengths
-  pub filled-held : filledIn r ≤ arena
+  pub filled-held : rebuildFilled r ≤ arena
   pub arena-short : arena ≤ 1_073_741_824
-  pub inside : (g : ℕ) → g < retained (r .kept) → getD starts g 0 + getD lengths g 0 ≤ filledIn r
+  pub inside : (g : ℕ) → g < retained (r .kept) → getD starts g 0 + getD lengths g 0 ≤ rebuildFilled r
 
 module _ (r : SharedSegmentCacheBuilder) where
   pub rebuild-asked : rebuildFits r ≡ true → RebuildFits r
@@ -110,9 +110,9 @@ module _ (r : SharedSegmentCacheBuilder) where
         let a₁ = both (rebuildFits r) _ e in
         let a₂ = both (leb (8 * r .«bucket_count») index) _ (a₁ .1) in
         let a₃ = both (segmentAreasHold (length starts) (length lengths)) _ (a₂ .1) in
-        let a₄ = both (arenaHolds (filledIn r) arena) _ (a₃ .1) in
+        let a₄ = both (arenaHolds (rebuildFilled r) arena) _ (a₃ .1) in
         let segments = both (leb 256 (length starts)) _ (a₃ .0) in
-        let bytes = both (leb (filledIn r) arena) _ (a₄ .0) in
+        let bytes = both (leb (rebuildFilled r) arena) _ (a₄ .0) in
         record {
           numbers = rebuild-asked (a₁ .0);
           index-holds = leb-true _ _ (a₂ .0);
@@ -120,7 +120,7 @@ module _ (r : SharedSegmentCacheBuilder) where
           lengths-hold = leb-true _ _ (segments .1);
           filled-held = leb-true _ _ (bytes .0);
           arena-short = leb-true _ _ (bytes .1);
-          inside = segments-each (filledIn r) starts lengths (retained (r .kept)) (a₄ .1);
+          inside = segments-each (rebuildFilled r) starts lengths (retained (r .kept)) (a₄ .1);
         }
 
     pub rebuild-areas-pass : AreasHoldRebuild r index starts lengths arena → areasHoldRebuild r index starts lengths arena ≡ true
@@ -133,7 +133,7 @@ module _ (r : SharedSegmentCacheBuilder) where
           le-leb _ _ (f .lengths-hold),
           le-leb _ _ (f .filled-held),
           le-leb _ _ (f .arena-short),
-          segments-pass (filledIn r) starts lengths (retained (r .kept)) (f .inside),
+          segments-pass (rebuildFilled r) starts lengths (retained (r .kept)) (f .inside),
         )
 
 -- ---- question 1 of a source
@@ -268,7 +268,7 @@ module _ (r : SharedSegmentCacheBuilder) (h key value : ℕ) (ttl : Lifetime) (i
     pub lifetime : lifetimeFits ttl ≡ true
     pub announced : r .«inserted_entries» < r .«expected_entries»
     pub deadline : copiedDeadline r ttl .number ≡ 0
-    pub fits : filledIn r + copiedSize r key value ≤ arena
+    pub fits : rebuildFilled r + copiedSize r key value ≤ arena
     pub room : retained (r .kept) < 256
     pub place : slotFor never index (r .«bucket_count») h ≡ Empty (emptySlot index (r .«bucket_count») h .value)
 
@@ -280,7 +280,7 @@ module _ (r : SharedSegmentCacheBuilder) (h key value : ℕ) (ttl : Lifetime) (i
       let v = then (lifetimeFits ttl) 9 _ (omega arith) (u .1) in
       let w = then (ltb (r .«inserted_entries») (r .«expected_entries»)) 3 _ (omega arith) (v .1) in
       let x = then-own (copiedDeadline r ttl .number) _ (w .1) in
-      let y = then (leb (filledIn r + copiedSize r key value) arena) 10 _ (omega arith) (x .1) in
+      let y = then (leb (rebuildFilled r + copiedSize r key value) arena) 10 _ (omega arith) (x .1) in
       let z = then (ltb (retained (r .kept)) 256) 7 _ (omega arith) (y .1) in
       let f = then-own (emptySlot index (r .«bucket_count») h .number) _ (z .1) in
       record {

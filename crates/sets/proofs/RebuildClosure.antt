@@ -14,15 +14,16 @@ use Rattle.hash_parts.specs.declared.duration.Lifetime.{Lifetime}
 use Rattle.hash_parts.specs.declared.setting.SegmentExpiry.{SegmentExpiry}
 use Rattle.records.specs.Record.{recordBytes, recordSize}
 use Rattle.records.proofs.Parts.{size-is}
+use Rattle.records.specs.Area.{over}
 use Rattle.index.specs.Build.{emptySlot}
-use Rattle.index.specs.Segments.{padded, replaced}
-use Rattle.index.proofs.Filling.{replaced-length, filled-back}
+use Rattle.index.specs.Segments.{padded}
+use Rattle.index.proofs.Filling.{over-padded-length, filled-back}
 use Rattle.index.proofs.Table.{true≢false}
 use Rattle.sets.specs.Answers.{accept, RebuildPlaced}
 use Rattle.sets.specs.Kept.{chosen, keptCount, keptOf, retained}
 use Rattle.sets.specs.Lookup.{areasHoldLookup, setFits, areasHoldSet}
 use Rattle.sets.specs.Questions.{all, arenaHolds, bucketsIn, filterWordsIn, segmentAreasHold}
-use Rattle.sets.specs.Rebuild.{accounted, addsSegment, areasHoldRebuild, filledIn, segmentFor, segmentsInside, keptView, movedLocation, rebuildOpened, RebuildOpened, afterRebuildOpen, reusedGrown, Reused, afterReused, copiedDeadline, copiedGrown, copiedLocation, copiedSize, Copied, afterCopied, buildOf, rebuiltSet, withLast, RebuildFinished, afterRebuildFinish}
+use Rattle.sets.specs.Rebuild.{accounted, addsSegment, areasHoldRebuild, rebuildFilled, segmentFor, segmentsInside, keptView, movedLocation, rebuildOpened, RebuildOpened, afterRebuildOpen, reusedGrown, Reused, afterReused, copiedDeadline, copiedGrown, copiedLocation, copiedSize, Copied, afterCopied, buildOf, rebuiltSet, withLast, RebuildFinished, afterRebuildFinish}
 use Rattle.sets.specs.declared.cache.FrozenSegmentCache.{FrozenSegmentCache}
 use Rattle.sets.specs.declared.rebuild.SegmentRecordLocation.{SegmentRecordLocation}
 use Rattle.sets.specs.declared.rebuild.SharedSegmentCacheBuild.{SharedSegmentCacheBuild}
@@ -81,18 +82,18 @@ chosen-inside filled (f ∷ flags) (a ∷ starts) (b ∷ lengths) hs hl each g h
     go false (suc i) k rest = rest i (omega arith)
 
 -- a word that was filled in
-filled-at : (l area : List ℕ) (g : ℕ) → length l ≤ 256 → g < length l → getD (replaced (padded l) area) g 0 ≡ getD l g 0
-filled-at l area g h k = sym (getD-take (length l) (replaced (padded l) area) g 0 k) ∙ ap (λ (m : List ℕ). getD m g 0) (filled-back l area h)
+filled-at : (l area : List ℕ) (g : ℕ) → length l ≤ 256 → g < length l → getD (over (padded l) area) g 0 ≡ getD l g 0
+filled-at l area g h k = sym (getD-take (length l) (over (padded l) area) g 0 k) ∙ ap (λ (m : List ℕ). getD m g 0) (filled-back l area h)
 
 -- segments that were filled in from two lists lie where those of the lists do
 pub filled-inside : (filled n : ℕ) (ss ls starts lengths : List ℕ) → n ≤ 256 → length ss ≡ n → length ls ≡ n → EachInside filled ss ls n
-    → EachInside filled (replaced (padded ss) starts) (replaced (padded ls) lengths) n
+    → EachInside filled (over (padded ss) starts) (over (padded ls) lengths) n
 filled-inside filled n ss ls starts lengths few s l each g h =
     omega (arith, each g h, filled-at ss starts g (omega arith) (omega arith), filled-at ls lengths g (omega arith) (omega arith))
 
 module _ (s : FrozenSegmentCache) (sourceStarts sourceLengths : List ℕ) (arena records copied : ℕ) (flags : List ℕ) (tick index filter : ℕ)
     (starts lengths : List ℕ) (a : ReopenAsked s sourceStarts sourceLengths arena records copied flags index filter (length starts) (length lengths)) where
-  reopened-inside : EachInside (s .filled) (replaced (padded (chosen flags sourceStarts)) starts) (replaced (padded (chosen flags sourceLengths)) lengths) (keptCount flags)
+  reopened-inside : EachInside (s .filled) (over (padded (chosen flags sourceStarts)) starts) (over (padded (chosen flags sourceLengths)) lengths) (keptCount flags)
   reopened-inside =
       let in-starts : length flags ≤ length sourceStarts = omega (arith, a .same-count, a .areas .few, a .areas .starts-hold) in
       let in-lengths : length flags ≤ length sourceLengths = omega (arith, a .same-count, a .areas .few, a .areas .lengths-hold) in
@@ -103,7 +104,7 @@ module _ (s : FrozenSegmentCache) (sourceStarts sourceLengths : List ℕ) (arena
       (chosen-inside (s .filled) flags sourceStarts sourceLengths in-starts in-lengths
       (λ (i : ℕ) (k : i < length flags). a .areas .inside i (omega (arith, a .same-count))))
 
-  reopened-areas : AreasHoldRebuild (rebuildOpened s records flags tick) index (replaced (padded (chosen flags sourceStarts)) starts) (replaced (padded (chosen flags sourceLengths)) lengths) arena
+  reopened-areas : AreasHoldRebuild (rebuildOpened s records flags tick) index (over (padded (chosen flags sourceStarts)) starts) (over (padded (chosen flags sourceLengths)) lengths) arena
   reopened-areas =
       let few : length flags ≤ 256 = omega (arith, a .same-count, a .areas .few) in
       record {
@@ -117,8 +118,8 @@ module _ (s : FrozenSegmentCache) (sourceStarts sourceLengths : List ℕ) (arena
               header-bytes = omega arith;
             };
         index-holds = a .index-holds;
-        starts-hold = omega (arith, replaced-length (chosen flags sourceStarts) starts (a .starts-hold), a .starts-hold);
-        lengths-hold = omega (arith, replaced-length (chosen flags sourceLengths) lengths (a .lengths-hold), a .lengths-hold);
+        starts-hold = omega (arith, over-padded-length (chosen flags sourceStarts) starts (a .starts-hold), a .starts-hold);
+        lengths-hold = omega (arith, over-padded-length (chosen flags sourceLengths) lengths (a .lengths-hold), a .lengths-hold);
         filled-held = omega (arith, a .areas .filled-held);
         arena-short = a .areas .arena-short;
         inside = λ (g : ℕ) (h : g < retained (keptOf flags)). omega (arith, reopened-inside g (omega (arith, retained-kept flags few)));
@@ -141,8 +142,8 @@ module _ (s : FrozenSegmentCache) (sourceStarts sourceLengths arena : List ℕ) 
       go (reopen-made a) = (
         cleared-length index _,
         cleared-length filter _,
-        replaced-length _ starts (a .starts-hold),
-        replaced-length _ lengths (a .lengths-hold),
+        over-padded-length _ starts (a .starts-hold),
+        over-padded-length _ lengths (a .lengths-hold),
       )
       go (reopen-refused n) = (refl, refl, refl, refl)
 
@@ -248,7 +249,7 @@ module _ (r : SharedSegmentCacheBuilder) (h : ℕ) (key value : List ℕ) (ttl :
       go (copied-made a) = (
         length-set index _ _,
         displaced-length filter (r .«filter_words») h _ (r .«bucket_count»),
-        pasted-length (filledIn r) bytes arena (rw (size-is (r .config .expiry) key value (copiedDeadline r ttl .value)) (a .fits)),
+        pasted-length (rebuildFilled r) bytes arena (rw (size-is (r .config .expiry) key value (copiedDeadline r ttl .value)) (a .fits)),
       )
 
   -- what an accepted copied push leaves passes question 1
@@ -295,24 +296,24 @@ rebuilt-segments r few = go (eqb (r .«copied_bytes») 0) few (eqb (retained (r 
 
 -- each of them lies in the filled arena
 last-inside : (r : SharedSegmentCacheBuilder) (index : ℕ) (starts lengths : List ℕ) (arena : ℕ) → AreasHoldRebuild r index starts lengths arena
-    → EachInside (filledIn r) (withLast r starts (r .«source_filled»)) (withLast r lengths (r .«copied_bytes»)) (retained (r .kept) + cond (addsSegment r) 1 0)
+    → EachInside (rebuildFilled r) (withLast r starts (r .«source_filled»)) (withLast r lengths (r .«copied_bytes»)) (retained (r .kept) + cond (addsSegment r) 1 0)
 last-inside r index starts lengths arena f = go (addsSegment r) (rebuilt-segments r (f .numbers .few) .1)
   where
     n : ℕ
     n = retained (r .kept)
 
     go : (t : Bool) → n + cond t 1 0 ≤ 256
-        → EachInside (filledIn r) (cond t (set starts n (r .«source_filled»)) starts) (cond t (set lengths n (r .«copied_bytes»)) lengths) (n + cond t 1 0)
+        → EachInside (rebuildFilled r) (cond t (set starts n (r .«source_filled»)) starts) (cond t (set lengths n (r .«copied_bytes»)) lengths) (n + cond t 1 0)
     go false few g h = f .inside g (omega arith)
     go true few g h =
         let begin : ℕ = r .«source_filled» in
         let len : ℕ = r .«copied_bytes» in
         elim (decLt g n) as
-        (λ _. getD (set starts n begin) g 0 + getD (set lengths n len) g 0 ≤ filledIn r) [
+        (λ _. getD (set starts n begin) g 0 + getD (set lengths n len) g 0 ≤ rebuildFilled r) [
           | yes y ↦ omega
               (arith, f .inside g y, getD-set-other starts n g begin 0 (λ (q : g ≡ n). omega arith), getD-set-other lengths n g len 0 (λ (q : g ≡ n). omega arith))
           | no y ↦ let same : n ≡ g = omega arith in
-              subst (λ (i : ℕ). getD (set starts n begin) i 0 + getD (set lengths n len) i 0 ≤ filledIn r) same
+              subst (λ (i : ℕ). getD (set starts n begin) i 0 + getD (set lengths n len) i 0 ≤ rebuildFilled r) same
               (omega (arith, getD-set-same starts n begin 0 (omega (arith, f .starts-hold)), getD-set-same lengths n len 0 (omega (arith, f .lengths-hold))))
         ]
 
@@ -369,5 +370,5 @@ module _ (r : SharedSegmentCacheBuilder) (index starts lengths scratch arena : L
           let made : buildOf r lengths ≡ b = cc in
           let same : rebuiltSet r lengths ≡ b .cache = ap (λ (q : SharedSegmentCacheBuild). q .cache) made in
           rw (← same)
-          (segments-pass (filledIn r) (withLast r starts (r .«source_filled»)) (withLast r lengths (r .«copied_bytes»)) (retained (r .kept) + cond (addsSegment r) 1 0)
+          (segments-pass (rebuildFilled r) (withLast r starts (r .«source_filled»)) (withLast r lengths (r .«copied_bytes»)) (retained (r .kept) + cond (addsSegment r) 1 0)
           (last-inside r (length index) starts lengths (length arena) (a .areas)))

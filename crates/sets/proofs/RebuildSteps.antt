@@ -15,13 +15,13 @@ use Rattle.records.specs.Record.{recordBytes}
 use Rattle.index.specs.Build.{cleared, emptySlot}
 use Rattle.index.specs.Filter.{displacedMarked}
 use Rattle.index.specs.Packed.{packedIndex, packedScratch}
-use Rattle.index.specs.Segments.{padded, replaced}
+use Rattle.index.specs.Segments.{padded}
 use Rattle.index.specs.Word.{wordOf}
 use Rattle.sets.specs.Answers.{accept, refuse}
 use Rattle.sets.specs.Kept.{keptCount, retained}
 use Rattle.sets.specs.Lookup.{setFits}
 use Rattle.sets.specs.Questions.{arenaHolds, bucketsIn, countsFit, filterWordsIn, firstNo, segmentAreasHold}
-use Rattle.sets.specs.Rebuild.{Copied, RebuildFinished, RebuildOpened, Reused, addsSegment, askCopied, askReused, buildOf, copiedDeadline, copiedGrown, copiedLocation, copiedMade, copiedSize, filledIn, movedLocation, rebuildFinishMade, rebuildOpened, reusedGrown, reusedMade, segmentFor, segmentsInside, sumOf, withLast}
+use Rattle.sets.specs.Rebuild.{Copied, RebuildFinished, RebuildOpened, Reused, addsSegment, askCopied, askReused, buildOf, copiedDeadline, copiedGrown, copiedLocation, copiedMade, copiedSize, rebuildFilled, movedLocation, rebuildFinishMade, rebuildOpened, reusedGrown, reusedMade, segmentFor, segmentsInside, sumOf, withLast}
 use Rattle.sets.specs.RebuildPlans.{planCopied, planReused}
 use Rattle.sets.specs.declared.cache.FrozenSegmentCache.{FrozenSegmentCache}
 use Rattle.sets.specs.declared.rebuild.SegmentRecordLocation.{SegmentRecordLocation}
@@ -92,10 +92,10 @@ drop-zeros (suc n) (suc m) l h =
     rw e (drop-zeros n m l (omega arith))
 
 -- words over a cleared area: the words, and 0 in the rest of its 256
-pub over-cleared : (s area zeroed : List ℕ) → length s ≤ 256 → 256 ≤ length area → zeroed ≡ cleared area 256 → over s zeroed ≡ replaced (padded s) area
+pub over-cleared : (s area zeroed : List ℕ) → length s ≤ 256 → 256 ≤ length area → zeroed ≡ cleared area 256 → over s zeroed ≡ over (padded s) area
 unfolding cleared padded
 over-cleared s area zeroed few long e =
-    let z : zeroed ≡ replicate 256 0 ++ drop 256 area = e ∙ rw (le-leb 256 (length area) long) in
+    let z : zeroed ≡ replicate 256 0 ++ drop 256 area = e ∙ rw (le-leb 256 (length area) long, length-replicate {A = ℕ} 256 0) in
     let k : length (s ++ replicate (256 - length s) 0) ≡ 256 = omega (arith, length-append s (replicate (256 - length s) 0), length-replicate {A = ℕ} (256 - length s) 0) in
     rw (take-all 256 s few, k, append-assoc s (replicate (256 - length s) 0) (drop 256 area))
     (ap (λ (t : List ℕ). s ++ drop (length s) t) z ∙ ap (λ (t : List ℕ). s ++ t) (drop-zeros (length s) 256 (drop 256 area) few))
@@ -179,7 +179,7 @@ module _ (slot : ℕ) (r : SharedSegmentCacheBuilder) (h key value : ℕ) (sourc
 
 module _ (slot deadline : ℕ) (r : SharedSegmentCacheBuilder) (h : ℕ) (key value index filter arena : List ℕ) where
   pub copied-left : (n : ℕ) (grown : SharedSegmentCacheBuilder) (location : ℕ) (indexed marked home : List ℕ) → n ≡ copiedSize r (length key) (length value)
-      → home ≡ pasted (filledIn r) (recordBytes (r .config .expiry) key value deadline) arena
+      → home ≡ pasted (rebuildFilled r) (recordBytes (r .config .expiry) key value deadline) arena
       → grown ≡ copiedGrown r n (length key) (length value) → location ≡ copiedLocation r
       → indexed ≡ set index slot (wordOf (tagOf h) location) → marked ≡ displacedMarked filter (r .«filter_words») h slot (r .«bucket_count»)
       → _≡_ {A = Copied}

@@ -12,8 +12,9 @@ use Rattle.hash_parts.specs.Outcome.{accepted, refused}
 use Rattle.hash_parts.specs.declared.error.SegmentCacheBuildError.{SegmentCacheBuildError}
 use Rattle.hash_parts.specs.declared.error.SegmentCacheBuildError.the-variants.{ArenaTooLarge}
 use Rattle.hash_parts.proofs.Refusals.{refusal-pos}
+use Rattle.records.specs.Area.{over}
 use Rattle.index.specs.Packed.{packedIndex, packedScratch}
-use Rattle.index.specs.Segments.{Split, lengthsOf, padded, replaced, split, splitBy, splitResult}
+use Rattle.index.specs.Segments.{Split, lengthsOf, padded, split, splitBy, splitResult}
 use Rattle.index.specs.declared.segments.SplitAnswer.the-variants.{Segments, Refused}
 use Rattle.sets.specs.Answers.{accept, refuse}
 use Rattle.sets.specs.Build.{Finished, afterFinish, askFinish, finishMade, finishRefused, indexSplit, segmentStarts, setOf, startsWritten}
@@ -60,7 +61,7 @@ module _ (b : SegmentCacheBuilder) (target : ℕ) (index starts lengths scratch 
         answer = accepted (length (segmentStarts b target index));
         index = indexSplit b target index;
         starts = startsWritten b target index starts;
-        lengths = replaced (padded (lengthsOf (b .filled) (segmentStarts b target index))) lengths;
+        lengths = over (padded (lengthsOf (b .filled) (segmentStarts b target index))) lengths;
       })
       (record { answer = refused ArenaTooLarge; index = index; starts = startsWritten b target index starts; lengths = lengths })
 

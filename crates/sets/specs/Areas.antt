@@ -6,8 +6,9 @@ use Prim.Native.Nat.{ℕ, _*_}
 use lib.Dec.{leb}
 use Rattle.hash_parts.specs.Error.{errorNumber}
 use Rattle.hash_parts.specs.declared.setting.SegmentCacheConfig.{SegmentCacheConfig}
+use Rattle.index.specs.Segments.{mostSegments}
 use Rattle.sets.specs.Answers.{Reply, accept, refuse}
-use Rattle.sets.specs.Questions.{bucketsIn, decided, filterWordsIn, firstNo, nanosecondsFit, occupancyFits, tickRuns}
+use Rattle.sets.specs.Questions.{bucketsIn, decided, filterWordsIn, firstNo, mostRecords, nanosecondsFit, occupancyFits, tickRuns}
 use Rattle.sets.specs.declared.areas.AreaWords.{AreaWords}
 use Rattle.sets.specs.declared.areas.AreaWordsAnswer.{AreaWordsAnswer}
 use Rattle.sets.specs.declared.areas.AreaWordsAnswer.the-variants.{Words, Refused}
@@ -18,7 +19,7 @@ askCounts c records =
     (nanosecondsFit (c .expiry), 9)
     ∷ (occupancyFits (c .«target_occupied_slots»), 1)
     ∷ (tickRuns (c .expiry), 2)
-    ∷ (leb records 1_048_576, 3)
+    ∷ (leb records mostRecords, 3)
     ∷ []
 
 -- the word layout needs no scratch
@@ -27,8 +28,8 @@ wordsNeeded c records =
     record {
       index = 8 * bucketsIn c records;
       filter = filterWordsIn c records;
-      starts = 256;
-      lengths = 256;
+      starts = mostSegments;
+      lengths = mostSegments;
       scratch = cond (c .«packed_bucket_index») (bucketsIn c records) 0;
     }
 

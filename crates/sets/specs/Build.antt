@@ -10,12 +10,12 @@ use Rattle.hash_parts.specs.Hash.{tagOf}
 use Rattle.hash_parts.specs.Outcome.{Outcome}
 use Rattle.hash_parts.specs.declared.duration.Lifetime.{Lifetime}
 use Rattle.hash_parts.specs.declared.setting.SegmentCacheConfig.{SegmentCacheConfig}
-use Rattle.records.specs.Area.{pasted}
+use Rattle.records.specs.Area.{pasted, over}
 use Rattle.records.specs.Record.{recordBytes, recordSize}
 use Rattle.index.specs.Build.{buildSlot, cleared}
 use Rattle.index.specs.Filter.{displacedMarked}
 use Rattle.index.specs.Packed.{packedIndex, packedScratch}
-use Rattle.index.specs.Segments.{lengthsOf, locationsInside, padded, replaced, splitWords, startsOf}
+use Rattle.index.specs.Segments.{lengthsOf, locationsInside, mostSegments, padded, splitWords, startsOf}
 use Rattle.index.specs.Word.{wordOf}
 use Rattle.sets.specs.Answers.{Reply, accept, refuse, Placed, openReply, pushReply, finishReply}
 use Rattle.sets.specs.Questions.{all, arenaHolds, askOpen, bucketsIn, bytesFit, countsFit, decided, filterWordsIn, firstNo, lifetimeFits, scratchHolds, segmentAreasHold, targetFits}
@@ -169,7 +169,7 @@ askFinish b target index starts lengths scratch arena =
     ∷ (targetFits target, 8)
     ∷ (scratchHolds (b .config) (b .«bucket_count») scratch, 10)
     ∷ (locationsInside index (b .«bucket_count») (b .filled), 11)
-    ∷ (leb (length (segmentStarts b target index)) 256, 7)
+    ∷ (leb (length (segmentStarts b target index)) mostSegments, 7)
     ∷ []
 
 -- the set of a builder, with so many segments
@@ -202,7 +202,7 @@ finishResult r index starts lengths scratch =
 
 -- the starts area with the starts, and 0 in the rest of its 256 words; of more than 256 the first 256
 abbrev pub startsWritten : SegmentCacheBuilder → ℕ → List ℕ → List ℕ → List ℕ
-startsWritten b target index starts = replaced (padded (segmentStarts b target index)) starts
+startsWritten b target index starts = over (padded (segmentStarts b target index)) starts
 
 -- the index with every location split
 abbrev pub indexSplit : SegmentCacheBuilder → ℕ → List ℕ → List ℕ
@@ -214,7 +214,7 @@ finishMade b target index starts lengths scratch =
       answer = accept (setOf b (length (segmentStarts b target index)));
       index = cond (b .config .«packed_bucket_index») (packedIndex (b .«bucket_count») (indexSplit b target index) scratch) (indexSplit b target index);
       starts = startsWritten b target index starts;
-      lengths = replaced (padded (lengthsOf (b .filled) (segmentStarts b target index))) lengths;
+      lengths = over (padded (lengthsOf (b .filled) (segmentStarts b target index))) lengths;
       scratch = cond (b .config .«packed_bucket_index») (packedScratch (b .«bucket_count») (indexSplit b target index) scratch) scratch;
     }
 

@@ -14,6 +14,7 @@ use Rattle.records.specs.declared.record.RecordAnswer.the-variants.{Read, Unrea
 use Rattle.records.specs.declared.record.Span.{Span}
 use Rattle.index.specs.Find.{findIn, slotAt}
 use Rattle.index.specs.Packed.{markedByte, unmarkedByte, withByte}
+use Rattle.index.specs.Segments.{mostSegments}
 use Rattle.index.specs.View.{recordIn}
 use Rattle.index.specs.Word.{marked, unmarked}
 use Rattle.index.specs.declared.find.FindAnswer.{FindAnswer}
@@ -39,7 +40,7 @@ setFits s =
     all
     (countsFit (s .config) (s .entries) (s .buckets) (s .«filter_words»)
     ∷ leb 1 (s .segments)
-    ∷ leb (s .segments) 256
+    ∷ leb (s .segments) mostSegments
     ∷ bytesFit (s .entries) (s .«logical_key_bytes»)
     ∷ bytesFit (s .entries) (s .«logical_value_bytes»)
     ∷ bytesFit (s .entries) (s .«record_header_bytes»)

@@ -16,6 +16,7 @@ use Rattle.hash_parts.specs.declared.setting.SegmentExpiry.{SegmentExpiry}
 use Rattle.hash_parts.specs.declared.setting.SegmentExpiry.the-variants.{None, Relative16}
 use Rattle.hash_parts.specs.declared.setting.SegmentCacheConfig.{SegmentCacheConfig}
 use Rattle.index.specs.Build.{bucketsFor}
+use Rattle.index.specs.Segments.{mostSegments}
 use Rattle.sets.specs.declared.questions.Check.{Check}
 use Rattle.sets.specs.declared.questions.Check.the-variants.{Passed, Refused}
 
@@ -62,6 +63,13 @@ settingFits c = all (nanosecondsFit (c .expiry) ∷ occupancyFits (c .«target_o
 
 -- ---- counts
 
+-- "are records at most 1,048,576"; "itself at most 1,073,741,824" bytes, the arena
+abbrev pub mostRecords : ℕ
+mostRecords = 1_048_576
+
+abbrev pub mostArenaBytes : ℕ
+mostArenaBytes = 1_073_741_824
+
 -- the buckets and filter words of so many records
 abbrev pub bucketsIn : SegmentCacheConfig → ℕ → ℕ
 bucketsIn c records = bucketsFor records (c .«target_occupied_slots»)
@@ -72,7 +80,7 @@ filterWordsIn c records = ceilDiv (records * c .«negative_filter_bits_per_entry
 -- "are records at most 1,048,576, .. buckets and filter words by the rules"
 unfoldable pub countsFit : SegmentCacheConfig → ℕ → ℕ → ℕ → Bool
 countsFit c records buckets words =
-    all (settingFits c ∷ leb records 1_048_576 ∷ eqb buckets (bucketsIn c records) ∷ eqb words (filterWordsIn c records) ∷ [])
+    all (settingFits c ∷ leb records mostRecords ∷ eqb buckets (bucketsIn c records) ∷ eqb words (filterWordsIn c records) ∷ [])
 
 -- "Are key, value and header bytes each at most records in × 2^30"
 abbrev pub bytesFit : ℕ → ℕ → Bool
@@ -82,11 +90,11 @@ bytesFit records bytes = leb bytes (records * 2 ^ 30)
 
 -- "the arena its filled bytes, itself at most 1,073,741,824"
 unfoldable pub arenaHolds : ℕ → ℕ → Bool
-arenaHolds filled arena = all (leb filled arena ∷ leb arena 1_073_741_824 ∷ [])
+arenaHolds filled arena = all (leb filled arena ∷ leb arena mostArenaBytes ∷ [])
 
 -- "starts and lengths 256 words each"
 unfoldable pub segmentAreasHold : ℕ → ℕ → Bool
-segmentAreasHold starts lengths = all (leb 256 starts ∷ leb 256 lengths ∷ [])
+segmentAreasHold starts lengths = all (leb mostSegments starts ∷ leb mostSegments lengths ∷ [])
 
 -- question 5: "Target 1 to 100,663,296? 8. If packed, scratch long enough? 10."
 unfoldable pub targetFits : ℕ → Bool
@@ -106,10 +114,10 @@ askOpen c records index filter starts lengths arena =
     (nanosecondsFit (c .expiry), 9)
     ∷ (occupancyFits (c .«target_occupied_slots»), 1)
     ∷ (tickRuns (c .expiry), 2)
-    ∷ (leb records 1_048_576, 3)
+    ∷ (leb records mostRecords, 3)
     ∷ (openAreasHold c records index filter, 10)
     ∷ (segmentAreasHold starts lengths, 10)
-    ∷ (leb arena 1_073_741_824, 10)
+    ∷ (leb arena mostArenaBytes, 10)
     ∷ []
 
 -- ---- for private functions alone

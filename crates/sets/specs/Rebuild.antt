@@ -4,28 +4,28 @@
 -- Assumes nothing.
 use mathlib.Core.Bool.{Bool, true, false, cond}
 use mathlib.Core.List.{List, [], _∷_}
-use Prim.Native.Nat.{ℕ, zero, suc, _+_, _-_, _*_, _/_, _%_, _^_}
+use Prim.Native.Nat.{ℕ, zero, suc, _+_, _-_, _*_, _%_, _^_}
 use lib.Dec.{eqb, leb, ltb}
 use lib.ListN.{length, set, getD}
 use Rattle.hash_parts.specs.Duration.{encodedExpiry}
 use Rattle.hash_parts.specs.Hash.{tagOf}
 use Rattle.hash_parts.specs.Outcome.{Outcome}
 use Rattle.hash_parts.specs.declared.duration.Lifetime.{Lifetime}
-use Rattle.records.specs.Area.{pasted, sameBytes, spanned}
+use Rattle.records.specs.Area.{pasted, sameBytes, spanned, over}
 use Rattle.records.specs.Record.{recordBytes, recordSize}
 use Rattle.records.specs.declared.record.RecordAnswer.{RecordAnswer}
 use Rattle.records.specs.declared.record.RecordAnswer.the-variants.{Read, Unreadable}
 use Rattle.index.specs.Build.{cleared, emptySlot}
 use Rattle.index.specs.Filter.{displacedMarked}
 use Rattle.index.specs.Packed.{packedIndex, packedScratch}
-use Rattle.index.specs.Segments.{padded, replaced}
+use Rattle.index.specs.Segments.{mostSegments, padded}
 use Rattle.index.specs.View.{recordIn}
-use Rattle.index.specs.Word.{wordOf}
+use Rattle.index.specs.Word.{locationIn, offsetPart, segmentPart, wordOf}
 use Rattle.index.specs.declared.view.SegmentView.{SegmentView}
 use Rattle.sets.specs.Answers.{Reply, accept, refuse, RebuildPlaced, rebuildOpenReply, rebuildPushReply, rebuildFinishReply}
 use Rattle.sets.specs.Kept.{chosen, isKept, keptCount, keptOf, newNumber, retained}
 use Rattle.sets.specs.Lookup.{setFits}
-use Rattle.sets.specs.Questions.{all, arenaHolds, bucketsIn, bytesFit, countsFit, decided, filterWordsIn, firstNo, lifetimeFits, openAreasHold, scratchHolds, segmentAreasHold}
+use Rattle.sets.specs.Questions.{all, arenaHolds, bucketsIn, bytesFit, countsFit, decided, filterWordsIn, firstNo, lifetimeFits, mostRecords, openAreasHold, scratchHolds, segmentAreasHold}
 use Rattle.sets.specs.declared.cache.FrozenSegmentCache.{FrozenSegmentCache}
 use Rattle.sets.specs.declared.rebuild.RebuildFinishAnswer.{RebuildFinishAnswer}
 use Rattle.sets.specs.declared.rebuild.RebuildOpenAnswer.{RebuildOpenAnswer}
@@ -51,8 +51,9 @@ areasHoldSource s starts lengths arena =
     ∷ segmentsInside (s .segments) (s .filled) starts lengths
     ∷ [])
 
-abbrev pub filledIn : SharedSegmentCacheBuilder → ℕ
-filledIn r = r .«source_filled» + r .«copied_bytes»
+-- "the rebuilt set's filled bytes are the source's plus the copied"
+abbrev pub rebuildFilled : SharedSegmentCacheBuilder → ℕ
+rebuildFilled r = r .«source_filled» + r .«copied_bytes»
 
 -- one segment for some bytes, none for no bytes
 abbrev pub segmentFor : ℕ → ℕ
@@ -64,7 +65,7 @@ rebuildFits r =
     all
     (countsFit (r .config) (r .«expected_entries») (r .«bucket_count») (r .«filter_words»)
     ∷ leb (r .«inserted_entries») (r .«expected_entries»)
-    ∷ leb (retained (r .kept) + segmentFor (r .«copied_bytes»)) 256
+    ∷ leb (retained (r .kept) + segmentFor (r .«copied_bytes»)) mostSegments
     ∷ bytesFit (r .«inserted_entries») (r .«logical_key_bytes»)
     ∷ bytesFit (r .«inserted_entries») (r .«logical_value_bytes»)
     ∷ bytesFit (r .«inserted_entries») (r .«record_header_bytes»)
@@ -77,8 +78,8 @@ areasHoldRebuild r index starts lengths arena =
     (rebuildFits r
     ∷ leb (8 * r .«bucket_count») index
     ∷ segmentAreasHold (length starts) (length lengths)
-    ∷ arenaHolds (filledIn r) arena
-    ∷ segmentsInside (retained (r .kept)) (filledIn r) starts lengths
+    ∷ arenaHolds (rebuildFilled r) arena
+    ∷ segmentsInside (retained (r .kept)) (rebuildFilled r) starts lengths
     ∷ [])
 
 -- ---- rebuild open
@@ -88,8 +89,8 @@ unfoldable pub askRebuildOpen : FrozenSegmentCache → List ℕ → List ℕ →
 askRebuildOpen s sourceStarts sourceLengths arena records copied flags index filter starts lengths =
     (areasHoldSource s sourceStarts sourceLengths arena, 11)
     ∷ (eqb (length flags) (s .segments), 3)
-    ∷ (leb records 1_048_576, 3)
-    ∷ (leb (keptCount flags + segmentFor copied) 256, 7)
+    ∷ (leb records mostRecords, 3)
+    ∷ (leb (keptCount flags + segmentFor copied) mostSegments, 7)
     ∷ (openAreasHold (s .config) records index filter, 10)
     ∷ (segmentAreasHold starts lengths, 10)
     ∷ []
@@ -134,8 +135,8 @@ afterRebuildOpen s sourceStarts sourceLengths arena records copied flags tick in
       answer = accept (rebuildOpened s records flags tick);
       index = cleared index (8 * bucketsIn (s .config) records);
       filter = cleared filter (filterWordsIn (s .config) records);
-      starts = replaced (padded (chosen flags sourceStarts)) starts;
-      lengths = replaced (padded (chosen flags sourceLengths)) lengths;
+      starts = over (padded (chosen flags sourceStarts)) starts;
+      lengths = over (padded (chosen flags sourceLengths)) lengths;
     })
     (λ n. record { answer = refuse n s; index = index; filter = filter; starts = starts; lengths = lengths })
 
@@ -143,11 +144,11 @@ afterRebuildOpen s sourceStarts sourceLengths arena records copied flags tick in
 
 -- a reader of the kept segments
 abbrev pub keptView : SharedSegmentCacheBuilder → SegmentView
-keptView r = record { expiry = r .config .expiry; filled = filledIn r; segments = retained (r .kept) }
+keptView r = record { expiry = r .config .expiry; filled = rebuildFilled r; segments = retained (r .kept) }
 
 -- a location of the source in the rebuild: its segment numbered anew
 abbrev pub movedLocation : SharedSegmentCacheBuilder → ℕ → ℕ
-movedLocation r location = newNumber (r .kept) (location / 2 ^ 32) * 2 ^ 32 + location % 2 ^ 32
+movedLocation r location = locationIn (newNumber (r .kept) (segmentPart location)) (offsetPart location)
 
 -- "Does the location hold this key, value and header length?"
 unfoldable pub holdsRecord : List ℕ → List ℕ → ℕ → List ℕ → RecordAnswer → Bool
@@ -161,7 +162,7 @@ askReused r h key value source index filter starts lengths arena =
     (areasHoldRebuild r (length index) starts lengths (length arena), 11)
     ∷ (leb (r .«filter_words») filter, 11)
     ∷ (ltb (r .«inserted_entries») (r .«expected_entries»), 3)
-    ∷ (isKept (r .kept) (source .location / 2 ^ 32), 3)
+    ∷ (isKept (r .kept) (segmentPart (source .location)), 3)
     ∷ (holdsRecord key value (source .«header_bytes») arena (recordIn (keptView r) arena starts lengths (movedLocation r (source .location) + 1)), 12)
     ∷ (eqb (emptySlot index (r .«bucket_count») h .number) 0, emptySlot index (r .«bucket_count») h .number)
     ∷ []
@@ -234,7 +235,7 @@ copiedGrown r size key value = accounted r (size - key - value) key value (r .«
 
 -- copied records stand in the segment after the kept ones
 abbrev pub copiedLocation : SharedSegmentCacheBuilder → ℕ
-copiedLocation r = retained (r .kept) * 2 ^ 32 + r .«copied_bytes»
+copiedLocation r = locationIn (retained (r .kept)) (r .«copied_bytes»)
 
 -- questions 1, 2 and 7; key, value, filter and arena by their lengths
 unfoldable pub askCopied : SharedSegmentCacheBuilder → ℕ → ℕ → ℕ → Lifetime → List ℕ → ℕ → List ℕ → List ℕ → ℕ → List (Bool × ℕ)
@@ -244,8 +245,8 @@ askCopied r h key value ttl index filter starts lengths arena =
     ∷ (lifetimeFits ttl, 9)
     ∷ (ltb (r .«inserted_entries») (r .«expected_entries»), 3)
     ∷ (eqb (copiedDeadline r ttl .number) 0, copiedDeadline r ttl .number)
-    ∷ (leb (filledIn r + copiedSize r key value) arena, 10)
-    ∷ (ltb (retained (r .kept)) 256, 7)
+    ∷ (leb (rebuildFilled r + copiedSize r key value) arena, 10)
+    ∷ (ltb (retained (r .kept)) mostSegments, 7)
     ∷ (eqb (emptySlot index (r .«bucket_count») h .number) 0, emptySlot index (r .«bucket_count») h .number)
     ∷ []
 
@@ -271,7 +272,7 @@ copiedMade slot deadline r h key value index filter arena =
           };
       index = set index slot (wordOf (tagOf h) (copiedLocation r));
       filter = displacedMarked filter (r .«filter_words») h slot (r .«bucket_count»);
-      arena = pasted (filledIn r) (recordBytes (r .config .expiry) key value deadline) arena;
+      arena = pasted (rebuildFilled r) (recordBytes (r .config .expiry) key value deadline) arena;
     }
 
 unfoldable pub afterCopied : SharedSegmentCacheBuilder → ℕ → List ℕ → List ℕ → Lifetime → List ℕ → List ℕ → List ℕ → List ℕ → List ℕ → Copied
@@ -307,7 +308,7 @@ rebuiltSet r lengths =
       buckets = r .«bucket_count»;
       «filter_words» = r .«filter_words»;
       segments = retained (r .kept) + cond (addsSegment r) 1 0;
-      filled = filledIn r;
+      filled = rebuildFilled r;
       «record_bytes» = sumOf (retained (r .kept)) lengths + r .«copied_bytes»;
       «logical_key_bytes» = r .«logical_key_bytes»;
       «logical_value_bytes» = r .«logical_value_bytes»;

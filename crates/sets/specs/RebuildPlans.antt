@@ -6,10 +6,11 @@ use lib.Dec.{eqb, leb, ltb}
 use Rattle.hash_parts.specs.Error.{errorNumber}
 use Rattle.hash_parts.specs.declared.duration.Lifetime.{Lifetime}
 use Rattle.index.specs.Build.{emptySlot}
+use Rattle.index.specs.Segments.{mostSegments}
 use Rattle.sets.specs.Answers.{Reply, accept, refuse}
 use Rattle.sets.specs.Kept.{retained}
 use Rattle.sets.specs.Questions.{decided, firstNo}
-use Rattle.sets.specs.Rebuild.{askCopied, askReused, copiedDeadline, copiedSize, filledIn}
+use Rattle.sets.specs.Rebuild.{askCopied, askReused, copiedDeadline, copiedSize, rebuildFilled}
 use Rattle.sets.specs.declared.rebuild.SegmentRecordLocation.{SegmentRecordLocation}
 use Rattle.sets.specs.declared.rebuild.SharedSegmentCacheBuilder.{SharedSegmentCacheBuilder}
 use Rattle.sets.specs.declared.rebuild_questions.SlotPlan.{SlotPlan}
@@ -30,8 +31,8 @@ planReused r h key value source index filter starts lengths arena =
 -- the last questions of a copied push: room in the arena, a segment, and a slot
 unfoldable pub askRoom : SharedSegmentCacheBuilder → ℕ → ℕ → ℕ → List ℕ → ℕ → List (Bool × ℕ)
 askRoom r h key value index arena =
-    (leb (filledIn r + copiedSize r key value) arena, 10)
-    ∷ (ltb (retained (r .kept)) 256, 7)
+    (leb (rebuildFilled r + copiedSize r key value) arena, 10)
+    ∷ (ltb (retained (r .kept)) mostSegments, 7)
     ∷ (eqb (emptySlot index (r .«bucket_count») h .number) 0, emptySlot index (r .«bucket_count») h .number)
     ∷ []
 

@@ -12,6 +12,7 @@ use index::word::BUCKET_SLOTS;
 ghost use mathlib.Core.Bool.{cond};
 ghost use mathlib.Core.Path.{_≡_};
 ghost use Prim.Native.Nat.{_≤_};
+ghost use Rattle.sets.specs.Questions.{mostRecords};
 ghost use Rattle.sets.specs.Areas.{areaWordsFor, areaWordsReply, wordsNeeded};
 
 // Words of 64 bits.
@@ -50,7 +51,7 @@ pub fn area_words(config: SegmentCacheConfig, entry_count: usize) -> AreaWordsAn
 }
 
 fn words_needed(config: SegmentCacheConfig, entry_count: usize) -> AreaWords
-    requires { ⌜ («entry_count» ≤ 1048576) × (config .«target_occupied_slots» ≤ 7) ⌝ }
+    requires { ⌜ («entry_count» ≤ mostRecords) × (config .«target_occupied_slots» ≤ 7) ⌝ }
     ensures { λ r. ⌜ r ≡ wordsNeeded config «entry_count» ⌝ }
 {
     let buckets = bucket_count(entry_count, config.target_occupied_slots);

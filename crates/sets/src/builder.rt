@@ -24,6 +24,7 @@ ghost use Prim.Native.Nat.{_+_, _*_, _<_, _≤_, _^_};
 ghost use lib.ListN.{length};
 ghost use Rattle.index.specs.Packed.{packedIndex, packedScratch};
 ghost use Rattle.records.specs.Record.{encodedSize, sizeOutcome};
+ghost use Rattle.sets.specs.Questions.{mostArenaBytes, mostRecords};
 ghost use Rattle.sets.specs.Build.{afterFinish, afterOpen, afterPush, builderGrown, builderOpened, finishResult, openResult, pushEnd, pushMade, pushResult, setOf};
 
 pub struct SegmentCacheBuilder {
@@ -201,7 +202,7 @@ impl SegmentCacheBuilder {
         filter: &mut [u64],
         arena: &mut [u8],
     ) -> PushAnswer
-        requires { ⌜ (pushEnd self (length (now key)) (length (now value)) ≤ length (now arena)) × (length (now arena) ≤ 2 ^ 30) × (slot < length (now index)) × (self .«inserted_entries» < self .«expected_entries») × (self .«logical_key_bytes» ≤ 2 ^ 50) × (self .«logical_value_bytes» ≤ 2 ^ 50) ⌝ }
+        requires { ⌜ (pushEnd self (length (now key)) (length (now value)) ≤ length (now arena)) × (length (now arena) ≤ mostArenaBytes) × (slot < length (now index)) × (self .«inserted_entries» < self .«expected_entries») × (self .«logical_key_bytes» ≤ 2 ^ 50) × (self .«logical_value_bytes» ≤ 2 ^ 50) ⌝ }
         ensures { λ r. ⌜ pushResult r (now (index .exit)) (now (filter .exit)) (now (arena .exit)) ≡ pushMade slot «expires_at» self hash (now (key .entry)) (now (value .entry)) (now (index .entry)) (now (filter .entry)) (now (arena .entry)) ⌝ }
     {
         let filled = self.filled;
@@ -219,7 +220,7 @@ impl SegmentCacheBuilder {
 
     // The state with one record more.
     fn grown(mut self, size: usize, key_bytes: usize, value_bytes: usize) -> Self
-        requires { ⌜ (self .«inserted_entries» < self .«expected_entries») × (self .filled + size ≤ 2 ^ 30) × (self .«logical_key_bytes» ≤ 2 ^ 50) × (self .«logical_value_bytes» ≤ 2 ^ 50) × («key_bytes» + «value_bytes» ≤ size) ⌝ }
+        requires { ⌜ (self .«inserted_entries» < self .«expected_entries») × (self .filled + size ≤ mostArenaBytes) × (self .«logical_key_bytes» ≤ 2 ^ 50) × (self .«logical_value_bytes» ≤ 2 ^ 50) × («key_bytes» + «value_bytes» ≤ size) ⌝ }
         ensures { λ r. ⌜ r ≡ builderGrown self size «key_bytes» «value_bytes» ⌝ }
     {
         self.inserted_entries += 1;
@@ -251,7 +252,7 @@ impl SegmentCacheBuilder {
 }
 
 fn opened_builder(config: SegmentCacheConfig, entry_count: usize) -> SegmentCacheBuilder
-    requires { ⌜ «entry_count» ≤ 1048576 ⌝ }
+    requires { ⌜ «entry_count» ≤ mostRecords ⌝ }
     ensures { λ r. ⌜ r ≡ builderOpened config «entry_count» ⌝ }
 {
     SegmentCacheBuilder {

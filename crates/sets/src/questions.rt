@@ -16,7 +16,7 @@ ghost use Prim.Native.Nat.{_*_, _^_, _≤_};
 ghost use lib.Dec.{leb};
 ghost use Rattle.hash_parts.specs.Duration.{ceilDiv};
 ghost use Rattle.records.specs.Record.{recordSize};
-ghost use Rattle.sets.specs.Questions.{arenaHolds, askOpen, checkNumber, countsFit, deadlineRefusal, firstNo, lifetimeFits, nanosecondsFit, occupancyFits, openAreasHold, scratchHolds, segmentAreasHold, settingFits, targetFits, tickRuns};
+ghost use Rattle.sets.specs.Questions.{arenaHolds, askOpen, checkNumber, countsFit, deadlineRefusal, firstNo, lifetimeFits, mostRecords, nanosecondsFit, occupancyFits, openAreasHold, scratchHolds, segmentAreasHold, settingFits, targetFits, tickRuns};
 
 pub(crate) const MAX_RECORDS: usize = 1_048_576;
 
@@ -93,7 +93,7 @@ fn setting_fits(config: SegmentCacheConfig) -> bool
 
 // Filter words for so many records.
 pub(crate) fn filter_words_for(records: usize, bits: u8) -> usize
-    requires { ⌜ records ≤ 1048576 ⌝ }
+    requires { ⌜ records ≤ mostRecords ⌝ }
     ensures { λ r. ⌜ r ≡ ceilDiv (records * bits) 64 ⌝ }
 {
     negative_filter_words(records as u32, bits)
@@ -122,7 +122,7 @@ pub(crate) fn counts_fit(
 
 // Whether so many bytes of keys, of values or of headers can belong to so many records.
 pub(crate) fn bytes_fit(records: usize, bytes: usize) -> bool
-    requires { ⌜ records ≤ 1048576 ⌝ }
+    requires { ⌜ records ≤ mostRecords ⌝ }
     ensures { λ r. ⌜ r ≡ leb bytes (records * 2 ^ 30) ⌝ }
 {
     bytes <= records * MAX_ARENA_BYTES
@@ -209,7 +209,7 @@ pub(crate) fn open_areas_hold(
     index_len: usize,
     filter_len: usize,
 ) -> bool
-    requires { ⌜ «entry_count» ≤ 1048576 ⌝ }
+    requires { ⌜ «entry_count» ≤ mostRecords ⌝ }
     ensures { λ r. ⌜ r ≡ openAreasHold config «entry_count» «index_len» «filter_len» ⌝ }
 {
     if index_len / BUCKET_SLOTS < bucket_count(entry_count, config.target_occupied_slots) {

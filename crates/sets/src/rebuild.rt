@@ -10,7 +10,6 @@ use crate::questions::filter_words_for;
 use crate::rebuild_questions::SEGMENT_BYTES;
 use crate::rebuild_questions::SlotPlan;
 use crate::rebuild_questions::check_rebuild_open;
-use crate::stats::wrapping_sum;
 use hash_parts::duration::Lifetime;
 use hash_parts::error::SegmentCacheBuildError;
 use hash_parts::hash::hash_tag;
@@ -27,11 +26,13 @@ ghost use mathlib.Core.Bool.{true};
 ghost use Prim.Native.Nat.{_+_, _*_, _/_, _<_, _≤_, _^_};
 ghost use lib.ListN.{length, set};
 ghost use Rattle.hash_parts.specs.Hash.{tagOf};
+ghost use Rattle.records.specs.Area.{over};
 ghost use Rattle.index.specs.Filter.{displacedMarked};
-ghost use Rattle.index.specs.Segments.{padded, replaced};
-ghost use Rattle.index.specs.Word.{wordOf};
+ghost use Rattle.index.specs.Segments.{mostSegments, padded};
+ghost use Rattle.index.specs.Word.{segmentPart, wordOf};
+ghost use Rattle.sets.specs.Questions.{mostArenaBytes, mostRecords};
 ghost use Rattle.sets.specs.Kept.{chosen, isKept, retained};
-ghost use Rattle.sets.specs.Rebuild.{afterCopied, afterRebuildFinish, afterRebuildOpen, afterReused, copiedGrown, copiedMade, copiedResult, copiedSize, filledIn, rebuildFinishResult, rebuildOpenResult, rebuildOpened, reusedGrown, reusedMade, reusedResult};
+ghost use Rattle.sets.specs.Rebuild.{afterCopied, afterRebuildFinish, afterRebuildOpen, afterReused, copiedGrown, copiedMade, copiedResult, copiedSize, rebuildFilled, rebuildFinishResult, rebuildOpenResult, rebuildOpened, reusedGrown, reusedMade, reusedResult};
 
 // Where a record stands in the source, and how many bytes precede its key.
 pub struct SegmentRecordLocation {
@@ -251,7 +252,7 @@ impl SharedSegmentCacheBuilder {
         index: &mut [u64],
         filter: &mut [u64],
     ) -> RebuildPushAnswer
-        requires { ⌜ (isKept (self .kept) (source .location / 2 ^ 32) ≡ true) × (slot < length (now index)) × (self .«inserted_entries» < self .«expected_entries») × (self .«logical_key_bytes» + «key_bytes» < 2 ^ 64) × (self .«logical_value_bytes» + «value_bytes» < 2 ^ 64) × (self .«record_header_bytes» + source .«header_bytes» < 2 ^ 64) ⌝ }
+        requires { ⌜ (isKept (self .kept) (segmentPart (source .location)) ≡ true) × (slot < length (now index)) × (self .«inserted_entries» < self .«expected_entries») × (self .«logical_key_bytes» + «key_bytes» < 2 ^ 64) × (self .«logical_value_bytes» + «value_bytes» < 2 ^ 64) × (self .«record_header_bytes» + source .«header_bytes» < 2 ^ 64) ⌝ }
         ensures { λ r. ⌜ reusedResult r (now (index .exit)) (now (filter .exit)) ≡ reusedMade slot self hash «key_bytes» «value_bytes» source (now (index .entry)) (now (filter .entry)) ⌝ }
     {
         let location = self.moved_location(source.location);
@@ -275,7 +276,7 @@ impl SharedSegmentCacheBuilder {
         filter: &mut [u64],
         arena: &mut [u8],
     ) -> RebuildPushAnswer
-        requires { ⌜ (filledIn self + copiedSize self (length (now key)) (length (now value)) ≤ length (now arena)) × (length (now arena) ≤ 2 ^ 30) × (retained (self .kept) < 256) × (slot < length (now index)) × (self .«inserted_entries» < self .«expected_entries») × (self .«logical_key_bytes» ≤ 2 ^ 50) × (self .«logical_value_bytes» ≤ 2 ^ 50) × (self .«record_header_bytes» ≤ 2 ^ 50) ⌝ }
+        requires { ⌜ (rebuildFilled self + copiedSize self (length (now key)) (length (now value)) ≤ length (now arena)) × (length (now arena) ≤ mostArenaBytes) × (retained (self .kept) < mostSegments) × (slot < length (now index)) × (self .«inserted_entries» < self .«expected_entries») × (self .«logical_key_bytes» ≤ 2 ^ 50) × (self .«logical_value_bytes» ≤ 2 ^ 50) × (self .«record_header_bytes» ≤ 2 ^ 50) ⌝ }
         ensures { λ r. ⌜ copiedResult r (now (index .exit)) (now (filter .exit)) (now (arena .exit)) ≡ copiedMade slot «expires_at» self hash (now (key .entry)) (now (value .entry)) (now (index .entry)) (now (filter .entry)) (now (arena .entry)) ⌝ }
     {
         let filled = self.source_filled + self.copied_bytes;
@@ -314,14 +315,14 @@ impl SharedSegmentCacheBuilder {
         requires { ⌜ (self .«inserted_entries» < self .«expected_entries») × (self .«logical_key_bytes» + «key_bytes» < 2 ^ 64) × (self .«logical_value_bytes» + «value_bytes» < 2 ^ 64) × (self .«record_header_bytes» + «header_bytes» < 2 ^ 64) ⌝ }
         ensures { λ r. ⌜ r ≡ reusedGrown self «header_bytes» «key_bytes» «value_bytes» ⌝ }
     {
-        let with_header = wrapping_sum(self.reused_record_bytes, header_bytes);
-        let with_key = wrapping_sum(with_header, key_bytes);
+        let with_header = std::num::wrapping_add_usize(self.reused_record_bytes, header_bytes);
+        let with_key = std::num::wrapping_add_usize(with_header, key_bytes);
         self.inserted_entries += 1;
         self.logical_key_bytes += key_bytes;
         self.logical_value_bytes += value_bytes;
         self.record_header_bytes += header_bytes;
-        self.reused_entries = wrapping_sum(self.reused_entries, 1);
-        self.reused_record_bytes = wrapping_sum(with_key, value_bytes);
+        self.reused_entries = std::num::wrapping_add_usize(self.reused_entries, 1);
+        self.reused_record_bytes = std::num::wrapping_add_usize(with_key, value_bytes);
         self
     }
 
@@ -345,7 +346,7 @@ fn opened_rebuild(
     used_source_segments: &[u8],
     source_now_tick: u64,
 ) -> SharedSegmentCacheBuilder
-    requires { ⌜ «entry_count» ≤ 1048576 ⌝ }
+    requires { ⌜ «entry_count» ≤ mostRecords ⌝ }
     ensures { λ r. ⌜ r ≡ rebuildOpened source «entry_count» (now («used_source_segments» .entry)) «source_now_tick» ⌝ }
 {
     let config = source.config;
@@ -370,8 +371,8 @@ fn opened_rebuild(
 
 // The kept words of a source's segment area in a new one, and 0 in the rest of its 256.
 fn keep_words(flags: &[u8], words: &[u64], area: &mut [u64])
-    requires { ⌜ (length (now flags) ≤ length (now words)) × (length (now flags) ≤ 256) × (256 ≤ length (now area)) ⌝ }
-    ensures { λ r. ⌜ now (area .exit) ≡ replaced (padded (chosen (now (flags .entry)) (now (words .entry)))) (now (area .entry)) ⌝ }
+    requires { ⌜ (length (now flags) ≤ length (now words)) × (length (now flags) ≤ mostSegments) × (mostSegments ≤ length (now area)) ⌝ }
+    ensures { λ r. ⌜ now (area .exit) ≡ over (padded (chosen (now (flags .entry)) (now (words .entry)))) (now (area .entry)) ⌝ }
 {
     clear_words(area, MAX_RECORD_SEGMENTS);
     copy_kept(flags, words, area);

@@ -9,9 +9,10 @@ ghost use mathlib.Core.Path.{_≡_};
 ghost use mathlib.Core.Bool.{true, cond};
 ghost use Prim.Native.Nat.{_+_, _<_, _≤_, _^_};
 ghost use lib.ListN.{length};
+ghost use Rattle.index.specs.Segments.{mostSegments};
 ghost use Rattle.sets.specs.Kept.{retained};
-ghost use Rattle.sets.specs.Questions.{checkNumber, countsFit, firstNo};
-ghost use Rattle.sets.specs.Rebuild.{addsSegment, askRebuildFinish, buildOf, filledIn, rebuiltSet, sumOf, withLast};
+ghost use Rattle.sets.specs.Questions.{checkNumber, countsFit, firstNo, mostArenaBytes};
+ghost use Rattle.sets.specs.Rebuild.{addsSegment, askRebuildFinish, buildOf, rebuildFilled, rebuiltSet, sumOf, withLast};
 
 impl SharedSegmentCacheBuilder {
     // The questions of finish.
@@ -50,7 +51,7 @@ impl SharedSegmentCacheBuilder {
 
     // The start and the length of the segment of the copied records, where there is one.
     pub(crate) fn add_segment(self, starts: &mut [u64], lengths: &mut [u64])
-        requires { ⌜ (256 ≤ length (now starts)) × (256 ≤ length (now lengths)) × (retained (self .kept) + cond (addsSegment self) 1 0 ≤ 256) ⌝ }
+        requires { ⌜ (mostSegments ≤ length (now starts)) × (mostSegments ≤ length (now lengths)) × (retained (self .kept) + cond (addsSegment self) 1 0 ≤ mostSegments) ⌝ }
         ensures { λ r. ⌜ (now (starts .exit) ≡ withLast self (now (starts .entry)) (self .«source_filled»)) × (now (lengths .exit) ≡ withLast self (now (lengths .entry)) (self .«copied_bytes»)) ⌝ }
     {
         if self.adds_segment() {
@@ -63,7 +64,7 @@ impl SharedSegmentCacheBuilder {
 
     // The finished set, and what it took.
     pub(crate) fn into_build(self, lengths: &[u64]) -> SharedSegmentCacheBuild
-        requires { ⌜ (retained (self .kept) ≤ length (now lengths)) × (sumOf (retained (self .kept)) (now lengths) ≤ 2 ^ 38) × (filledIn self ≤ 2 ^ 30) × (countsFit (self .config) (self .«expected_entries») (self .«bucket_count») (self .«filter_words») ≡ true) ⌝ }
+        requires { ⌜ (retained (self .kept) ≤ length (now lengths)) × (sumOf (retained (self .kept)) (now lengths) ≤ 2 ^ 38) × (rebuildFilled self ≤ mostArenaBytes) × (countsFit (self .config) (self .«expected_entries») (self .«bucket_count») (self .«filter_words») ≡ true) ⌝ }
         ensures { λ r. ⌜ r ≡ buildOf self (now (lengths .entry)) ⌝ }
     {
         let index_bytes = self.bucket_count * 64 + self.filter_words * 8;
@@ -77,7 +78,7 @@ impl SharedSegmentCacheBuilder {
     }
 
     fn into_cache(self, lengths: &[u64]) -> FrozenSegmentCache
-        requires { ⌜ (retained (self .kept) ≤ length (now lengths)) × (sumOf (retained (self .kept)) (now lengths) ≤ 2 ^ 38) × (filledIn self ≤ 2 ^ 30) ⌝ }
+        requires { ⌜ (retained (self .kept) ≤ length (now lengths)) × (sumOf (retained (self .kept)) (now lengths) ≤ 2 ^ 38) × (rebuildFilled self ≤ mostArenaBytes) ⌝ }
         ensures { λ r. ⌜ r ≡ rebuiltSet self (now (lengths .entry)) ⌝ }
     {
         let config = self.config;

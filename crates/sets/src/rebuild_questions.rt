@@ -35,14 +35,15 @@ ghost use Prim.Native.Nat.{_+_, _*_, _/_, _^_, _<_, _≤_};
 ghost use lib.ListN.{length};
 ghost use Rattle.records.specs.declared.record.RecordAnswer.the-variants as readings;
 ghost use Rattle.index.specs.View.{recordIn};
+ghost use Rattle.index.specs.Word.{segmentPart};
 ghost use Rattle.sets.specs.BuildPlans.{planned};
 ghost use Rattle.sets.specs.Kept.{isKept};
 ghost use Rattle.sets.specs.Questions.{arenaHolds, checkNumber, firstNo};
-ghost use Rattle.sets.specs.Rebuild.{areasHoldRebuild, areasHoldSource, askRebuildOpen, filledIn, holdsRecord, keptView, movedLocation, rebuildFits, segmentFor, segmentsInside};
+ghost use Rattle.sets.specs.Rebuild.{areasHoldRebuild, areasHoldSource, askRebuildOpen, rebuildFilled, holdsRecord, keptView, movedLocation, rebuildFits, segmentFor, segmentsInside};
 ghost use Rattle.sets.specs.RebuildPlans.{planCopied, planReused, planRoom, slotPlanned};
 
-// A location is its segment's number times so many, and an offset.
-pub(crate) const SEGMENT_BYTES: usize = 0x1_0000_0000;
+// Locations in records and states are a usize.
+pub(crate) const SEGMENT_BYTES: usize = index::word::SEGMENT_BYTES as usize;
 
 // Where a reused push will put its word.
 pub(crate) enum SlotPlan {
@@ -156,7 +157,7 @@ impl SharedSegmentCacheBuilder {
         lengths: &[u64],
         arena: &[u8],
     ) -> bool
-        requires { ⌜ (isKept (self .kept) (source .location / 2 ^ 32) ≡ true) × (filledIn self < 2 ^ 64) ⌝ }
+        requires { ⌜ (isKept (self .kept) (segmentPart (source .location)) ≡ true) × (rebuildFilled self < 2 ^ 64) ⌝ }
         ensures { λ r. ⌜ r ≡ holdsRecord (now (key .entry)) (now (value .entry)) (source .«header_bytes») (now (arena .entry)) (recordIn (keptView self) (now (arena .entry)) (now (starts .entry)) (now (lengths .entry)) (movedLocation self (source .location) + 1)) ⌝ }
     {
         let stored = self.moved_location(source.location) as u64 + 1;
@@ -169,7 +170,7 @@ impl SharedSegmentCacheBuilder {
 
     // What a reader must know of the kept segments.
     fn view(self) -> SegmentView
-        requires { ⌜ filledIn self < 2 ^ 64 ⌝ }
+        requires { ⌜ rebuildFilled self < 2 ^ 64 ⌝ }
         ensures { λ r. ⌜ r ≡ keptView self ⌝ }
     {
         let config = self.config;
@@ -184,7 +185,7 @@ impl SharedSegmentCacheBuilder {
 
     // A location of the source, with its segment numbered anew.
     pub(crate) fn moved_location(self, location: usize) -> usize
-        requires { ⌜ isKept (self .kept) (location / 2 ^ 32) ≡ true ⌝ }
+        requires { ⌜ isKept (self .kept) (segmentPart location) ≡ true ⌝ }
         ensures { λ r. ⌜ r ≡ movedLocation self location ⌝ }
     {
         let kept = self.kept;
@@ -238,7 +239,7 @@ impl SharedSegmentCacheBuilder {
         index: &[u64],
         arena_len: usize,
     ) -> PushPlan
-        requires { ⌜ (filledIn self ≤ «arena_len») ⌝ }
+        requires { ⌜ (rebuildFilled self ≤ «arena_len») ⌝ }
         ensures { λ r. ⌜ planned r ≡ planRoom self «expires_at» hash «key_bytes» «value_bytes» (now (index .entry)) «arena_len» ⌝ }
     {
         let config = self.config;

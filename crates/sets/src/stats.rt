@@ -24,7 +24,7 @@ impl SegmentCacheStats {
     pub fn modeled_retained_bytes(self) -> usize
         ensures { λ r. ⌜ r ≡ (self .«index_bytes» + self .«record_bytes») % 2 ^ 64 ⌝ }
     {
-        wrapping_sum(self.index_bytes, self.record_bytes)
+        std::num::wrapping_add_usize(self.index_bytes, self.record_bytes)
     }
 
     // What is retained beyond keys and values.
@@ -32,7 +32,10 @@ impl SegmentCacheStats {
         ensures { λ r. ⌜ r ≡ (self .«index_bytes» + self .«record_bytes») % 2 ^ 64 - (self .«logical_key_bytes» + self .«logical_value_bytes») % 2 ^ 64 ⌝ }
     {
         let retained = self.modeled_retained_bytes();
-        let logical = wrapping_sum(self.logical_key_bytes, self.logical_value_bytes);
+        let logical = std::num::wrapping_add_usize(
+            self.logical_key_bytes,
+            self.logical_value_bytes,
+        );
         if retained < logical {
             return 0;
         }
@@ -52,12 +55,6 @@ impl SegmentCacheStats {
         }
         basis_points as u16
     }
-}
-
-pub(crate) fn wrapping_sum(a: usize, b: usize) -> usize
-    ensures { λ r. ⌜ r ≡ (a + b) % 2 ^ 64 ⌝ }
-{
-    std::num::wrapping_add_u64(a as u64, b as u64) as usize
 }
 
 // At most the largest number.

@@ -1,9 +1,9 @@
 -- `clear_words` meets its contract: the words passed are 0, the others as they were. Assumes nothing.
 use mathlib.Core.Path.{_≡_, refl, _∙_}
 use mathlib.Core.List.{_++_}
-use Prim.Native.Nat.{_≤_, _-_}
+use Prim.Native.Nat.{ℕ, _≤_, _-_}
 use native.Mathlib.Omega.{arith}
-use lib.ListN.{length, drop, replicate, length-set}
+use lib.ListN.{length, drop, replicate, length-replicate, length-set}
 use borrow.Author.Tests.{le-leb, lt-leb}
 use borrow.Author.Fill.{fill-more}
 use Rattle.index.specs.Build.{cleared}
@@ -49,7 +49,7 @@ unfolding cleared
 returns-2 c =
     let l = c .before in
     let e : l .loop .i ≡ l .before .before .args .count = omega arith in
-    simp (le-leb _ _ (l .before .if1 .left)) (l .loop .inv .1 ∙ rw e)
+    simp (le-leb _ _ (l .before .if1 .left)) (l .loop .inv .1 ∙ rw (e, length-replicate {A = ℕ} (l .before .before .args .count) 0))
 
 pub clear-words-spec : {M : Type 1} → statement M
 clear-words-spec =

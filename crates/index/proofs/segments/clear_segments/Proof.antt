@@ -1,5 +1,5 @@
 -- `clear_segments` meets its contract: 256 words of 0 are no starts, padded. Assumes nothing.
-use mathlib.Core.Path.{refl, _∙_}
+use mathlib.Core.Path.{_∙_}
 use borrow.Author.Tests.{le-leb}
 use Rattle.index.specs.Build.{cleared}
 use Rattle.index.proofs.Filling.{padded-none}
@@ -15,7 +15,7 @@ same-length c = search needs
 
 returns : tie.Need-returns
 unfolding cleared
-returns c = c .before .before .clear-words .ensures ∙ simp (le-leb _ _ (c .before .before .before .before .before .pre)) (padded-none 256 (c .before .before .before .before .before .args .area .now) refl)
+returns c = c .before .before .clear-words .ensures ∙ simp (le-leb _ _ (c .before .before .before .before .before .pre)) (padded-none (c .before .before .before .before .before .args .area .now))
 
 pub clear-segments-spec : {M : Type 1} → statement M
 clear-segments-spec = tie.close (tie.spec clear-words-requires same-length returns)

@@ -5,7 +5,7 @@ use Prim.Native.Nat.{ℕ, _+_, _-_, _≤_}
 use native.Mathlib.Omega.{arith}
 use lib.ListN.{length, take, drop, getD, set, length-set}
 use Rattle.index.specs.Segments.{lengthsOf}
-use Rattle.index.proofs.Filling.{Filling, filling-none, filling-length, filling-next, filling-end, replaced-cleared, replaced-length}
+use Rattle.index.proofs.Filling.{Filling, filling-none, filling-length, filling-next, filling-end, over-padded-cleared, over-padded-length}
 use Rattle.index.proofs.Splits.{start-above, lengths-next, lengths-last}
 use Rattle.index.proofs.segments.write_lengths.Statement.{statement}
 use Rattle.index.proofs.segments.write_lengths.Tie as tie
@@ -94,7 +94,7 @@ slice-write-lengths-2 c = omega (arith, filling-length (c .before .before .befor
 same-length : tie.Need-same-length Inv-loop μ-loop
 same-length c =
     let a = c .before .before .before .before .before .before .before .before .before .before .args in
-    let before = ap length (c .before .before .before .before .before .before .clear-segments .ensures) ∙ replaced-length [] (a .lengths .now) (omega arith) in
+    let before = ap length (c .before .before .before .before .before .before .clear-segments .ensures) ∙ over-padded-length [] (a .lengths .now) (omega arith) in
     simp length-set (omega (arith, filling-length (c .before .before .before .loop .inv .1)))
 
 returns : tie.Need-returns Inv-loop μ-loop
@@ -112,7 +112,7 @@ returns c =
     let f = filling-end (filling-next (a .filled - getD starts i 0) [] (l .loop .inv .1) left (omega arith)) refl in
     ap₂ (λ (k x : ℕ). set (l .loop .lengths) k x) last stored
     ∙ f .1
-    ∙ replaced-cleared whole (a .lengths .now) (cleared .last .0) (cleared .ensures)
+    ∙ over-padded-cleared whole (a .lengths .now) (cleared .last .0) (cleared .ensures)
 
 pub write-lengths-spec : {M : Type 1} → statement M
 write-lengths-spec =

@@ -6,7 +6,7 @@ use native.Mathlib.Omega.{arith}
 use lib.ListN.{length, take}
 use Rattle.index.specs.Segments.{startsOf}
 use Rattle.index.proofs.Starts.{startsFrom, starts-from, from-none, from-next, from-last}
-use Rattle.index.proofs.Filling.{Filling, filling-none, filling-length, filling-next, filling-end, filling-over, replaced-cleared, replaced-length}
+use Rattle.index.proofs.Filling.{Filling, filling-none, filling-length, filling-next, filling-end, filling-over, over-padded-cleared, over-padded-length}
 use Rattle.index.proofs.segments.write_starts.Statement.{statement}
 use Rattle.index.proofs.segments.write_starts.Tie as tie
 
@@ -35,7 +35,7 @@ add-result c = omega arith
 same-length : tie.Need-same-length Inv-loop μ-loop
 same-length c =
     let a = c .before .before .before .before .before .before .before .before .before .args in
-    let before = ap length (c .before .before .before .before .before .clear-segments .ensures) ∙ replaced-length [] (a .starts .now) (omega arith) in
+    let before = ap length (c .before .before .before .before .before .clear-segments .ensures) ∙ over-padded-length [] (a .starts .now) (omega arith) in
     omega (arith, filling-length (c .before .before .loop .inv .1))
 
 returns : tie.Need-returns Inv-loop μ-loop
@@ -47,7 +47,7 @@ returns c =
     let whole = startsOf words (a .filled) (a .target) in
     let last = from-last words (a .filled) (a .target) (256 - l .loop .count) (l .loop .next) (c .before .loop-test .taken) (omega arith) in
     let f = filling-over (l .loop .next) (l .loop .inv .1) last (c .if1 .taken) in
-    (f .0, f .1 ∙ replaced-cleared whole (a .starts .now) (cleared .last .0) (cleared .ensures))
+    (f .0, f .1 ∙ over-padded-cleared whole (a .starts .now) (cleared .last .0) (cleared .ensures))
 
 mul-starts : tie.Need-mul-starts Inv-loop μ-loop
 mul-starts c = omega (arith, filling-length (c .before .before .loop .inv .1))
@@ -79,7 +79,7 @@ loop-again c =
 same-length-2 : tie.Need-same-length-2 Inv-loop μ-loop
 same-length-2 c =
     let a = c .before .before .before .before .before .before .before .before .args in
-    let before = ap length (c .before .before .before .before .clear-segments .ensures) ∙ replaced-length [] (a .starts .now) (omega arith) in
+    let before = ap length (c .before .before .before .before .clear-segments .ensures) ∙ over-padded-length [] (a .starts .now) (omega arith) in
     omega (arith, filling-length (c .before .loop .inv .1))
 
 returns-2 : tie.Need-returns-2 Inv-loop μ-loop
@@ -90,7 +90,7 @@ returns-2 c =
     let cleared = c .before .before .before .before .clear-segments in
     let whole = startsOf words (a .filled) (a .target) in
     let f = filling-end (l .loop .inv .1) (from-none words (a .filled) (a .target) (256 - l .loop .count) (l .loop .next) (c .loop-test .left)) in
-    (f .0, f .1 ∙ replaced-cleared whole (a .starts .now) (cleared .last .0) (cleared .ensures))
+    (f .0, f .1 ∙ over-padded-cleared whole (a .starts .now) (cleared .last .0) (cleared .ensures))
 
 pub write-starts-spec : {M : Type 1} → statement M
 write-starts-spec =

@@ -5,7 +5,7 @@ use Rattle.sets.proofs.Said.{said-no, said-yes}
 use Prim.Native.Nat.{ℕ, _*_, _≤_, _<_}
 use native.Mathlib.Omega.{arith}
 use lib.ListN.{length}
-use Rattle.sets.specs.Rebuild.{areasHoldRebuild, filledIn, segmentsInside}
+use Rattle.sets.specs.Rebuild.{areasHoldRebuild, rebuildFilled, segmentsInside}
 use Rattle.sets.proofs.KeptBits.{retained-256}
 use Rattle.sets.proofs.RebuildSteps.{areas-256, arena-held}
 use borrow.Author.Needs.{needs}
@@ -64,7 +64,7 @@ add-segments-inside c =
     let a = c .before .before .before .before .before .before .before .before .before .before .before .before .args in
     let arena-holds-both = c .before .before .before .arena-holds-both in
     let if4 = c .before .before .if4 in
-    let held = arena-held (filledIn (a .self)) (a .arena-len) (said-yes (arena-holds-both .ensures) (if4 .left)) in
+    let held = arena-held (rebuildFilled (a .self)) (a .arena-len) (said-yes (arena-holds-both .ensures) (if4 .left)) in
     omega (arith, held .0, held .1)
 
 segments-inside-requires : tie.Need-segments-inside-requires
@@ -89,7 +89,7 @@ returns-5 c =
     let if4 = c .before .before .before .if4 in
     let long : 8 * a .self .«bucket_count» ≤ a .index-len = omega (arith, if2 .left) in
     rw (said-yes (fits2 .ensures) (if1 .left), le-leb _ _ long, said-yes (segment-areas-hold .ensures) (if3 .left), said-yes (arena-holds-both .ensures) (if4 .left))
-    (c .segments-inside .ensures ∙ ap (λ (n : ℕ). segmentsInside n (filledIn (a .self)) (a .starts .now) (a .lengths .now)) (c .before .retained .ensures))
+    (c .segments-inside .ensures ∙ ap (λ (n : ℕ). segmentsInside n (rebuildFilled (a .self)) (a .starts .now) (a .lengths .now)) (c .before .retained .ensures))
 
 pub areas-hold-spec : {M : Type 1} → statement M
 areas-hold-spec =

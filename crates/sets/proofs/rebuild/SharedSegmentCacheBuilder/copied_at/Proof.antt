@@ -7,7 +7,7 @@ use borrow.Author.Needs.{needs}
 use borrow.Rule.Slice.PartMut.{putMid}
 use Rattle.records.specs.Area.{pasted}
 use Rattle.records.specs.Record.{recordBytes}
-use Rattle.sets.specs.Rebuild.{copiedLocation, copiedSize, filledIn}
+use Rattle.sets.specs.Rebuild.{copiedLocation, copiedSize, rebuildFilled}
 use Rattle.sets.proofs.Appends.{appended-home, appended-size, size-holds}
 use Rattle.sets.proofs.RebuildSteps.{copied-left}
 use Rattle.sets.proofs.rebuild.SharedSegmentCacheBuilder.copied_at.Statement.{statement}
@@ -21,15 +21,15 @@ from c = c .before .before .before .before .before .before .before .before .befo
 size : (c : tie.After-append-record) → let a = from c .args in c .append-record .result ≡ copiedSize (a .self) (length (a .key .now)) (length (a .value .now))
 size c =
     let a = from c .args in
-    appended-size (a .self .config .expiry) (a .key .now) (a .value .now) (a .expires-at) (filledIn (a .self)) (a .arena .now) (from c .pre .0) (c .append-record .result)
+    appended-size (a .self .config .expiry) (a .key .now) (a .value .now) (a .expires-at) (rebuildFilled (a .self)) (a .arena .now) (from c .pre .0) (c .append-record .result)
     (c .append-record .ensures .0)
 
 home : (c : tie.After-append-record) → let a = from c .args in
-    putMid (filledIn (a .self)) (length (a .arena .now) - filledIn (a .self)) (a .arena .now) (c .append-record .last .0)
-    ≡ pasted (filledIn (a .self)) (recordBytes (a .self .config .expiry) (a .key .now) (a .value .now) (a .expires-at)) (a .arena .now)
+    putMid (rebuildFilled (a .self)) (length (a .arena .now) - rebuildFilled (a .self)) (a .arena .now) (c .append-record .last .0)
+    ≡ pasted (rebuildFilled (a .self)) (recordBytes (a .self .config .expiry) (a .key .now) (a .value .now) (a .expires-at)) (a .arena .now)
 home c =
     let a = from c .args in
-    appended-home (a .self .config .expiry) (a .key .now) (a .value .now) (a .expires-at) (filledIn (a .self)) (a .arena .now) (from c .pre .0) (c .append-record .last .0)
+    appended-home (a .self .config .expiry) (a .key .now) (a .value .now) (a .expires-at) (rebuildFilled (a .self)) (a .arena .now) (from c .pre .0) (c .append-record .last .0)
     (c .append-record .ensures .1)
 
 add-filled : tie.Need-add-filled

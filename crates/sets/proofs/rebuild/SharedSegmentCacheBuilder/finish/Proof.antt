@@ -5,7 +5,7 @@ use native.Mathlib.Omega.{arith}
 use lib.ListN.{length}
 use Rattle.sets.specs.Kept.{retained}
 use Rattle.sets.specs.Questions.{checkNumber}
-use Rattle.sets.specs.Rebuild.{afterRebuildFinish, filledIn}
+use Rattle.sets.specs.Rebuild.{afterRebuildFinish, rebuildFilled}
 use Rattle.sets.proofs.Decides.{decided-refused}
 use Rattle.sets.proofs.KeptBits.{retained-256}
 use Rattle.sets.proofs.RebuildAsked.{refinish-asked}
@@ -42,8 +42,8 @@ into-build-requires c κs =
     let q = refinish-asked (a .self) (length (a .index .now)) (a .starts .now) (a .lengths .now) (length (a .scratch .now)) (length (a .arena .now)) (sym (check-finish .ensures) ∙ ap checkNumber (c .before .enum-told .given .1)) in
     let n = q .areas .numbers in
     let few = retained-256 (a .self .kept) in
-    let short : filledIn (a .self) ≤ 2 ^ 30 = omega (arith, q .areas .filled-held, q .areas .arena-short) in
-    let sum = sum-inside (filledIn (a .self)) (a .starts .now) (a .lengths .now) (retained (a .self .kept)) short (q .areas .inside) in
+    let short : rebuildFilled (a .self) ≤ 2 ^ 30 = omega (arith, q .areas .filled-held, q .areas .arena-short) in
+    let sum = sum-inside (rebuildFilled (a .self)) (a .starts .now) (a .lengths .now) (retained (a .self .kept)) short (q .areas .inside) in
     (omega (arith, few, q .areas .lengths-hold), omega (arith, few, sum), short, n .counts)
 
 add-segment-requires : tie.Need-add-segment-requires

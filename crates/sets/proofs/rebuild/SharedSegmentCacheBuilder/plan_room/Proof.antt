@@ -5,7 +5,7 @@ use Rattle.sets.proofs.Said.{said-no, said-yes}
 use Prim.Native.Nat.{_≤_, _<_}
 use native.Mathlib.Omega.{arith}
 use Rattle.sets.specs.Kept.{retained}
-use Rattle.sets.specs.Rebuild.{copiedSize, filledIn}
+use Rattle.sets.specs.Rebuild.{copiedSize, rebuildFilled}
 use Rattle.sets.specs.RebuildPlans.{askRoom, planRoom}
 use Rattle.index.specs.Build.{slotOutcome}
 use Rattle.sets.proofs.Appends.{room}
@@ -26,7 +26,7 @@ returns : tie.Need-returns
 unfolding planRoom askRoom
 returns c =
     let a = c .before .before .before .before .before .args in
-    rw (room (filledIn (a .self)) (copiedSize (a .self) (a .key-bytes) (a .value-bytes)) (a .arena-len) (c .before .before .before .before .before .pre) ∙ said-no (c .before .record-fits .ensures) (c .if1 .taken))
+    rw (room (rebuildFilled (a .self)) (copiedSize (a .self) (a .key-bytes) (a .value-bytes)) (a .arena-len) (c .before .before .before .before .before .pre) ∙ said-no (c .before .record-fits .ensures) (c .if1 .taken))
 
 retained-requires : tie.Need-retained-requires
 retained-requires c κs = search needs
@@ -38,7 +38,7 @@ returns-2 c =
     let record-fits = c .before .before .before .before .record-fits in
     let if1 = c .before .before .before .if1 in
     let n : 256 ≤ retained (a .self .kept) = omega (arith, c .if2 .taken, c .before .retained .ensures) in
-    rw (room (filledIn (a .self)) (copiedSize (a .self) (a .key-bytes) (a .value-bytes)) (a .arena-len) (c .before .before .before .before .before .before .before .before .pre) ∙ said-yes (record-fits .ensures) (if1 .left), le-ltb _ _ n)
+    rw (room (rebuildFilled (a .self)) (copiedSize (a .self) (a .key-bytes) (a .value-bytes)) (a .arena-len) (c .before .before .before .before .before .before .before .before .pre) ∙ said-yes (record-fits .ensures) (if1 .left), le-ltb _ _ n)
 
 find-empty-build-slot-requires : tie.Need-find-empty-build-slot-requires
 find-empty-build-slot-requires c κs = search needs
@@ -62,7 +62,7 @@ returns-3 c =
     let if2 = c .before .before .before .if2 in
     let find-empty-build-slot = c .before .before .find-empty-build-slot in
     let n : retained (a .self .kept) < 256 = omega (arith, if2 .left, counted .ensures) in
-    rw (room (filledIn (a .self)) (copiedSize (a .self) (a .key-bytes) (a .value-bytes)) (a .arena-len) (c .before .before .before .before .before .before .before .before .before .before .before .pre) ∙ said-yes (record-fits .ensures) (if1 .left), lt-ltb _ _ n, sym (find-empty-build-slot .ensures) ∙ ap slotOutcome (c .enum-told .given .1))
+    rw (room (rebuildFilled (a .self)) (copiedSize (a .self) (a .key-bytes) (a .value-bytes)) (a .arena-len) (c .before .before .before .before .before .before .before .before .before .before .before .pre) ∙ said-yes (record-fits .ensures) (if1 .left), lt-ltb _ _ n, sym (find-empty-build-slot .ensures) ∙ ap slotOutcome (c .enum-told .given .1))
 
 returns-4 : tie.Need-returns-4
 unfolding planRoom askRoom
@@ -74,7 +74,7 @@ returns-4 c =
     let if2 = c .before .before .before .if2 in
     let find-empty-build-slot = c .before .before .find-empty-build-slot in
     let n : retained (a .self .kept) < 256 = omega (arith, if2 .left, counted .ensures) in
-    rw (room (filledIn (a .self)) (copiedSize (a .self) (a .key-bytes) (a .value-bytes)) (a .arena-len) (c .before .before .before .before .before .before .before .before .before .before .before .pre) ∙ said-yes (record-fits .ensures) (if1 .left), lt-ltb _ _ n, sym (find-empty-build-slot .ensures) ∙ ap slotOutcome (c .enum-told2 .given .1))
+    rw (room (rebuildFilled (a .self)) (copiedSize (a .self) (a .key-bytes) (a .value-bytes)) (a .arena-len) (c .before .before .before .before .before .before .before .before .before .before .before .pre) ∙ said-yes (record-fits .ensures) (if1 .left), lt-ltb _ _ n, sym (find-empty-build-slot .ensures) ∙ ap slotOutcome (c .enum-told2 .given .1))
 
 returns-5 : tie.Need-returns-5
 unfolding planRoom askRoom
@@ -86,7 +86,7 @@ returns-5 c =
     let if2 = c .before .before .before .before .if2 in
     let find-empty-build-slot = c .before .before .before .find-empty-build-slot in
     let n : retained (a .self .kept) < 256 = omega (arith, if2 .left, counted .ensures) in
-    rw (room (filledIn (a .self)) (copiedSize (a .self) (a .key-bytes) (a .value-bytes)) (a .arena-len) (c .before .before .before .before .before .before .before .before .before .before .before .before .pre) ∙ said-yes (record-fits .ensures) (if1 .left), lt-ltb _ _ n, sym (find-empty-build-slot .ensures) ∙ ap slotOutcome (c .before .slot .given .1))
+    rw (room (rebuildFilled (a .self)) (copiedSize (a .self) (a .key-bytes) (a .value-bytes)) (a .arena-len) (c .before .before .before .before .before .before .before .before .before .before .before .before .pre) ∙ said-yes (record-fits .ensures) (if1 .left), lt-ltb _ _ n, sym (find-empty-build-slot .ensures) ∙ ap slotOutcome (c .before .slot .given .1))
 
 pub plan-room-spec : {M : Type 1} → statement M
 plan-room-spec =

@@ -6,11 +6,11 @@ use borrow.Author.Needs.{needs}
 use Rattle.sets.proofs.rebuild.SharedSegmentCacheBuilder.reused_grown.Statement.{statement}
 use Rattle.sets.proofs.rebuild.SharedSegmentCacheBuilder.reused_grown.Tie as tie
 
-wrapping-sum-requires : tie.Need-wrapping-sum-requires
-wrapping-sum-requires c κs = search needs
+wrapping-add-usize-requires : tie.Need-wrapping-add-usize-requires
+wrapping-add-usize-requires c κs = search needs
 
-wrapping-sum-requires-2 : tie.Need-wrapping-sum-requires-2
-wrapping-sum-requires-2 c κs = search needs
+wrapping-add-usize-requires-2 : tie.Need-wrapping-add-usize-requires-2
+wrapping-add-usize-requires-2 c κs = search needs
 
 add-self : tie.Need-add-self
 add-self c = search needs
@@ -24,30 +24,30 @@ add-self-3 c = search needs
 add-self-4 : tie.Need-add-self-4
 add-self-4 c = search needs
 
-wrapping-sum-requires-3 : tie.Need-wrapping-sum-requires-3
-wrapping-sum-requires-3 c κs = search needs
+wrapping-add-usize-requires-3 : tie.Need-wrapping-add-usize-requires-3
+wrapping-add-usize-requires-3 c κs = search needs
 
-wrapping-sum-requires-4 : tie.Need-wrapping-sum-requires-4
-wrapping-sum-requires-4 c κs = search needs
+wrapping-add-usize-requires-4 : tie.Need-wrapping-add-usize-requires-4
+wrapping-add-usize-requires-4 c κs = search needs
 
 returns : tie.Need-returns
 returns c =
     let a = c .before .before .before .before .before .before .before .before .args in
-    let headed = c .before .before .before .before .before .before .before .wrapping-sum .ensures in
-    let keyed = c .before .before .before .before .before .before .wrapping-sum2 .ensures ∙ ap (λ (n : ℕ). (n + a .key-bytes) % 2 ^ 64) headed in
-    let summed = c .wrapping-sum4 .ensures ∙ ap (λ (n : ℕ). (n + a .value-bytes) % 2 ^ 64) keyed in
-    rw (c .before .wrapping-sum3 .ensures, summed ∙ wraps (a .self .«reused_record_bytes») (a .header-bytes) (a .key-bytes) (a .value-bytes))
+    let headed = c .before .before .before .before .before .before .before .wrapping-add-usize .ensures in
+    let keyed = c .before .before .before .before .before .before .wrapping-add-usize2 .ensures ∙ ap (λ (n : ℕ). (n + a .key-bytes) % 2 ^ 64) headed in
+    let summed = c .wrapping-add-usize4 .ensures ∙ ap (λ (n : ℕ). (n + a .value-bytes) % 2 ^ 64) keyed in
+    rw (c .before .wrapping-add-usize3 .ensures, summed ∙ wraps (a .self .«reused_record_bytes») (a .header-bytes) (a .key-bytes) (a .value-bytes))
 
 pub reused-grown-spec : {M : Type 1} → statement M
 reused-grown-spec =
     tie.close
     (tie.spec
-    wrapping-sum-requires
-    wrapping-sum-requires-2
+    wrapping-add-usize-requires
+    wrapping-add-usize-requires-2
     add-self
     add-self-2
     add-self-3
     add-self-4
-    wrapping-sum-requires-3
-    wrapping-sum-requires-4
+    wrapping-add-usize-requires-3
+    wrapping-add-usize-requires-4
     returns)

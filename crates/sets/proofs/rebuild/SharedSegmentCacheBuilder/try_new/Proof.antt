@@ -2,7 +2,8 @@
 use mathlib.Core.Path.{_≡_, sym, ap, _∙_}
 use native.Mathlib.Omega.{arith}
 use lib.ListN.{length}
-use Rattle.index.specs.Segments.{padded, replaced}
+use Rattle.records.specs.Area.{over}
+use Rattle.index.specs.Segments.{padded}
 use Rattle.sets.specs.Kept.{chosen}
 use Rattle.sets.specs.Questions.{bucketsIn, checkNumber}
 use Rattle.sets.specs.Rebuild.{afterRebuildOpen}
@@ -94,7 +95,7 @@ returns-2 c =
     let keep-words2 = c .before .before .keep-words2 in
     rw (sym (check-rebuild-open .ensures) ∙ ap checkNumber (enum-told .given .1))
     (reopen-left (a .source) (a .entry-count) (a .used-source-segments .now) (a .source-now-tick) (a .index .now) (a .filter .now) _ _
-    (replaced (padded (chosen (a .used-source-segments .now) (a .source-starts .now))) (a .starts .now)) (replaced (padded (chosen (a .used-source-segments .now) (a .source-lengths .now))) (a .lengths .now)) _ _ _
+    (over (padded (chosen (a .used-source-segments .now) (a .source-starts .now))) (a .starts .now)) (over (padded (chosen (a .used-source-segments .now) (a .source-lengths .now))) (a .lengths .now)) _ _ _
     (opened-rebuild .ensures) (clear-words .ensures) (clear-words2 .ensures) (keep-words .ensures) (keep-words2 .ensures))
 
 pub try-new-spec : {M : Type 1} → statement M
