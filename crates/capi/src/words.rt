@@ -1,5 +1,6 @@
-// Settings, states, lifetimes and statistics as lent words. Words of a wrong number, or that no
-// setting has, give nothing.
+// Settings, states, lifetimes and statistics as lent words. Words of a wrong number, a flag above 1
+// and filter bits above 255 give nothing; nanoseconds and an occupancy that are too wide are capped,
+// for their own questions to refuse.
 use hash_parts::duration::Duration;
 use hash_parts::duration::Lifetime;
 use hash_parts::setting::SegmentCacheConfig;

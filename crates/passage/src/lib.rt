@@ -1,5 +1,4 @@
-// The program passage: each line of its input is answered by a line of output, over areas that the
-// caller lends.
+// The program passage: each line of its input is answered by a line of output, over areas of its own.
 mod answer;
 pub mod program;
 mod stage;

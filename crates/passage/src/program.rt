@@ -45,9 +45,10 @@ struct Response {
     waiting: usize,
 }
 
-// Answers every line of standard input on standard output, with the areas that document 01 says; of
-// what is read no contract can speak, that of one line is fixed by answer_line. The block is longer
-// than a line may be, and out than a line of output; key and value have room for every line's bytes.
+// Answers every line of standard input on standard output, with the areas that document 01 says. What
+// one line does is fixed by answer_line; that the loop reads all lines and writes all answers is run,
+// not proved. The block is longer than a line may be, and out than a line of output; key and value
+// have room for every line's bytes.
 pub fn run() {
     let mut block = [0u8; 65536];
     let mut out = [0u8; 65536];

@@ -1,8 +1,8 @@
--- Laws of the lines of an input that is read in blocks. Assumes nothing.
+-- The lines of a whole input, and that reading it in blocks gives just these. Assumes nothing.
 use mathlib.Core.Path.{_≡_, refl, sym, ap, subst, _∙_}
 use mathlib.Core.Bool.{Bool, true, false, cond}
 use mathlib.Core.List.{List, [], _∷_, _++_, map, append-assoc, append-nil}
-use mathlib.Core.Option.{none, some}
+use mathlib.Core.Option.{Option, none, some}
 use Prim.Native.Nat.{ℕ, suc, _+_, _-_, _≤_, _<_}
 use native.Mathlib.Decide.{decLt}
 use native.Mathlib.Numerals.{add-one}
@@ -14,10 +14,53 @@ use lib.Seq.{drop-at, drop-cons, drop-drop, getD-append-add, getD-drop, getD-tak
 use Rattle.records.specs.Area.{over, part}
 use Rattle.records.proofs.Area.{Writing}
 use Rattle.passage_lines.specs.Bytes.{before, firstFrom}
-use Rattle.passage_lines.specs.Input.{linesFrom, limited, linesOf, input, unread, nextBefore, nextLine, keptUnread, afterFeed, linesLeft, linesBy, lastLine}
+use Rattle.passage_lines.specs.Input.{input, unread, nextBefore, nextLine, keptUnread}
 use Rattle.passage_lines.specs.declared.input.Input.{Input}
+use Rattle.passage_lines.specs.declared.input.NextLine.{NextLine}
 use Rattle.passage_lines.specs.declared.input.NextLine.the-variants.{Line, TooLong, Skipped, More}
 use Rattle.passage_lines.proofs.Search.{before-front}
+
+-- ---- the lines of a whole input
+
+-- the lines of what is left of an input, after so many bytes of a line; a line feed (10) ends a line, and a last line without one counts
+unfoldable pub linesFrom : List ℕ → List ℕ → List (List ℕ)
+linesFrom seen [] = cond (eqb (length seen) 0) [] (seen ∷ [])
+linesFrom seen (c ∷ s) =
+    let ended : List (List ℕ) = seen ∷ linesFrom [] s in
+    let longer : List (List ℕ) = linesFrom (seen ++ (c ∷ [])) s in
+    cond (eqb c 10) ended longer
+
+-- "A line [..] over 8,192 bytes [..] prints `bad`": only that it is there counts
+abbrev pub limited : List ℕ → Option (List ℕ)
+limited line = cond (ltb 8192 (length line)) none (some line)
+
+-- the lines of an input
+unfoldable pub linesOf : List ℕ → List (Option (List ℕ))
+linesOf s = map limited (linesFrom [] s)
+
+-- ---- the lines of the whole input, as its blocks give them
+
+-- what stands after the next line feed
+unfoldable pub afterFeed : List ℕ → List ℕ
+afterFeed [] = []
+afterFeed (c ∷ s) = cond (eqb c 10) s (afterFeed s)
+
+-- the lines that are left of an input; of a line that was too long the rest counts no more
+abbrev pub linesLeft : Bool → List ℕ → List (Option (List ℕ))
+linesLeft false s = linesOf s
+linesLeft true s = linesOf (afterFeed s)
+
+-- the lines that a block and the input after it have, by what stands next in the block
+abbrev pub linesBy : List ℕ → List ℕ → NextLine → List (Option (List ℕ))
+linesBy block later (Line from to i) = limited (part from (to - from) block) ∷ linesLeft (i .skipping) (unread block i ++ later)
+linesBy block later (TooLong i) = none ∷ linesLeft (i .skipping) (unread block i ++ later)
+linesBy block later (Skipped i) = linesLeft (i .skipping) (unread block i ++ later)
+linesBy block later (More i) = linesLeft (i .skipping) (unread block i ++ later)
+
+-- the line that is left where the input ends after a state that asked for more
+abbrev pub lastLine : Bool → List ℕ → List (Option (List ℕ))
+lastLine true s = []
+lastLine false s = cond (eqb (length s) 0) [] (some s ∷ [])
 
 -- ---- moving a part of an area to its front, a byte at a time
 

@@ -71,7 +71,7 @@ tickLength f = tickLengthOf (f .text)
 abbrev pub lifetime : Field → Option Lifetime
 lifetime f = lifetimeOf (f .text)
 
--- ---- the same from a position on, as a line is read
+-- ---- for private functions alone: the same from a position on, as a line is read
 
 -- the fields from a position on, none past the line's end
 unfoldable pub fieldsAt : List ℕ → ℕ → List Field

@@ -54,7 +54,8 @@ decodedTo area (some s) = cond (leb (length s) (length area)) (record { count = 
 unfoldable pub decoded : List ℕ → List ℕ → Decoded
 decoded text area = decodedTo area (bytesOfHex text)
 
--- the bytes of a text that spells some
+-- ---- for private functions alone: the bytes of a text that spells some
+
 abbrev pub bytesIn : Option (List ℕ) → List ℕ
 bytesIn none = []
 bytesIn (some s) = s

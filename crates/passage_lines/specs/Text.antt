@@ -44,10 +44,6 @@ unfoldable pub numberIn : ℕ → ℕ → List ℕ → Option ℕ
 numberIn base max [] = none
 numberIn base max (c ∷ s) = atMost max (spelled base 0 (c ∷ s))
 
-abbrev pub numberGiven : Number → Option ℕ
-numberGiven (given.Value n) = some n
-numberGiven given.Bad = none
-
 -- ---- durations
 
 abbrev pub timed : Option ℕ → Option ℕ → Option Duration
@@ -63,19 +59,11 @@ durationOf text =
     (timed (numberIn 10 (2 ^ 64 - 1) (take (length text - 10) text)) (numberIn 10 999_999_999 (drop (length text - 9) text)))
     none)
 
-abbrev pub durationGiven : DurationText → Option Duration
-durationGiven (duration.Of d) = some d
-durationGiven duration.Bad = none
-
 -- ---- layout, tick length and lifetime
 
 -- "Layout is `packed` or `words`": whether it is packed
 unfoldable pub layoutOf : List ℕ → Option Bool
 layoutOf text = cond (sameBytes text (ascii "packed")) (some true) (cond (sameBytes text (ascii "words")) (some false) none)
-
-abbrev pub layoutGiven : LayoutText → Option Bool
-layoutGiven (layout.Packed p) = some p
-layoutGiven layout.Bad = none
 
 abbrev pub ticksOf : Option Duration → Option SegmentExpiry
 ticksOf none = none
@@ -85,10 +73,6 @@ ticksOf (some tick) = some (expiry.Relative16 tick)
 unfoldable pub tickLengthOf : List ℕ → Option SegmentExpiry
 tickLengthOf text = cond (sameBytes text (ascii "none")) (some expiry.None) (ticksOf (durationOf text))
 
-abbrev pub tickLengthGiven : TickLength → Option SegmentExpiry
-tickLengthGiven (tick.Of e) = some e
-tickLengthGiven tick.Bad = none
-
 abbrev pub endingAfter : Option Duration → Option Lifetime
 endingAfter none = none
 endingAfter (some d) = some (life.For d)
@@ -96,6 +80,24 @@ endingAfter (some d) = some (life.For d)
 -- "lifetime `never`"
 unfoldable pub lifetimeOf : List ℕ → Option Lifetime
 lifetimeOf text = cond (sameBytes text (ascii "never")) (some life.Never) (endingAfter (durationOf text))
+
+-- ---- for private functions alone: what each of them answers
+
+abbrev pub numberGiven : Number → Option ℕ
+numberGiven (given.Value n) = some n
+numberGiven given.Bad = none
+
+abbrev pub durationGiven : DurationText → Option Duration
+durationGiven (duration.Of d) = some d
+durationGiven duration.Bad = none
+
+abbrev pub layoutGiven : LayoutText → Option Bool
+layoutGiven (layout.Packed p) = some p
+layoutGiven layout.Bad = none
+
+abbrev pub tickLengthGiven : TickLength → Option SegmentExpiry
+tickLengthGiven (tick.Of e) = some e
+tickLengthGiven tick.Bad = none
 
 abbrev pub lifetimeGiven : LifetimeText → Option Lifetime
 lifetimeGiven (lifetime.Of l) = some l

@@ -270,7 +270,7 @@ fn arguments() {
     // Flags are asked before the kept segments, and these before the new areas.
     announced(b"rebuild open, 256 kept of 255", 255, 7, 1, &keep[0..256]);
     announced(
-        b"rebuild open, 256 kept, too many records",
+        b"rebuild open, 256 kept and copies, new index too short",
         256,
         8,
         1,
