@@ -21,6 +21,7 @@ use index::segments::MAX_RECORD_SEGMENTS;
 use index::word::BUCKET_SLOTS;
 use index::word::encode_index_word;
 use records::record::append_record;
+use std::num::wrapping_add_usize;
 ghost use mathlib.Core.Path.{_≡_};
 ghost use mathlib.Core.Bool.{true};
 ghost use Prim.Native.Nat.{_+_, _*_, _/_, _<_, _≤_, _^_};
@@ -315,14 +316,14 @@ impl SharedSegmentCacheBuilder {
         requires { ⌜ (self .«inserted_entries» < self .«expected_entries») × (self .«logical_key_bytes» + «key_bytes» < 2 ^ 64) × (self .«logical_value_bytes» + «value_bytes» < 2 ^ 64) × (self .«record_header_bytes» + «header_bytes» < 2 ^ 64) ⌝ }
         ensures { λ r. ⌜ r ≡ reusedGrown self «header_bytes» «key_bytes» «value_bytes» ⌝ }
     {
-        let with_header = std::num::wrapping_add_usize(self.reused_record_bytes, header_bytes);
-        let with_key = std::num::wrapping_add_usize(with_header, key_bytes);
+        let with_header = wrapping_add_usize(self.reused_record_bytes, header_bytes);
+        let with_key = wrapping_add_usize(with_header, key_bytes);
         self.inserted_entries += 1;
         self.logical_key_bytes += key_bytes;
         self.logical_value_bytes += value_bytes;
         self.record_header_bytes += header_bytes;
-        self.reused_entries = std::num::wrapping_add_usize(self.reused_entries, 1);
-        self.reused_record_bytes = std::num::wrapping_add_usize(with_key, value_bytes);
+        self.reused_entries = wrapping_add_usize(self.reused_entries, 1);
+        self.reused_record_bytes = wrapping_add_usize(with_key, value_bytes);
         self
     }
 

@@ -1,4 +1,5 @@
 // What a set takes up.
+use std::num::wrapping_add_usize;
 ghost use mathlib.Core.Path.{_≡_};
 ghost use Prim.Native.Nat.{_+_, _-_, _*_, _%_, _^_, min};
 ghost use Rattle.sets.specs.Stats.{loadOf};
@@ -24,7 +25,7 @@ impl SegmentCacheStats {
     pub fn modeled_retained_bytes(self) -> usize
         ensures { λ r. ⌜ r ≡ (self .«index_bytes» + self .«record_bytes») % 2 ^ 64 ⌝ }
     {
-        std::num::wrapping_add_usize(self.index_bytes, self.record_bytes)
+        wrapping_add_usize(self.index_bytes, self.record_bytes)
     }
 
     // What is retained beyond keys and values.
@@ -32,10 +33,7 @@ impl SegmentCacheStats {
         ensures { λ r. ⌜ r ≡ (self .«index_bytes» + self .«record_bytes») % 2 ^ 64 - (self .«logical_key_bytes» + self .«logical_value_bytes») % 2 ^ 64 ⌝ }
     {
         let retained = self.modeled_retained_bytes();
-        let logical = std::num::wrapping_add_usize(
-            self.logical_key_bytes,
-            self.logical_value_bytes,
-        );
+        let logical = wrapping_add_usize(self.logical_key_bytes, self.logical_value_bytes);
         if retained < logical {
             return 0;
         }
