@@ -10,7 +10,7 @@ use Rattle.hash_parts.specs.declared.setting.SegmentCacheConfig.{SegmentCacheCo
 use Rattle.sets.specs.Answers.{getReply, takeReply, probeReply, walkReply, statsReply}
 use Rattle.sets.specs.Build.{Opened, openResult, afterOpen, Pushed, pushResult, afterPush, Finished, finishResult, afterFinish}
 use Rattle.sets.specs.Lookup.{Got, getResult, afterGet, afterPeek, Taken, takeResult, afterTake, probeAnswer, walkAnswer, statsAnswer}
-use Rattle.sets.specs.Rebuild.{RebuildOpened, rebuildOpenResult, afterRebuildOpen, Reused, reusedResult, afterReused, Copied, copiedResult, afterCopied, RebuildFinished, rebuildFinishResult, afterRebuildFinish}
+use Rattle.sets.specs.Rebuild.{rebuildOpenResult, afterRebuildOpen, reusedResult, afterReused, copiedResult, afterCopied, rebuildFinishResult, afterRebuildFinish}
 use Rattle.sets.specs.declared.builder.FinishAnswer.{FinishAnswer}
 use Rattle.sets.specs.declared.builder.FinishAnswer.the-variants as finishes
 use Rattle.sets.specs.declared.builder.OpenAnswer.{OpenAnswer}
@@ -18,7 +18,6 @@ use Rattle.sets.specs.declared.builder.OpenAnswer.the-variants as opens
 use Rattle.sets.specs.declared.builder.PushAnswer.{PushAnswer}
 use Rattle.sets.specs.declared.builder.PushAnswer.the-variants as pushes
 use Rattle.sets.specs.declared.builder.SegmentCacheBuilder.{SegmentCacheBuilder}
-use Rattle.sets.specs.declared.cache.FrozenSegmentCache.{FrozenSegmentCache}
 use Rattle.sets.specs.declared.cache.GetAnswer.{GetAnswer}
 use Rattle.sets.specs.declared.cache.GetAnswer.the-variants as gets
 use Rattle.sets.specs.declared.cache.ProbeAnswer.{ProbeAnswer}
@@ -37,7 +36,7 @@ use Rattle.sets.specs.declared.rebuild.RebuildPushAnswer.{RebuildPushAnswer}
 use Rattle.sets.specs.declared.rebuild.RebuildPushAnswer.the-variants as repushes
 use Rattle.sets.specs.declared.rebuild.SegmentRecordLocation.{SegmentRecordLocation}
 use Rattle.sets.specs.declared.rebuild.SharedSegmentCacheBuilder.{SharedSegmentCacheBuilder}
-use Rattle.book.specs.Calls.{opening, push, finish, lookup, peek, clear, probe, walk, stats, reopen, reuse, copy, refinish, Answer, newest}
+use Rattle.book.specs.Calls.{opening, push, finish, lookup, peek, clear, probe, walk, stats, reopen, reuse, copy, refinish}
 use Rattle.book.specs.Made.{areasOf, worldOf, left, Wherever, WhereNewest, openLeft, pushLeft, finishLeft, setLeft, getAccepted, getGives, takeAccepted, probeAccepted, walkAccepted, statsAccepted, reopenLeft, repushLeft, refinishLeft}
 use Rattle.book.specs.World.{Areas, building, rebuilding, FinishedSet, World, Step, isAccepted, openLeaves, openedOr, pushLeaves, finishLeaves, withIndex, setLeaves, lookupStep, peekStep, clearStep, probeStep, walkStep, statsStep, reopenLeaves, reopenStep, reuseLeaves, copyLeaves, refinishLeaves, step, answerOf, answerFrom, peekedFrom, answered}
 

@@ -18,7 +18,6 @@ use records::record::Span;
 use records::record::value_slice;
 ghost use mathlib.Core.Path.{_≡_};
 ghost use lib.ListN.{length};
-ghost use Rattle.records.specs.Area.{spanned};
 ghost use Rattle.passage_lines.specs.Hex.{bytesOfHex};
 ghost use Rattle.passage_lines.specs.Output.{appended, output};
 ghost use Rattle.passage.specs.Answer.{answeredBy, areas, getBytes, lineStep, putBytes, within};

@@ -5,7 +5,7 @@ use mathlib.Core.List.{List}
 use Prim.Native.Nat.{ℕ, _+_, _-_, _^_, _≤_}
 use native.Mathlib.Omega.{arith}
 use lib.Dec.{leb, ltb}
-use lib.ListN.{length, take, drop, set, length-append, length-take, length-drop}
+use lib.ListN.{length, take, drop, set, length-take, length-drop}
 use borrow.Author.Tests.{leb-true, leb-false, le-leb, lt-leb, ltb-false}
 use borrow.Rule.Slice.PartMut.{putMid}
 use Rattle.hash_parts.specs.Hash.{tagOf}
@@ -80,19 +80,6 @@ module _ (e : SegmentExpiry) (key value : List ℕ) (deadline filled : ℕ) (are
 
   pub appended-home : (out : List ℕ) → out ≡ written bytes (rest filled arena) .area → putMid filled (length arena - filled) arena out ≡ pasted filled bytes arena
   appended-home out q = part-home bytes arena out filled (q ∙ ap (λ (w : Written). w .area) appends)
-
--- the arena is as long as it was
-pub home-length : (s area out : List ℕ) (at : ℕ) → at + length s ≤ length area → out ≡ over s (rest at area) → length (putMid at (length area - at) area out) ≡ length area
-home-length s area out at fits e =
-    ap length (part-home s area out at e)
-    ∙ omega (
-      arith,
-      length-append (take at area) (over s (drop at area)),
-      length-append s (drop (length s) (drop at area)),
-      length-take at area,
-      length-drop (length s) (drop at area),
-      length-drop at area,
-    )
 
 -- ---- what a push leaves
 

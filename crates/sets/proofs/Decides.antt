@@ -1,11 +1,8 @@
 -- Where a call is refused, and where not. Assumes nothing.
-use mathlib.Core.Bool.{cond}
 use mathlib.Core.Path.{_≡_, refl, ap}
 use mathlib.Core.List.{List}
 use Prim.Native.Nat.{ℕ, zero, suc}
 use native.Mathlib.Omega.{arith}
-use lib.Dec.{eqb}
-use borrow.Author.Tests.{ne-eqb}
 use Rattle.hash_parts.specs.Error.{errorNumber}
 use Rattle.hash_parts.specs.declared.duration.Lifetime.{Lifetime}
 use Rattle.hash_parts.specs.declared.error.SegmentCacheBuildError.{SegmentCacheBuildError}
@@ -16,11 +13,6 @@ use Rattle.sets.specs.BuildPlans.{planPush}
 use Rattle.sets.specs.Questions.{decided, firstNo}
 use Rattle.sets.specs.declared.builder.SegmentCacheBuilder.{SegmentCacheBuilder}
 
--- a question that is answered no just where its number is not 0
-pub own-number : (n : ℕ) → cond (eqb n 0) 0 n ≡ n
-own-number zero = refl
-own-number (suc n) = rw (ne-eqb (suc n) 0 (λ (z : suc n ≡ 0). omega arith))
-
 module _ {A : Type 0} where
   -- a number that is not 0 refuses
   decided-pos : (n : ℕ) (x : A) (f : ℕ → A) → (n ≡ 0 → ⊥) → decided n x f ≡ f n
@@ -29,9 +21,6 @@ module _ {A : Type 0} where
 
   pub decided-refused : (e : SegmentCacheBuildError) (x : A) (f : ℕ → A) → decided (errorNumber e) x f ≡ f (errorNumber e)
   decided-refused e x f = decided-pos (errorNumber e) x f (λ (z : errorNumber e ≡ 0). omega (arith, refusal-pos e))
-
-  pub decided-own : (n : ℕ) (x : A) (f : ℕ → A) → decided (cond (eqb n 0) 0 n) x f ≡ decided n x f
-  decided-own n x f = ap (λ (m : ℕ). decided m x f) (own-number n)
 
   -- what holds of an accepted call and of every refusal holds of the call
   pub decided-either : (P : A → Type 0) (n : ℕ) (x : A) (f : ℕ → A) → P x → ((m : ℕ) → P (f m)) → P (decided n x f)

@@ -1,7 +1,7 @@
 -- Laws of the kept segments: of any state, of the words that flags choose, and of the state that flags make. Assumes nothing.
 use mathlib.Core.Path.{_≡_, refl, sym, ap, ap₂, _∙_}
 use mathlib.Core.Bool.{Bool, true, false, cond, not}
-use mathlib.Core.List.{List, [], _∷_, _++_, map}
+use mathlib.Core.List.{List, [], _∷_, _++_}
 use Prim.Native.Nat.{ℕ, zero, suc, _+_, _-_, _*_, _/_, _%_, _≤_, _<_}
 use native.Mathlib.Nat.{le-of-eq}
 use native.Mathlib.Omega.{arith}
@@ -129,16 +129,6 @@ unfolding flagBits
 no-bits zero = refl
 no-bits (suc n) = ap (λ (t : List Bool). false ∷ t) (no-bits n)
 
-all-bits : (n : ℕ) (l : List ℕ) → length l ≤ n → flagBits n l ≡ map (λ f. not (eqb f 0)) l ++ replicate (n - length l) false
-unfolding flagBits
-all-bits n [] h =
-    let e : n ≡ n - 0 = omega arith in
-    no-bits n ∙ ap (λ (x : ℕ). replicate x false) e
-all-bits zero (f ∷ l) h = absurd (omega arith)
-all-bits (suc n) (f ∷ l) h =
-    let e : n - length l ≡ suc n - suc (length l) = omega arith in
-    ap (λ (t : List Bool). not (eqb f 0) ∷ t) (all-bits n l (omega arith) ∙ ap (λ (x : ℕ). map (λ f. not (eqb f 0)) l ++ replicate x false) e)
-
 none-counted : (n g : ℕ) → countTrue (take g (flagBits n [])) ≡ 0
 unfolding flagBits
 none-counted n zero = refl
@@ -171,9 +161,6 @@ bit-set (suc n) (f ∷ l) zero h = refl
 bit-set (suc n) (f ∷ l) (suc g) h = bit-set n l g (omega arith)
 
 -- ---- the state that flags make
-
-pub kept-flags : (flags : List ℕ) → length flags ≤ 256 → keptFlags (keptOf flags) ≡ map (λ f. not (eqb f 0)) flags ++ replicate (256 - length flags) false
-kept-flags flags h = kept-bits flags ∙ all-bits 256 flags h
 
 pub number-kept : (flags : List ℕ) (g : ℕ) → length flags ≤ 256 → newNumber (keptOf flags) g ≡ keptCount (take g flags)
 unfolding newNumber

@@ -48,19 +48,6 @@ module _ (filled : ℕ) (starts lengths : List ℕ) where
   segments-pass (suc n) each =
       rw (segments-pass n (λ (g : ℕ) (h : g < n). each g (omega arith)), le-leb _ _ (each n (omega arith)))
 
--- areas that are the same in the first n words
-pub segments-same : (n filled : ℕ) (starts starts′ lengths lengths′ : List ℕ) → ((g : ℕ) → g < n → getD starts′ g 0 ≡ getD starts g 0)
-    → ((g : ℕ) → g < n → getD lengths′ g 0 ≡ getD lengths g 0)
-    → segmentsInside n filled starts′ lengths′ ≡ segmentsInside n filled starts lengths
-unfolding segmentsInside
-segments-same zero filled starts starts′ lengths lengths′ s l = refl
-segments-same (suc n) filled starts starts′ lengths lengths′ s l =
-    rw (
-      segments-same n filled starts starts′ lengths lengths′ (λ (g : ℕ) (h : g < n). s g (omega arith)) (λ (g : ℕ) (h : g < n). l g (omega arith)),
-      s n (omega arith),
-      l n (omega arith),
-    )
-
 -- ---- question 1 of a rebuild
 
 pub record RebuildFits (r : SharedSegmentCacheBuilder) : Type 0 where
@@ -175,18 +162,6 @@ module _ (s : FrozenSegmentCache) (starts lengths : List ℕ) (arena : ℕ) wher
         arena-short = leb-true _ _ (bytes .1);
         inside = segments-each (s .filled) starts lengths (s .segments) (a₃ .1);
       }
-
-  pub source-areas-pass : SourceHolds s starts lengths arena → areasHoldSource s starts lengths arena ≡ true
-  unfolding areasHoldSource segmentAreasHold arenaHolds
-  source-areas-pass f =
-      rw (
-        f .numbers,
-        le-leb _ _ (f .starts-hold),
-        le-leb _ _ (f .lengths-hold),
-        le-leb _ _ (f .filled-held),
-        le-leb _ _ (f .arena-short),
-        segments-pass (s .filled) starts lengths (s .segments) (f .inside),
-      )
 
 -- ---- rebuild open
 

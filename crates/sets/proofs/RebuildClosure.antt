@@ -54,10 +54,6 @@ module _ (r : SharedSegmentCacheBuilder) (index filter : ℕ) (starts lengths : 
     pub rebuild-areas : AreasHoldRebuild r index starts lengths arena
     rebuild-areas = rebuild-areas-asked r index starts lengths arena (passed .0)
 
-    pub rebuild-lengths : segmentAreasHold (length starts) (length lengths) ≡ true
-    unfolding segmentAreasHold
-    rebuild-lengths = rw (le-leb _ _ (rebuild-areas .starts-hold), le-leb _ _ (rebuild-areas .lengths-hold))
-
     pub rebuild-filter-holds : r .«filter_words» ≤ filter
     rebuild-filter-holds = leb-true _ _ (passed .1)
 

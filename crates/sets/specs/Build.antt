@@ -1,6 +1,6 @@
 -- Building a set: open, push, finish. Each call by the questions that it asks, in document 01's order, and by what it leaves.
 -- Assumes nothing.
-use mathlib.Core.Bool.{Bool, true, false, cond}
+use mathlib.Core.Bool.{Bool, cond}
 use mathlib.Core.List.{List, [], _∷_}
 use Prim.Native.Nat.{ℕ, _+_, _-_, _*_}
 use lib.Dec.{eqb, leb, ltb}

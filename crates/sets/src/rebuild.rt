@@ -24,7 +24,7 @@ use records::record::append_record;
 use std::num::wrapping_add_usize;
 ghost use mathlib.Core.Path.{_≡_};
 ghost use mathlib.Core.Bool.{true};
-ghost use Prim.Native.Nat.{_+_, _*_, _/_, _<_, _≤_, _^_};
+ghost use Prim.Native.Nat.{_+_, _*_, _<_, _≤_, _^_};
 ghost use lib.ListN.{length, set};
 ghost use Rattle.hash_parts.specs.Hash.{tagOf};
 ghost use Rattle.records.specs.Area.{over};

@@ -1,13 +1,10 @@
 -- `test_append_record` meets its contract: a record has bytes, so that none written is a record that did not fit. Assumes nothing.
-use mathlib.Core.Path.{_≡_, refl, sym, ap, _∙_}
+use mathlib.Core.Path.{sym, ap, _∙_}
 use mathlib.Core.List.{List}
-use Prim.Native.Nat.{ℕ, _<_}
-use native.Mathlib.Omega.{arith}
+use Prim.Native.Nat.{ℕ}
 use lib.ListN.{length}
 use borrow.Author.Needs.{needs}
-use Rattle.hash_parts.specs.declared.setting.SegmentExpiry.{SegmentExpiry}
 use Rattle.hash_parts.specs.declared.error.SegmentCacheBuildError.the-variants.{AreaTooShort}
-use Rattle.records.specs.Area.{written}
 use Rattle.records.specs.Record.{recordBytes}
 use Rattle.test_exports.specs.Exports.{told, outcomeTold}
 use Rattle.test_exports.proofs.Answers.{told-refused, wrote-none, wrote-some, record-long}

@@ -1,7 +1,6 @@
 -- `run` is safe: the areas keep their lengths, and what waits lies inside the output. Assumes nothing.
-use mathlib.Core.Path.{_≡_, ap, _∙_}
+use mathlib.Core.Path.{_≡_, ap}
 use Prim.Native.Nat.{_≤_}
-use native.Mathlib.Omega.{arith}
 use lib.ListN.{length}
 use borrow.Author.Needs.{needs}
 use Rattle.passage.specs.Program.{waitingIn}
