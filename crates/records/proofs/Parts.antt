@@ -5,8 +5,8 @@ use mathlib.Core.Bool.{Bool, true, false, cond}
 use mathlib.Core.List.{List, [], _∷_}
 use Prim.Native.Nat.{ℕ, _+_, _*_, _-_, _/_, _%_, _^_, _≤_, _<_}
 use native.Mathlib.Omega.{arith}
-use borrow.Author.Tests.{le-leb, lt-leb, lt-ltb, le-ltb, ltb-false}
-use lib.Dec.{ltb}
+use borrow.Author.Tests.{le-leb, lt-leb, lt-ltb, le-ltb, leb-true, ltb-true, ltb-false}
+use lib.Dec.{leb, ltb}
 use lib.ListN.{length, getD, set, length-append}
 use Rattle.hash_parts.specs.Outcome.{Outcome, accepted, refused}
 use Rattle.hash_parts.specs.Setting.{bytesPerRecord}
@@ -17,12 +17,27 @@ use Rattle.hash_parts.proofs.Refusals.{refusal-pos}
 use Rattle.hash_parts.specs.declared.setting.SegmentExpiry.{SegmentExpiry}
 use Rattle.hash_parts.specs.declared.setting.SegmentExpiry.the-variants.{None, Relative16}
 use Rattle.records.specs.Area.{over}
+use Rattle.records.specs.Compare.{shortPrefixes}
 use Rattle.records.specs.Record.{deadlineBytes, recordBytes, recordSize, encodedSize, deadlineIn, recordOf, afterValue, afterKey, recordAt}
 use Rattle.records.specs.Uleb128.{uleb128}
 use Rattle.records.specs.Varint.{readVarint}
 use Rattle.records.specs.declared.record.RecordAnswer.the-variants.{Read, Unreadable}
 use Rattle.records.specs.declared.varint.Varint.the-variants as varint
 use Rattle.records.proofs.Prefix.{read-one}
+
+-- ---- prefixes of one byte
+
+says-no : false ≡ true → ⊥
+says-no e = let z : _≡_ {A = ℕ} 0 1 = ap (λ (b : Bool). cond b 1 0) e in omega arith
+
+pub prefixes-short : (s : List ℕ) (at : ℕ) → shortPrefixes s at ≡ true → (at + 2 ≤ length s) × (getD s at 0 < 128) × (getD s (at + 1) 0 < 128)
+prefixes-short s at = go (leb (at + 2) (length s)) refl (ltb (getD s at 0) 128) refl
+  where
+    go : (t : Bool) → leb (at + 2) (length s) ≡ t → (u : Bool) → ltb (getD s at 0) 128 ≡ u → cond t (cond u (ltb (getD s (at + 1) 0) 128) false) false ≡ true
+        → (at + 2 ≤ length s) × (getD s at 0 < 128) × (getD s (at + 1) 0 < 128)
+    go true e true f h = (leb-true _ _ e, ltb-true _ _ f, ltb-true _ _ h)
+    go true e false f h = absurd (says-no h)
+    go false e u f h = absurd (says-no h)
 
 -- ---- the deadline's bytes
 

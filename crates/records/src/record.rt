@@ -7,12 +7,11 @@ use hash_parts::duration::NEVER_EXPIRES;
 use hash_parts::error::SegmentCacheBuildError;
 use hash_parts::setting::SegmentExpiry;
 ghost use mathlib.Core.Path.{_≡_};
-ghost use mathlib.Core.Bool.{true};
 ghost use Prim.Native.Nat.{_+_, _<_, _≤_};
 ghost use lib.ListN.{drop, getD, length};
 ghost use Rattle.hash_parts.specs.Setting.{bytesPerRecord};
 ghost use Rattle.records.specs.Area.{over, pasted, sameBytes, spanned, written};
-ghost use Rattle.records.specs.Compare.{wordIn};
+ghost use Rattle.records.specs.Compare.{shortPrefixes, wordIn};
 ghost use Rattle.records.specs.Record.{deadlineBytes, deadlineIn, encodedSize, recordAt, recordBytes, recordOf, sizeOutcome};
 ghost use Rattle.records.specs.Uleb128.{uleb128};
 
@@ -155,8 +154,9 @@ pub fn record_at(records: &[u8], expiry: SegmentExpiry, location: usize) -> Reco
     record_at_prefixes(records, expiry, location)
 }
 
+// Most records have prefixes of one byte each.
 fn one_byte_prefixes(records: &[u8], location: usize) -> bool
-    ensures { λ r. ⌜ (r ≡ true → (location + 2 ≤ length (now (records .entry))) × (getD (now (records .entry)) location 0 < 128) × (getD (now (records .entry)) (location + 1) 0 < 128)) ⌝ }
+    ensures { λ r. ⌜ r ≡ shortPrefixes (now (records .entry)) location ⌝ }
 {
     let len = records.len();
     if len < 2 {
@@ -235,6 +235,7 @@ fn deadline_in(records: &[u8], expiry: SegmentExpiry, at: usize) -> u16
     wide(records[at]) + wide(records[at + 1]) * 256
 }
 
+// A cast apart, so that the reads above ask only for their index.
 fn wide(byte: u8) -> u16
     ensures { λ r. ⌜ (r ≡ byte) × (r < 256) ⌝ }
 {
@@ -273,6 +274,7 @@ fn word_at(bytes: &[u8], at: usize) -> u64
         + byte_at(bytes, at + 7) * 0x100_0000_0000_0000
 }
 
+// A byte as a number that is known to be below 256, so that sums of bytes are known to fit.
 fn byte_at(bytes: &[u8], at: usize) -> u64
     requires { ⌜ at < length (now bytes) ⌝ }
     ensures { λ r. ⌜ (r ≡ getD (now (bytes .entry)) at 0) × (r < 256) ⌝ }

@@ -56,6 +56,7 @@ pub(crate) fn put_varint(output: &mut [u8], value: usize) -> usize
     at + 1
 }
 
+// A cast apart, so that a read asks only for its index.
 fn wide(byte: u8) -> usize
     ensures { λ r. ⌜ r ≡ byte ⌝ }
 {

@@ -1,27 +1,34 @@
--- `one_byte_prefixes` meets its contract: it says yes only after all its tests. Assumes nothing.
-use mathlib.Core.Path.{_≡_, ap}
-use mathlib.Core.Bool.{Bool, true, false, cond}
-use Prim.Native.Nat.{ℕ, _<_}
+-- `one_byte_prefixes` meets its contract, test by test. Assumes nothing.
+use mathlib.Core.Path.{ap}
+use Prim.Native.Nat.{ℕ, _+_, _≤_, _<_}
 use native.Mathlib.Omega.{arith}
 use borrow.Author.Needs.{needs}
-use borrow.Author.Tests.{ltb-true}
+use borrow.Author.Tests.{le-leb, lt-leb, lt-ltb, le-ltb}
+use lib.Dec.{ltb}
+use lib.ListN.{length, getD}
 use Rattle.records.proofs.record.one_byte_prefixes.Statement.{statement}
 use Rattle.records.proofs.record.one_byte_prefixes.Tie as tie
 
-says-no : false ≡ true → ⊥
-says-no e = let z : _≡_ {A = ℕ} 0 1 = ap (λ (b : Bool). cond b 1 0) e in omega arith
-
+-- an area with fewer than two bytes from there on has none
 returns : tie.Need-returns
-returns c e = absurd (says-no e)
+returns c =
+    let a = c .before .before .args in
+    rw (lt-leb (a .location + 2) (length (a .records .now)) (omega arith))
 
 returns-2 : tie.Need-returns-2
-returns-2 c e = absurd (says-no e)
+returns-2 c =
+    let a = c .before .before .before .args in
+    rw (lt-leb (a .location + 2) (length (a .records .now)) (omega arith))
 
 byte-at-requires : tie.Need-byte-at-requires
 byte-at-requires c κs = search needs
 
 returns-3 : tie.Need-returns-3
-returns-3 c e = absurd (says-no e)
+returns-3 c =
+    let a = c .before .before .before .before .before .args in
+    let first = c .before .byte-at in
+    let long : 128 ≤ getD (a .records .now) (a .location) 0 = omega (arith, first .ensures .0, c .if3 .taken) in
+    rw (le-leb (a .location + 2) (length (a .records .now)) (omega arith), le-ltb _ 128 long)
 
 add-byte-at : tie.Need-add-byte-at
 add-byte-at c = search needs
@@ -30,9 +37,12 @@ byte-at-requires-2 : tie.Need-byte-at-requires-2
 byte-at-requires-2 c κs = search needs
 
 returns-4 : tie.Need-returns-4
-returns-4 c e =
-    let value : c .byte-at2 .result < 128 = ltb-true (c .byte-at2 .result) 128 e in
-    (omega arith, omega (arith, c .before .before .byte-at .ensures .0), omega (arith, c .byte-at2 .ensures .0))
+returns-4 c =
+    let a = c .before .before .before .before .before .before .args in
+    let first = c .before .before .byte-at in
+    let short : getD (a .records .now) (a .location) 0 < 128 = omega (arith, first .ensures .0, c .before .if3 .left) in
+    rw (le-leb (a .location + 2) (length (a .records .now)) (omega arith), lt-ltb _ 128 short)
+    (ap (λ (byte : ℕ). ltb byte 128) (c .byte-at2 .ensures .0))
 
 pub one-byte-prefixes-spec : {M : Type 1} → statement M
 one-byte-prefixes-spec =
