@@ -1,13 +1,43 @@
 -- `find_in_slot` meets its contract, case by case. Assumes nothing.
-use mathlib.Core.Path.{sym, ap, _∙_}
+use mathlib.Core.Path.{_≡_, sym, ap, _∙_}
 use mathlib.Core.List.{List}
-use Prim.Native.Nat.{ℕ, _-_}
-use Rattle.records.specs.Area.{sameBytes}
+use Prim.Native.Nat.{ℕ}
+use Rattle.records.specs.Area.{sameBytes, spanned}
+use Rattle.records.specs.declared.record.RecordAnswer.{RecordAnswer}
+use Rattle.records.specs.declared.record.RecordAnswer.the-variants.{Read}
 use Rattle.index.specs.View.{recordIn}
 use Rattle.index.proofs.Finds.{slot-empty, slot-other, slot-broken, slot-match, slot-differs}
 use borrow.Author.Needs.{needs}
 use Rattle.index.proofs.find.find_in_slot.Statement.{statement}
 use Rattle.index.proofs.find.find_in_slot.Tie as tie
+
+-- ---- what is known at each point
+
+abbrev start : tie.After-content → tie.Start
+start c = c .before .before .before .before .before .before
+
+abbrev read : tie.Start → ℕ → RecordAnswer
+read s =
+    let a = s .args in
+    recordIn (a .view) (a .arena .now) (a .starts .now) (a .lengths .now)
+
+-- the slot in use whose record was read
+abbrev slot : tie.After-entry → tie.After-content
+slot e = e .before .before .before .before .before
+
+under : (e : tie.After-entry) → read (start (slot e)) (slot e .content .given .0 .1 .0) ≡ Read (e .entry .given .0 .0)
+under e = sym (e .before .before .record-at-location .ensures) ∙ e .entry .given .1
+
+-- the record whose key was compared
+abbrev entry : tie.After-same-bytes → tie.After-entry
+entry c = c .before .before .before .before
+
+compared : (c : tie.After-same-bytes)
+    → let a = start (slot (entry c)) .args in
+    sameBytes (spanned (a .arena .now) (entry c .entry .given .0 .0 .key)) (a .key .now) ≡ c .same-bytes .result
+compared c =
+    let a = start (slot (entry c)) .args in
+    sym (c .same-bytes .ensures ∙ ap (λ (l : List ℕ). sameBytes l (a .key .now)) (c .before .value-slice .ensures))
 
 enum-known-content : tie.Need-enum-known-content
 enum-known-content c = search needs
@@ -17,15 +47,16 @@ enum-told c = search needs
 
 returns : tie.Need-returns
 returns c =
-    let a = c .before .before .before .before .before .before .args in
-    let read = recordIn (a .view) (a .arena .now) (a .starts .now) (a .lengths .now) in
-    slot-empty read (a .arena .now) (a .key .now) (a .tag) (a .slot) (a .content) (c .enum-told .given .1)
+    let s = c .before .before .before .before .before .before in
+    let a = s .args in
+    slot-empty (read s) (a .arena .now) (a .key .now) (a .tag) (a .slot) (a .content) (c .enum-told .given .1)
 
 returns-2 : tie.Need-returns-2
 returns-2 c =
-    let a = c .before .before .before .before .before .before .before .before .args in
-    let read = recordIn (a .view) (a .arena .now) (a .starts .now) (a .lengths .now) in
-    slot-other read (a .arena .now) (a .key .now) (a .tag) (a .slot) (a .content) (c .before .before .content .given .0 .0) (c .before .before .content .given .0 .1 .0) (c .before .before .content .given .1) (c .if1 .taken)
+    let k = c .before .before in
+    let a = start k .args in
+    let used = k .content .given in
+    slot-other (read (start k)) (a .arena .now) (a .key .now) (a .tag) (a .slot) (a .content) (used .0 .0) (used .0 .1 .0) (used .1) (c .if1 .taken)
 
 record-at-location-requires : tie.Need-record-at-location-requires
 record-at-location-requires c κs = search needs
@@ -38,9 +69,12 @@ enum-told-2 c = search needs
 
 returns-3 : tie.Need-returns-3
 returns-3 c =
-    let a = c .before .before .before .before .before .before .before .before .before .before .before .args in
-    let read = recordIn (a .view) (a .arena .now) (a .starts .now) (a .lengths .now) in
-    slot-broken read (a .arena .now) (a .key .now) (a .tag) (a .slot) (a .content) (c .before .before .before .before .before .content .given .0 .0) (c .before .before .before .before .before .content .given .0 .1 .0) (c .before .before .before .before .before .content .given .1) (c .before .before .before .if1 .left) (sym (c .before .before .record-at-location .ensures) ∙ c .enum-told2 .given .1)
+    let k = c .before .before .before .before .before in
+    let a = start k .args in
+    let used = k .content .given in
+    let unread = sym (c .before .before .record-at-location .ensures) ∙ c .enum-told2 .given .1 in
+    slot-broken (read (start k)) (a .arena .now) (a .key .now) (a .tag) (a .slot) (a .content) (used .0 .0) (used .0 .1 .0) (used .1)
+    (c .before .before .before .if1 .left) unread
 
 value-slice-requires : tie.Need-value-slice-requires
 value-slice-requires c κs = search needs
@@ -50,15 +84,19 @@ same-bytes-requires c κs = search needs
 
 returns-4 : tie.Need-returns-4
 returns-4 c =
-    let a = c .before .before .before .before .before .before .before .before .before .before .before .before .before .before .before .before .args in
-    let read = recordIn (a .view) (a .arena .now) (a .starts .now) (a .lengths .now) in
-    slot-match read (a .arena .now) (a .key .now) (a .tag) (a .slot) (a .content) (c .before .before .before .before .before .before .before .before .before .before .content .given .0 .0) (c .before .before .before .before .before .before .before .before .before .before .content .given .0 .1 .0) (c .before .before .before .before .before .before .before .before .before .before .content .given .1) (c .before .before .before .before .before .before .before .before .if1 .left) (c .before .before .before .before .before .entry .given .0 .0) (sym (c .before .before .before .before .before .before .before .record-at-location .ensures) ∙ c .before .before .before .before .before .entry .given .1) (sym (c .before .same-bytes .ensures ∙ ap (λ (l : List ℕ). sameBytes l (a .key .now)) (c .before .before .value-slice .ensures)) ∙ c .if2 .taken)
+    let e = entry (c .before) in
+    let a = start (slot e) .args in
+    let used = slot e .content .given in
+    slot-match (read (start (slot e))) (a .arena .now) (a .key .now) (a .tag) (a .slot) (a .content) (used .0 .0) (used .0 .1 .0) (used .1)
+    (e .before .before .before .if1 .left) (e .entry .given .0 .0) (under e) (compared (c .before) ∙ c .if2 .taken)
 
 returns-5 : tie.Need-returns-5
 returns-5 c =
-    let a = c .before .before .before .before .before .before .before .before .before .before .before .before .before .before .before .before .args in
-    let read = recordIn (a .view) (a .arena .now) (a .starts .now) (a .lengths .now) in
-    slot-differs read (a .arena .now) (a .key .now) (a .tag) (a .slot) (a .content) (c .before .before .before .before .before .before .before .before .before .before .content .given .0 .0) (c .before .before .before .before .before .before .before .before .before .before .content .given .0 .1 .0) (c .before .before .before .before .before .before .before .before .before .before .content .given .1) (c .before .before .before .before .before .before .before .before .if1 .left) (c .before .before .before .before .before .entry .given .0 .0) (sym (c .before .before .before .before .before .before .before .record-at-location .ensures) ∙ c .before .before .before .before .before .entry .given .1) (sym (c .before .same-bytes .ensures ∙ ap (λ (l : List ℕ). sameBytes l (a .key .now)) (c .before .before .value-slice .ensures)) ∙ c .if2 .left)
+    let e = entry (c .before) in
+    let a = start (slot e) .args in
+    let used = slot e .content .given in
+    slot-differs (read (start (slot e))) (a .arena .now) (a .key .now) (a .tag) (a .slot) (a .content) (used .0 .0) (used .0 .1 .0) (used .1)
+    (e .before .before .before .if1 .left) (e .entry .given .0 .0) (under e) (compared (c .before) ∙ c .if2 .left)
 
 pub find-in-slot-spec : {M : Type 1} → statement M
 find-in-slot-spec =
