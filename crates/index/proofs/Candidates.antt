@@ -151,8 +151,10 @@ module _ (read : ℕ → RecordAnswer) (arena key : List ℕ) (tag rest : ℕ) (
 
       go : (x : Bool) → hasTag tag c ≡ x
           → sweep (looksFrom read arena key kept (suc i) (packedSlotsOf cs (drop 7 bytes))) ≡ visited (λ j after. andThen (g j) after) (map (hasTag tag) cs) (suc p) Next
-          → sweep (at i (packedSlot c (take 7 bytes)) ∷ looksFrom read arena key kept (suc i) (packedSlotsOf cs (drop 7 bytes))) ≡ visited (λ j after. andThen (g j) after) (x ∷ map (hasTag tag) cs) p Next
-      go true h tail = sweep-used (at i (packedSlot c (take 7 bytes))) (looksFrom read arena key kept (suc i) (packedSlotsOf cs (drop 7 bytes))) (used-slot i c (take 7 bytes) h) ∙ ap₂ andThen (sym first) tail
+          → sweep (at i (packedSlot c (take 7 bytes)) ∷ looksFrom read arena key kept (suc i) (packedSlotsOf cs (drop 7 bytes)))
+          ≡ visited (λ j after. andThen (g j) after) (x ∷ map (hasTag tag) cs) p Next
+      go true h tail =
+          sweep-used (at i (packedSlot c (take 7 bytes))) (looksFrom read arena key kept (suc i) (packedSlotsOf cs (drop 7 bytes))) (used-slot i c (take 7 bytes) h) ∙ ap₂ andThen (sym first) tail
       go false h tail = passed-slot i c (take 7 bytes) (looksFrom read arena key kept (suc i) (packedSlotsOf cs (drop 7 bytes))) h ∙ tail
 
 -- ---- a scan visits the slots that it does not pass over
@@ -274,6 +276,7 @@ module _ (read : ℕ → RecordAnswer) (arena key : List ℕ) (tag : ℕ) where
           split (yes p) = lt-ltb 0 m p ∙ sym (lt-ltb 0 (m * 256 + 0) (omega arith))
           split (no n) = le-ltb 0 m (omega arith) ∙ sym (le-ltb 0 (m * 256 + 0) (omega arith))
 
-      go : (x : Bool) → hasEmpty ls ≡ ltb 0 m → hasEmpty (look read arena key tag i (cond x Empty (Used (c % 128 + 128 * numberOf (take 2 (take 7 bytes))) (numberOf (drop 2 (take 7 bytes))))) ∷ ls) ≡ ltb 0 (m * 256 + cond x 0x80 0)
+      go : (x : Bool) → hasEmpty ls ≡ ltb 0 m → hasEmpty (look read arena key tag i
+          (cond x Empty (Used (c % 128 + 128 * numberOf (take 2 (take 7 bytes))) (numberOf (drop 2 (take 7 bytes))))) ∷ ls) ≡ ltb 0 (m * 256 + cond x 0x80 0)
       go true r = sym (lt-ltb 0 (m * 256 + 0x80) (omega arith))
       go false r = used-on _ (used-look read arena key tag i _ _) ∙ r ∙ positive

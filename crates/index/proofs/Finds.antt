@@ -129,7 +129,8 @@ module _ (view : SegmentView) (packed : Bool) (index : List ℕ) (buckets : ℕ)
     find-short l = let s : length index < 8 * buckets = omega arith in simp (lt-leb _ _ s)
 
     pub find-walks : buckets ≤ length index / 8 → firstBucket h buckets ≤ buckets - 1
-        → findIn view packed index buckets filter words starts lengths arena key h ≡ bucketsFound packed (filterHas filter words h) (Looks starts lengths arena key h) buckets 0 buckets (firstBucket h buckets)
+        → findIn view packed index buckets filter words starts lengths arena key h
+        ≡ bucketsFound packed (filterHas filter words h) (Looks starts lengths arena key h) buckets 0 buckets (firstBucket h buckets)
     unfolding findIn
     find-walks fit first =
         let s : 8 * buckets ≤ length index = omega arith in

@@ -76,7 +76,12 @@ packed-bucket buckets index a (suc n) zero h = rw (add-zero a) (take-at (packedB
 packed-bucket buckets index a (suc n) (suc b) h =
     let e : 8 * suc b ≡ 8 + 8 * b = omega arith in
     let f : suc a + b ≡ a + suc b = omega arith in
-    rw (e, ← drop-drop (8 * b) 8 (packedBucket buckets index a ++ flatten (packedBuckets buckets index (suc a) n)), drop-at (packedBucket buckets index a) (flatten (packedBuckets buckets index (suc a) n)) 8 (bucket-length buckets index a))
+    rw (
+      e,
+      ← drop-drop (8 * b) 8 (packedBucket buckets index a ++ flatten (packedBuckets buckets index (suc a) n)),
+      drop-at (packedBucket buckets index a)
+          (flatten (packedBuckets buckets index (suc a) n)) 8 (bucket-length buckets index a),
+    )
     (packed-bucket buckets index (suc a) n b (omega arith) ∙ ap (packedBucket buckets index) f)
 
 -- bucket b of the row is the bucket that a lookup reads

@@ -42,7 +42,8 @@ module _ {E : Type 0} {stored : E → Stored} {H : List ℕ → ℕ} {Holds : �
         table = place (x .table) a e;
         size = length-set (x .table) _ (some e) ∙ x .size;
         cells = rw (x .size, ← gap, ← at) (pairs-set s (Used (tagOf h) l) (some e) (cell-used (ap tagOf hash) holds) (x .cells));
-        placed = placed-push (keyed stored) (λ k. 8 * firstBucket (H k) buckets) 16 _ _ (x .table) r e a (x .placed) inside fits homes (λ k. grows k (leb 16 q)) (λ k y z. own k y (omega (arith, gap)));
+        placed =
+            placed-push (keyed stored) (λ k. 8 * firstBucket (H k) buckets) 16 _ _ (x .table) r e a (x .placed) inside fits homes (λ k. grows k (leb 16 q)) (λ k y z. own k y (omega (arith, gap)));
       }
     where
       inside : a ≤ length (x .table)

@@ -93,7 +93,9 @@ module _ (read : ℕ → RecordAnswer) (arena key : List ℕ) where
         places = tagged (controlTag tag) (getD index bucket 0);
         marked = e;
         eight = length-map cs (hasTag (controlTag tag)) ∙ length-bytes 8 (getD index bucket 0);
-        same = sweep-visits read arena key (controlTag tag) (secondaryTag tag) (omega arith) (omega arith) cs (wordBytes (take 7 (drop (buckets + 7 * bucket) index))) (8 * bucket) 0 g (λ j h. ap g (zero-add j));
+        same =
+            sweep-visits read arena key (controlTag tag) (secondaryTag tag) (omega arith) (omega arith) cs (wordBytes (take 7 (drop (buckets + 7 * bucket) index))) (8 * bucket) 0 g
+            (λ j h. ap g (zero-add j));
       }
   visiting-begins false tag buckets index bucket m room e =
       let l : List IndexSlot = slotsOf false buckets index bucket in

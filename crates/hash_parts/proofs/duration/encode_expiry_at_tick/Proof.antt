@@ -41,7 +41,13 @@ deadline-at-requires c κs =
 
 returns-4 : tie.Need-returns-4
 unfolding encodedExpiry
-returns-4 c = rw (c .before .before .before .before .before .before .before .ttl .given .1, c .before .before .before .before .expiry .given .1, sym (c .before .before .is-zero .ensures) ∙ c .before .if1 .left) (c .deadline-at .ensures)
+returns-4 c =
+    rw (
+      c .before .before .before .before .before .before .before .ttl .given .1,
+      c .before .before .before .before .expiry .given .1,
+      sym (c .before .before .is-zero .ensures)
+          ∙ c .before .if1 .left,
+    ) (c .deadline-at .ensures)
 
 pub encode-expiry-at-tick-spec : {M : Type 1} → statement M
 encode-expiry-at-tick-spec =

@@ -31,7 +31,9 @@ checked-mul-requires c κs = search needs
 
 returns-4 : tie.Need-returns-4
 unfolding remaining
-returns-4 c = rw (c .before .before .expiry .given .1) (simp (ne-eqb _ _ (c .before .before .before .before .before .if1 .left), lt-leb _ _ (c .before .before .before .before .if2 .left)) (c .checked-mul .ensures))
+returns-4 c =
+    rw (c .before .before .expiry .given .1) (simp (ne-eqb _ _ (c .before .before .before .before .before .if1 .left), lt-leb _ _ (c .before .before .before .before .if2 .left))
+    (c .checked-mul .ensures))
 
 pub remaining-ttl-spec : {M : Type 1} → statement M
 remaining-ttl-spec =

@@ -19,7 +19,8 @@ returns : tie.Need-returns
 unfolding displacedMarked
 returns c =
     let a = c .before .before .before .before .args in
-    let e : c .before .bucket-displacement .result ≡ displaced (firstBucket (a .hash) (a .buckets)) (a .slot / 8) (a .buckets) = c .before .bucket-displacement .ensures ∙ ap (λ (x : ℕ). displaced x (a .slot / 8) (a .buckets)) (c .before .before .reduce-hash .ensures .0) in
+    let e : c .before .bucket-displacement .result ≡ displaced (firstBucket (a .hash) (a .buckets)) (a .slot / 8) (a .buckets) =
+    c .before .bucket-displacement .ensures ∙ ap (λ (x : ℕ). displaced x (a .slot / 8) (a .buckets)) (c .before .before .reduce-hash .ensures .0) in
     let l : displaced (firstBucket (a .hash) (a .buckets)) (a .slot / 8) (a .buckets) < 2 = omega arith in
     simp (lt-leb _ _ l)
 
@@ -33,7 +34,9 @@ returns-2 : tie.Need-returns-2
 unfolding displacedMarked
 returns-2 c =
     let a = c .before .before .before .before .before .before .before .before .args in
-    let e : c .before .before .before .before .before .bucket-displacement .result ≡ displaced (firstBucket (a .hash) (a .buckets)) (a .slot / 8) (a .buckets) = c .before .before .before .before .before .bucket-displacement .ensures ∙ ap (λ (x : ℕ). displaced x (a .slot / 8) (a .buckets)) (c .before .before .before .before .before .before .reduce-hash .ensures .0) in
+    let e : c .before .before .before .before .before .bucket-displacement .result ≡ displaced (firstBucket (a .hash) (a .buckets)) (a .slot / 8) (a .buckets) =
+    c .before .before .before .before .before .bucket-displacement .ensures
+    ∙ ap (λ (x : ℕ). displaced x (a .slot / 8) (a .buckets)) (c .before .before .before .before .before .before .reduce-hash .ensures .0) in
     let l : 2 ≤ displaced (firstBucket (a .hash) (a .buckets)) (a .slot / 8) (a .buckets) = omega arith in
     simp (le-leb _ _ l) (c .before .before .mark-negative-filter .ensures)
 

@@ -27,7 +27,8 @@ said : (c : tie.After-find-in-slot Inv-loop μ-loop)
     → let l = c .before .before .before .before in
     let a = l .before .before .before .before .before .before .before .before .args in
     c .find-in-slot .result
-    ≡ says (recordIn (a .view) (a .arena .now) (a .starts .now) (a .lengths .now)) (a .arena .now) (a .key .now) (a .packed) (a .tag) (a .buckets) (a .index .now) (a .bucket) (lowestSet (l .loop .candidates))
+    ≡ says (recordIn (a .view) (a .arena .now) (a .starts .now) (a .lengths .now)) (a .arena .now) (a .key .now) (a .packed) (a .tag) (a .buckets) (a .index .now) (a .bucket)
+    (lowestSet (l .loop .candidates))
 said c =
     let l = c .before .before .before .before in
     let a = l .before .before .before .before .before .before .before .before .args in
@@ -107,14 +108,16 @@ returns-2 c =
     let l = c .before .before .before in
     let a = l .before .before .before .before .before .before .before .before .args in
     let read = recordIn (a .view) (a .arena .now) (a .starts .now) (a .lengths .now) in
-    rw (c .if1 .taken) at (bucket-ends read (a .arena .now) (a .key .now) (a .packed) (a .tag) (a .buckets) (a .index .now) (a .bucket) (c .before .has-empty .result) (c .before .has-empty .ensures) (visiting-ends (l .loop .inv) (c .before .before .loop-test .left)))
+    rw (c .if1 .taken) at (bucket-ends read (a .arena .now) (a .key .now) (a .packed) (a .tag) (a .buckets) (a .index .now) (a .bucket) (c .before .has-empty .result)
+    (c .before .has-empty .ensures) (visiting-ends (l .loop .inv) (c .before .before .loop-test .left)))
 
 returns-3 : tie.Need-returns-3 Inv-loop μ-loop
 returns-3 c =
     let l = c .before .before .before in
     let a = l .before .before .before .before .before .before .before .before .args in
     let read = recordIn (a .view) (a .arena .now) (a .starts .now) (a .lengths .now) in
-    rw (c .if1 .left) at (bucket-ends read (a .arena .now) (a .key .now) (a .packed) (a .tag) (a .buckets) (a .index .now) (a .bucket) (c .before .has-empty .result) (c .before .has-empty .ensures) (visiting-ends (l .loop .inv) (c .before .before .loop-test .left)))
+    rw (c .if1 .left) at (bucket-ends read (a .arena .now) (a .key .now) (a .packed) (a .tag) (a .buckets) (a .index .now) (a .bucket) (c .before .has-empty .result)
+    (c .before .has-empty .ensures) (visiting-ends (l .loop .inv) (c .before .before .loop-test .left)))
 
 pub find-in-bucket-spec : {M : Type 1} → statement M
 find-in-bucket-spec =

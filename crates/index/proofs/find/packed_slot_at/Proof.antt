@@ -69,7 +69,8 @@ returns-2 c =
     let x = a .index .now in
     let e : a .offset % 8 ≡ a .offset = omega arith in
     c .packed-slot2 .ensures
-    ∙ ap (λ (j : ℕ). packedSlot (getD (bytesOf 8 (getD x (a .bucket) 0)) j 0) (referenceIn (getD x (a .buckets + 7 * a .bucket + a .offset - 1) 0) (getD x (a .buckets + 7 * a .bucket + a .offset) 0) j)) e
+    ∙ ap (λ (j : ℕ). packedSlot (getD (bytesOf 8 (getD x (a .bucket) 0)) j 0) (referenceIn (getD x (a .buckets + 7 * a .bucket + a .offset - 1) 0)
+    (getD x (a .buckets + 7 * a .bucket + a .offset) 0) j)) e
     ∙ sym (slot-at (a .buckets) x (a .bucket) (a .offset) _ (getD x (a .buckets + 7 * a .bucket + a .offset) 0) (p .0) (p .2) (p .1) (λ h. refl) (λ (h : a .offset < 7). refl))
 
 pub packed-slot-at-spec : {M : Type 1} → statement M

@@ -59,8 +59,14 @@ loop-less c = omega arith
 loop-again : tie.Need-loop-again Inv-loop μ-loop
 loop-again c =
     let l = c .before .before .before .before .before in
-    let a = l .before .before .args in
-    (omega arith, omega (arith, passed-other (a .tag) (a .index .now) (a .bucket * 8) (l .loop .offset) (omega arith) (omega arith) (c .before .before .if1 .left) (λ e. c .if2 .left (c .before .index-tag .ensures ∙ e))))
+    let a = l .before .before .args in (
+      omega arith,
+      omega (
+        arith,
+        passed-other (a .tag) (a .index .now) (a .bucket * 8) (l .loop .offset) (omega arith) (omega arith) (c .before .before .if1 .left)
+            (λ e. c .if2 .left (c .before .index-tag .ensures ∙ e)),
+      ),
+    )
 
 returns-3 : tie.Need-returns-3 Inv-loop μ-loop
 returns-3 c =

@@ -81,7 +81,8 @@ returns c =
     let c1 = c2 .before in
     let a = c1 .before .args in
     control-word (a .w0) (a .w1) (a .w2) (a .w3) (a .w4) (a .w5) (a .w6) (a .w7)
-    (c1 .control-byte .ensures .0) (c2 .control-byte2 .ensures .0) (c3 .control-byte3 .ensures .0) (c4 .control-byte4 .ensures .0) (c5 .control-byte5 .ensures .0) (c6 .control-byte6 .ensures .0) (c7 .control-byte7 .ensures .0) (c .control-byte8 .ensures .0)
+    (c1 .control-byte .ensures .0) (c2 .control-byte2 .ensures .0) (c3 .control-byte3 .ensures .0) (c4 .control-byte4 .ensures .0) (c5 .control-byte5 .ensures .0)
+    (c6 .control-byte6 .ensures .0) (c7 .control-byte7 .ensures .0) (c .control-byte8 .ensures .0)
 
 pub control-word-spec : {M : Type 1} → statement M
 control-word-spec =

@@ -17,7 +17,9 @@ shl-result c = search needs
 
 add-result : tie.Need-add-result
 add-result c =
-    let r = reference-at (c .before .args .before) (c .before .args .word) (c .before .args .slot % 8) (c .reference-front .result) (c .before .fits .before .fits) (omega arith) (c .reference-front .ensures) in
+    let r =
+    reference-at (c .before .args .before) (c .before .args .word) (c .before .args .slot % 8) (c .reference-front .result) (c .before .fits .before .fits) (omega arith)
+    (c .reference-front .ensures) in
     omega (arith, r .1)
 
 returns : tie.Need-returns

@@ -147,7 +147,8 @@ returns c =
     let start = c1 .before .before in
     let a = start .args in
     references-stored (a .index .now) (a .at) (a .w0) (a .w1) (a .w2) (a .w3) (a .w4) (a .w5) (a .w6) (a .w7) (start .pre)
-    (c1 .packed-reference .ensures .0) (c2 .packed-reference2 .ensures .0) (c3 .packed-reference3 .ensures .0) (c4 .packed-reference4 .ensures .0) (c5 .packed-reference5 .ensures .0) (c6 .packed-reference6 .ensures .0) (c7 .packed-reference7 .ensures .0) (c .packed-reference8 .ensures .0)
+    (c1 .packed-reference .ensures .0) (c2 .packed-reference2 .ensures .0) (c3 .packed-reference3 .ensures .0) (c4 .packed-reference4 .ensures .0)
+    (c5 .packed-reference5 .ensures .0) (c6 .packed-reference6 .ensures .0) (c7 .packed-reference7 .ensures .0) (c .packed-reference8 .ensures .0)
 
 pub write-references-spec : {M : Type 1} → statement M
 write-references-spec =

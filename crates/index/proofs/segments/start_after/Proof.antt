@@ -39,7 +39,8 @@ returns-4 : tie.Need-returns-4
 returns-4 c =
     let a = c .before .before .before .before .before .args in
     let words = take (8 * a .buckets) (a .index .now) in
-    c .next-start .ensures ∙ start-in (a .index .now) (a .buckets) (a .last + a .target) (omega arith) ∙ sym (after-next words (a .filled) (a .target) (a .last) (c .before .before .before .if1 .left) (omega arith))
+    c .next-start .ensures ∙ start-in (a .index .now) (a .buckets) (a .last + a .target) (omega arith)
+    ∙ sym (after-next words (a .filled) (a .target) (a .last) (c .before .before .before .if1 .left) (omega arith))
 
 pub start-after-spec : {M : Type 1} → statement M
 start-after-spec =

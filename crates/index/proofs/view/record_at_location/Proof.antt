@@ -28,7 +28,8 @@ returns-3 c =
 returns-4 : tie.Need-returns-4
 returns-4 c =
     let a = c .before .before .before .before .before .before .before .before .args in
-    location-outside (a .view) (a .arena .now) (a .starts .now) (a .lengths .now) (a .stored) (omega arith) (simp (lt-ltb _ _ (c .before .before .if2 .left), lt-ltb _ _ (c .before .if3 .left), le-ltb _ _ (c .if4 .taken)))
+    location-outside (a .view) (a .arena .now) (a .starts .now) (a .lengths .now) (a .stored) (omega arith)
+    (simp (lt-ltb _ _ (c .before .before .if2 .left), lt-ltb _ _ (c .before .if3 .left), le-ltb _ _ (c .if4 .taken)))
 
 mul-record-in-segment : tie.Need-mul-record-in-segment
 mul-record-in-segment c = search needs
@@ -48,7 +49,8 @@ record-in-segment-requires c κs = search needs
 returns-5 : tie.Need-returns-5
 returns-5 c =
     let a = c .before .before .before .before .before .before .before .before .before .before .before .args in
-    c .record-in-segment .ensures ∙ location-inside (a .view) (a .arena .now) (a .starts .now) (a .lengths .now) (a .stored) (omega arith) (simp (lt-ltb _ _ (c .before .before .before .before .before .if2 .left), lt-ltb _ _ (c .before .before .before .before .if3 .left), lt-ltb _ _ (c .before .before .before .if4 .left)))
+    c .record-in-segment .ensures ∙ location-inside (a .view) (a .arena .now) (a .starts .now) (a .lengths .now) (a .stored) (omega arith)
+    (simp (lt-ltb _ _ (c .before .before .before .before .before .if2 .left), lt-ltb _ _ (c .before .before .before .before .if3 .left), lt-ltb _ _ (c .before .before .before .if4 .left)))
 
 pub record-at-location-spec : {M : Type 1} → statement M
 record-at-location-spec =

@@ -52,7 +52,9 @@ returns-3 c =
     let a = c .before .before .before .before .before .before .before .before .args in
     let e = length-take (a .view .filled) (a .arena .now) in
     let w : a .start + a .length - a .start ≡ a .length = omega arith in
-    segment-gives (a .view .expiry) (take (a .view .filled) (a .arena .now)) (a .start) (a .length) (a .location) _ Unreadable (omega arith) (ap (λ (n : ℕ). take n (drop (a .start) (a .arena .now))) w ∙ sym (part-front (a .start) (a .length) (a .view .filled) (a .arena .now) (omega arith))) (sym (c .before .before .record-at .ensures) ∙ c .enum-told .given .1)
+    segment-gives (a .view .expiry) (take (a .view .filled) (a .arena .now)) (a .start) (a .length) (a .location) _ Unreadable (omega arith)
+    (ap (λ (n : ℕ). take n (drop (a .start) (a .arena .now))) w ∙ sym (part-front (a .start) (a .length) (a .view .filled) (a .arena .now) (omega arith)))
+    (sym (c .before .before .record-at .ensures) ∙ c .enum-told .given .1)
 
 moved-record-requires : tie.Need-moved-record-requires
 moved-record-requires c κs =
@@ -72,7 +74,9 @@ returns-4 c =
     let e = length-take (a .view .filled) (a .arena .now) in
     let w : a .start + a .length - a .start ≡ a .length = omega arith in
     ap Read (c .moved-record .ensures)
-    ∙ segment-gives (a .view .expiry) (take (a .view .filled) (a .arena .now)) (a .start) (a .length) (a .location) _ (Read (c .before .before .read .given .0 .0)) (omega arith) (ap (λ (n : ℕ). take n (drop (a .start) (a .arena .now))) w ∙ sym (part-front (a .start) (a .length) (a .view .filled) (a .arena .now) (omega arith))) (sym (c .before .before .before .before .record-at .ensures) ∙ c .before .before .read .given .1)
+    ∙ segment-gives (a .view .expiry) (take (a .view .filled) (a .arena .now)) (a .start) (a .length) (a .location) _ (Read (c .before .before .read .given .0 .0)) (omega arith)
+    (ap (λ (n : ℕ). take n (drop (a .start) (a .arena .now))) w ∙ sym (part-front (a .start) (a .length) (a .view .filled) (a .arena .now) (omega arith)))
+    (sym (c .before .before .before .before .record-at .ensures) ∙ c .before .before .read .given .1)
 
 pub record-in-segment-spec : {M : Type 1} → statement M
 record-in-segment-spec =

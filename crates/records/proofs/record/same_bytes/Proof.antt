@@ -44,8 +44,12 @@ loop-less c = omega arith
 loop-again : tie.Need-loop-again Inv-loop μ-loop
 loop-again c =
     let l = c .before .before .before .before .loop in
-    let a = c .before .before .before .before .before .before .before .before .args in
-    (omega arith, l .inv .1 ∙ same-words (a .a .now) (a .b .now) (l .i) (omega arith) (omega arith) (λ j. c .before .before .before .before .before .before .before .shared-slice-known .given j .fits) (λ j. c .before .before .before .before .before .before .shared-slice-known2 .given j .fits) (sym (c .before .before .word-at .ensures) ∙ c .if2 .left ∙ c .before .word-at2 .ensures))
+    let a = c .before .before .before .before .before .before .before .before .args in (
+      omega arith,
+      l .inv .1 ∙ same-words (a .a .now) (a .b .now) (l .i) (omega arith) (omega arith)
+          (λ j. c .before .before .before .before .before .before .before .shared-slice-known .given j .fits)
+          (λ j. c .before .before .before .before .before .before .shared-slice-known2 .given j .fits) (sym (c .before .before .word-at .ensures) ∙ c .if2 .left ∙ c .before .word-at2 .ensures),
+    )
 
 same-rest-requires : tie.Need-same-rest-requires Inv-loop μ-loop
 same-rest-requires c κs = omega arith
