@@ -2,6 +2,7 @@
 // times and ratios: bench all | quick | plot FILE
 mod calls;
 #[allow(dead_code)]
+#[macro_use]
 #[path = "../bindings/rust/src/ffi.rs"]
 mod ffi;
 mod growth;

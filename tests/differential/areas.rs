@@ -58,7 +58,7 @@ fn random_place(rng: &mut Rng, len: usize, edges: &[u64]) -> usize {
 
 fn compare(group: &mut Group, a: &[u8], b: &[u8]) {
     let input = || format!("{a:02x?}, {b:02x?}");
-    group.rule("same_bytes", port::same_bytes(a, b), a == b, input);
+    group.rule("same_bytes", port::test_same_bytes(a, b), a == b, input);
 }
 
 fn random_pair(group: &mut Group, rng: &mut Rng) {
@@ -79,13 +79,13 @@ fn part(group: &mut Group, arena: &[u8], at: usize, len: usize) {
     let end = at.checked_add(len);
     let wanted = end.and_then(|end| arena.get(at..end)).unwrap_or(&[]);
     let input = || format!("arena of {}, at {at}, len {len}", arena.len());
-    let found = port::value_slice_len(arena, at, len);
+    let found = port::test_value_slice_len(arena, at, len);
     group.rule("value_slice length", found, wanted.len(), input);
     for i in [0, wanted.len().wrapping_sub(1), wanted.len()] {
         let byte = wanted.get(i).map_or(256, |&byte| u64::from(byte));
         group.rule(
             "value_slice byte",
-            port::value_slice_byte(arena, at, len, i),
+            port::test_value_slice_byte(arena, at, len, i),
             byte,
             input,
         );
@@ -106,29 +106,29 @@ pub fn words(group: &mut Group, _random: u64) {
         port::remaining_words(second, 10, 10, out)
     });
     lent(group, "read_varint", 1, &[300, 3], &|out| {
-        u64::from(port::varint_words(&[9, 0xac, 0x02], 1, out))
+        u64::from(port::test_read_varint(&[9, 0xac, 0x02], 1, out))
     });
     lent(group, "read_varint nothing", 0, &[], &|out| {
-        u64::from(port::varint_words(&[9, 0xac], 1, out))
+        u64::from(port::test_read_varint(&[9, 0xac], 1, out))
     });
     lent(group, "encoded_record_bytes", 0, &[208], &|out| {
-        port::size_words(true, 200, 3, out)
+        port::test_encoded_record_bytes(true, 200, 3, out)
     });
     lent(group, "encoded_record_bytes refused", 3, &[], &|out| {
-        port::size_words(true, usize::MAX, 3, out)
+        port::test_encoded_record_bytes(true, usize::MAX, 3, out)
     });
     lent(group, "append_record", 0, &[9], &|out| {
-        port::append_words(&mut [0; 12], true, b"key", b"va", 7, out)
+        port::test_append_record(&mut [0; 12], true, b"key", b"va", 7, out)
     });
     lent(group, "append_record refused", 10, &[], &|out| {
-        port::append_words(&mut [0; 8], true, b"key", b"va", 7, out)
+        port::test_append_record(&mut [0; 8], true, b"key", b"va", 7, out)
     });
     let record = [9, 2, 1, 7, 0, b'k', b'e', b'v'];
     lent(group, "record_at", 1, &[1, 4, 5, 2, 7, 1, 7], &|out| {
-        u64::from(port::record_words(&record, true, 1, out))
+        u64::from(port::test_record_at(&record, true, 1, out))
     });
     lent(group, "record_at nothing", 0, &[], &|out| {
-        u64::from(port::record_words(&record, true, 0, out))
+        u64::from(port::test_record_at(&record, true, 0, out))
     });
     found_words(group, &record);
 }

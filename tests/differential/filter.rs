@@ -72,14 +72,14 @@ fn mark_and_ask(group: &mut Group, rng: &mut Rng) {
     let mut area = lent(&filter);
     let input = || format!("{filter:x?}, {words}, {hash:#x}");
     let mut rust = Some(filter.clone()).filter(|words| !words.is_empty());
-    let found = port::negative_filter_may_contain(&area, words, hash);
+    let found = port::test_negative_filter_may_contain(&area, words, hash);
     let wanted = access_index::negative_filter_may_contain(rust.as_deref(), hash);
     group.rust("negative_filter_may_contain", found, wanted, input);
-    port::mark_negative_filter(&mut area, words, hash);
+    port::test_mark_negative_filter(&mut area, words, hash);
     access_index::mark_negative_filter(&mut rust, hash);
     let wanted = lent(&rust.unwrap_or_default());
     group.area("mark_negative_filter", &area, &wanted, input);
-    let found = port::negative_filter_may_contain(&area, words, hash);
+    let found = port::test_negative_filter_may_contain(&area, words, hash);
     group.rule("marked hash", found, true, input);
 }
 
@@ -96,8 +96,8 @@ fn short(group: &mut Group, rng: &mut Rng, hash: u64) {
     let input = || format!("area of {}, {words}, {hash:#x}", before.len());
     let mut area = lent(&before);
     let wanted = area.clone();
-    port::mark_negative_filter(&mut area[..before.len()], words, hash);
+    port::test_mark_negative_filter(&mut area[..before.len()], words, hash);
     group.area("mark_negative_filter short", &area, &wanted, input);
-    let found = port::negative_filter_may_contain(&before, words, hash);
+    let found = port::test_negative_filter_may_contain(&before, words, hash);
     group.rule("negative_filter_may_contain short", found, true, input);
 }

@@ -23,7 +23,7 @@ impl Lent {
     pub fn cleared(on: bool, packed: bool, buckets: usize, filter_words: usize) -> Lent {
         let cleared = |words: usize| {
             let mut area = lent(&word_pattern(words));
-            port::clear_words(&mut area, words);
+            port::test_clear_words(&mut area, words);
             area
         };
         Lent {

@@ -5,6 +5,9 @@ mod build_walks;
 mod call_lists;
 mod call_orders;
 mod durations;
+#[macro_use]
+#[path = "../../bindings/rust/src/ffi.rs"]
+mod ffi;
 mod filter;
 mod finds;
 mod forged;
@@ -23,7 +26,6 @@ mod model;
 mod packed_index;
 mod port;
 mod port_index;
-mod port_lookups;
 #[cfg(not(stand_in))]
 mod port_rebuilds;
 mod port_sets;

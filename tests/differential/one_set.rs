@@ -103,7 +103,7 @@ fn push(
     *word = port_index::test_encode_index_word(port::test_hash_tag(hash), location);
     let first = port::test_reduce_hash(hash, buckets);
     if port_index::test_bucket_displacement(first, slot / 8, buckets) >= 2 {
-        port_index::mark_negative_filter(&mut areas.filter, areas.filter_words, hash);
+        port_index::test_mark_negative_filter(&mut areas.filter, areas.filter_words, hash);
     }
 }
 
@@ -141,7 +141,7 @@ fn finish(
     group.area("lengths", &areas.lengths, &area(&set.lengths()), input);
     if setting.packed {
         let mut scratch = word_pattern(areas.buckets);
-        port_index::finish_packed_index(&mut areas.index, areas.buckets, &mut scratch);
+        port_index::test_finish_packed_index(&mut areas.index, areas.buckets, &mut scratch);
     }
     group.area("finished index", &areas.index, &lent(&set.words()), input);
     let filter = lent(set.filter().unwrap_or(&[]));

@@ -51,7 +51,7 @@ fn pack(group: &mut Group, rng: &mut Rng, buckets: usize, kind: u64) {
     let words: Vec<u64> = (0..8 * buckets).map(|_| index_word(rng, kind)).collect();
     let mut index = lent(&words);
     let mut scratch = lent(&word_pattern(buckets));
-    port::finish_packed_index(&mut index, buckets, &mut scratch);
+    port::test_finish_packed_index(&mut index, buckets, &mut scratch);
     let input = || format!("{buckets} buckets, kind {kind}, {words:x?}");
     let packed = access::finish_packed_index(words.clone(), buckets).unwrap_or_default();
     group.area("finish_packed_index", &index, &lent(&packed), input);
@@ -115,7 +115,7 @@ fn too_short(group: &mut Group, rng: &mut Rng, buckets: usize) {
         let words: Vec<u64> = (0..index_len).map(|_| rng.next()).collect();
         let mut index = lent(&words);
         let mut scratch = lent(&word_pattern(scratch_len));
-        port::finish_packed_index(
+        port::test_finish_packed_index(
             &mut index[..index_len],
             buckets,
             &mut scratch[..scratch_len],

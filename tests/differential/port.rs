@@ -1,5 +1,5 @@
-// The port's exports. A slice goes as a pointer and a length; answers that don't fit one number
-// come back in lent words. Nothing checks these declarations against the exports: change both.
+// The port's exports of the lower crates. Answers that don't fit one number come back in lent words.
+// Nothing checks these declarations against the exports: change both.
 unsafe extern "C" {
     pub safe fn test_hash_tag(hash: u64) -> u64;
     pub safe fn test_reduce_hash(hash: u64, buckets: usize) -> usize;
@@ -20,62 +20,47 @@ unsafe extern "C" {
         nanos: u32,
         now_tick: u64,
     ) -> u64;
-    fn test_remaining_ttl(
-        on: bool,
-        tick_secs: u64,
-        tick_nanos: u32,
-        expires_at: u16,
-        now_tick: u64,
-        out: *mut u64,
-        out_len: usize,
-    ) -> u64;
     pub safe fn test_lives_at_tick(expires_at: u16, now_tick: u64) -> bool;
     pub safe fn test_varint_bytes(value: usize) -> usize;
-    fn test_write_varint(output: *mut u8, output_len: usize, value: usize) -> u64;
-    fn test_read_varint(
-        input: *const u8,
-        input_len: usize,
-        cursor: usize,
-        out: *mut u64,
-        out_len: usize,
-    ) -> bool;
-    fn test_encoded_record_bytes(
-        on: bool,
-        key_bytes: usize,
-        value_bytes: usize,
-        out: *mut u64,
-        out_len: usize,
-    ) -> u64;
-    fn test_append_record(
-        rest: *mut u8,
-        rest_len: usize,
-        on: bool,
-        key: *const u8,
-        key_len: usize,
-        value: *const u8,
-        value_len: usize,
-        expires_at: u16,
-        out: *mut u64,
-        out_len: usize,
-    ) -> u64;
-    fn test_record_at(
-        records: *const u8,
-        records_len: usize,
-        on: bool,
-        location: usize,
-        out: *mut u64,
-        out_len: usize,
-    ) -> bool;
-    fn test_same_bytes(a: *const u8, a_len: usize, b: *const u8, b_len: usize) -> bool;
-    fn test_value_slice_len(arena: *const u8, arena_len: usize, at: usize, len: usize) -> usize;
-    fn test_value_slice_byte(
-        arena: *const u8,
-        arena_len: usize,
-        at: usize,
-        len: usize,
-        i: usize,
-    ) -> u64;
 }
+
+export!(fn test_remaining_ttl(
+    on: bool,
+    tick_secs: u64,
+    tick_nanos: u32,
+    expires_at: u16,
+    now_tick: u64,
+    out: &mut [u64],
+) -> u64);
+
+export!(fn test_write_varint(output: &mut [u8], value: usize,) -> u64);
+
+export!(fn test_read_varint(input: &[u8], cursor: usize, out: &mut [u64],) -> bool);
+
+export!(fn test_encoded_record_bytes(
+    on: bool,
+    key_bytes: usize,
+    value_bytes: usize,
+    out: &mut [u64],
+) -> u64);
+
+export!(fn test_append_record(
+    rest: &mut [u8],
+    on: bool,
+    key: &[u8],
+    value: &[u8],
+    expires_at: u16,
+    out: &mut [u64],
+) -> u64);
+
+export!(fn test_record_at(records: &[u8], on: bool, location: usize, out: &mut [u64],) -> bool);
+
+export!(fn test_same_bytes(a: &[u8], b: &[u8],) -> bool);
+
+export!(fn test_value_slice_len(arena: &[u8], at: usize, len: usize,) -> usize);
+
+// The byte at i of the slice handed out, or 256 past its end.
+export!(fn test_value_slice_byte(arena: &[u8], at: usize, len: usize, i: usize,) -> u64);
 
 // Whole seconds and nanoseconds; unlike the Rust's Duration it may hold a second or more in
 // its nanoseconds.
@@ -110,18 +95,7 @@ pub fn encode_expiry(
 // The number and the words that the export left in out.
 pub fn remaining_words(tick: Option<Span>, expires_at: u16, now_tick: u64, out: &mut [u64]) -> u64 {
     let (secs, nanos) = tick.unwrap_or((0, 0));
-    let (words, len) = (out.as_mut_ptr(), out.len());
-    unsafe {
-        test_remaining_ttl(
-            tick.is_some(),
-            secs,
-            nanos,
-            expires_at,
-            now_tick,
-            words,
-            len,
-        )
-    }
+    test_remaining_ttl(tick.is_some(), secs, nanos, expires_at, now_tick, out)
 }
 
 pub fn remaining(tick: Option<Span>, expires_at: u16, now_tick: u64) -> Left {
@@ -135,7 +109,7 @@ pub fn remaining(tick: Option<Span>, expires_at: u16, now_tick: u64) -> Left {
 }
 
 pub fn write_varint(output: &mut [u8], value: usize) -> Result<u64, u64> {
-    let answer = unsafe { test_write_varint(output.as_mut_ptr(), output.len(), value) };
+    let answer = test_write_varint(output, value);
     if answer < 1 << 32 {
         Ok(answer)
     } else {
@@ -143,45 +117,16 @@ pub fn write_varint(output: &mut [u8], value: usize) -> Result<u64, u64> {
     }
 }
 
-pub fn varint_words(input: &[u8], cursor: usize, out: &mut [u64]) -> bool {
-    let (words, len) = (out.as_mut_ptr(), out.len());
-    unsafe { test_read_varint(input.as_ptr(), input.len(), cursor, words, len) }
-}
-
 pub fn read_varint(input: &[u8], cursor: usize) -> Option<(usize, usize)> {
     let mut out = [0; 2];
-    varint_words(input, cursor, &mut out).then_some((out[0] as usize, out[1] as usize))
-}
-
-pub fn size_words(on: bool, key_bytes: usize, value_bytes: usize, out: &mut [u64]) -> u64 {
-    let (words, len) = (out.as_mut_ptr(), out.len());
-    unsafe { test_encoded_record_bytes(on, key_bytes, value_bytes, words, len) }
+    test_read_varint(input, cursor, &mut out).then_some((out[0] as usize, out[1] as usize))
 }
 
 pub fn encoded_record_bytes(on: bool, key_bytes: usize, value_bytes: usize) -> Result<u64, u64> {
     let mut out = [0];
-    match size_words(on, key_bytes, value_bytes, &mut out) {
+    match test_encoded_record_bytes(on, key_bytes, value_bytes, &mut out) {
         0 => Ok(out[0]),
         refusal => Err(refusal),
-    }
-}
-
-pub fn append_words(
-    rest: &mut [u8],
-    on: bool,
-    key: &[u8],
-    value: &[u8],
-    expires_at: u16,
-    out: &mut [u64],
-) -> u64 {
-    let (rest, rest_len) = (rest.as_mut_ptr(), rest.len());
-    let (k, k_len) = (key.as_ptr(), key.len());
-    let (v, v_len) = (value.as_ptr(), value.len());
-    let (words, len) = (out.as_mut_ptr(), out.len());
-    unsafe {
-        test_append_record(
-            rest, rest_len, on, k, k_len, v, v_len, expires_at, words, len,
-        )
     }
 }
 
@@ -193,31 +138,13 @@ pub fn append_record(
     expires_at: u16,
 ) -> Result<u64, u64> {
     let mut out = [0];
-    match append_words(rest, on, key, value, expires_at, &mut out) {
+    match test_append_record(rest, on, key, value, expires_at, &mut out) {
         0 => Ok(out[0]),
         refusal => Err(refusal),
     }
 }
 
-pub fn record_words(records: &[u8], on: bool, location: usize, out: &mut [u64]) -> bool {
-    let (words, len) = (out.as_mut_ptr(), out.len());
-    unsafe { test_record_at(records.as_ptr(), records.len(), on, location, words, len) }
-}
-
 pub fn record_at(records: &[u8], on: bool, location: usize) -> Option<[u64; 7]> {
     let mut out = [0; 7];
-    record_words(records, on, location, &mut out).then_some(out)
-}
-
-pub fn same_bytes(a: &[u8], b: &[u8]) -> bool {
-    unsafe { test_same_bytes(a.as_ptr(), a.len(), b.as_ptr(), b.len()) }
-}
-
-pub fn value_slice_len(arena: &[u8], at: usize, len: usize) -> usize {
-    unsafe { test_value_slice_len(arena.as_ptr(), arena.len(), at, len) }
-}
-
-// The byte at i of the slice handed out, or 256 past its end.
-pub fn value_slice_byte(arena: &[u8], at: usize, len: usize, i: usize) -> u64 {
-    unsafe { test_value_slice_byte(arena.as_ptr(), arena.len(), at, len, i) }
+    test_record_at(records, on, location, &mut out).then_some(out)
 }

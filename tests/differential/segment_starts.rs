@@ -25,14 +25,14 @@ pub fn starts(group: &mut Group, random: u64) {
 }
 
 fn one_start(group: &mut Group, area: &[u64], buckets: usize, bound: u64) {
-    let found = port::next_start(area, buckets, bound);
+    let found = port::test_next_start(area, buckets, bound);
     let wanted = model::next_start(area, buckets, bound);
     let input = || format!("{area:x?}, {buckets}, {bound}");
     group.rule("next_start", found, wanted, input);
 }
 
 fn inside(group: &mut Group, area: &[u64], buckets: usize, filled: usize) {
-    let found = port::locations_inside(area, buckets, filled);
+    let found = port::test_locations_inside(area, buckets, filled);
     let wanted = model::locations_inside(area, buckets, filled);
     let input = || format!("{area:x?}, {buckets}, {filled}");
     group.rule("locations_inside", found, wanted, input);
