@@ -12,7 +12,7 @@ mod passes;
 mod plot;
 mod port;
 #[allow(dead_code)]
-#[path = "../tests/differential/port_index.rs"]
+#[path = "../tests/differential/port/index.rs"]
 mod port_index;
 mod rebuilds;
 mod records;
