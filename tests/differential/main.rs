@@ -135,33 +135,28 @@ fn parts(run: &mut Run) {
     run.group("build walks", index::walks::walks);
     run.group("negative filter", index::filter::filter);
     run.group("segment starts", index::starts::starts);
-    run.group("segments, large target", large::index::segments::split);
-    run.group("segments, small target", small::index::segments::split);
+    run.both(
+        "segments",
+        large::index::segments::split,
+        small::index::segments::split,
+    );
     run.group("packed index", index::packed::packing);
 }
 
 // Whole sets, call by call of the lower crates and by the public calls.
 fn sets(run: &mut Run) {
     run.group("forged lookups", forged::finds::finds);
-    run.group("sets, large target", large::sets::all::sets);
-    run.group("sets, small target", small::sets::all::sets);
-    run.group("calls, large target", large::calls::all::calls);
-    run.group("calls, small target", small::calls::all::calls);
-    run.group(
-        "model of calls, large target",
+    run.both("sets", large::sets::all::sets, small::sets::all::sets);
+    run.both("calls", large::calls::all::calls, small::calls::all::calls);
+    run.both(
+        "model of calls",
         large::calls::all::model_of_calls,
-    );
-    run.group(
-        "model of calls, small target",
         small::calls::all::model_of_calls,
     );
     run.group("orders of questions, lists of calls", calls::orders::orders);
-    run.group(
-        "lists with rebuilds, large target",
+    run.both(
+        "lists with rebuilds",
         large::lines::lists::lists,
-    );
-    run.group(
-        "lists with rebuilds, small target",
         small::lines::lists::lists,
     );
     run.group("forged states and areas", forged::states::states);
@@ -171,34 +166,16 @@ fn sets(run: &mut Run) {
 
 // The two builds are what they should be: the segment target of each, and the stub for the hash.
 fn oracle(group: &mut Group, _random: u64) {
-    let none = || String::new();
-    group.rule(
-        "large target",
-        oracle_large::access::SEGMENT_TARGET,
-        100_663_296,
-        none,
-    );
-    group.rule(
-        "small target",
-        oracle_small::access::SEGMENT_TARGET,
-        4_096,
-        none,
-    );
+    use oracle_large::access as large;
+    use oracle_small::access as small;
+    let targets = [large::SEGMENT_TARGET, small::SEGMENT_TARGET];
+    group.rule("large target", targets[0], 100_663_296, String::new);
+    group.rule("small target", targets[1], 4_096, String::new);
     for hash in rng::edges() {
         oracle_large::set_hash(hash);
         oracle_small::set_hash(!hash);
         let input = || format!("{hash:#x}");
-        group.rule(
-            "large hash",
-            oracle_large::access::key_hash(b"key"),
-            hash,
-            input,
-        );
-        group.rule(
-            "small hash",
-            oracle_small::access::key_hash(b"key"),
-            !hash,
-            input,
-        );
+        group.rule("large hash", large::key_hash(b"key"), hash, input);
+        group.rule("small hash", small::key_hash(b"key"), !hash, input);
     }
 }

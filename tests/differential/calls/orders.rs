@@ -174,21 +174,25 @@ fn setting_words(group: &mut Group, setting: &[u64]) {
         let input = || format!("{setting:?}, {records}");
         group.rule("area_words", (found, ours), (number, wanted), input);
     }
+    record_size(group, setting, 1, 2);
+    // A state has no words for the tick of a setting without expiry.
+    if setting[0] == 1 {
+        let world = World::new(setting, Sizes::for_counts(10, 40, 9));
+        both(group, "open", &world, &Ask::Open { records: 10 });
+    }
+}
+
+fn record_size(group: &mut Group, setting: &[u64], key: usize, value: usize) {
     let (mut ours, mut wanted) = ([UNSET], [UNSET]);
-    let found = port::calls::encoded_record_bytes(setting, 1, 2, &mut ours);
-    let number = model::calls::encoded_record_bytes(setting, 1, 2, &mut wanted);
-    let input = || format!("{setting:?}");
+    let found = port::calls::encoded_record_bytes(setting, key, value, &mut ours);
+    let number = model::calls::encoded_record_bytes(setting, key, value, &mut wanted);
+    let input = || format!("{setting:?}, {key}, {value}");
     group.rule(
         "encoded_record_bytes",
         (found, ours),
         (number, wanted),
         input,
     );
-    // A state has no words for the tick of a setting without expiry.
-    if setting[0] == 1 {
-        let world = World::new(setting, Sizes::for_counts(10, 40, 9));
-        both(group, "open", &world, &Ask::Open { records: 10 });
-    }
 }
 
 // The size of a record, the methods of statistics for any numbers, and words of a state.
@@ -214,17 +218,7 @@ fn sizes(group: &mut Group, rng: &mut Rng, count: u64) {
             true => (u64::MAX - key).wrapping_sub(near),
             false => rng.number(&edges),
         };
-        let (mut ours, mut wanted) = ([UNSET], [UNSET]);
-        let (key, value) = (key as usize, value as usize);
-        let found = port::calls::encoded_record_bytes(&setting, key, value, &mut ours);
-        let number = model::calls::encoded_record_bytes(&setting, key, value, &mut wanted);
-        let input = || format!("{setting:?}, {key}, {value}");
-        group.rule(
-            "encoded_record_bytes",
-            (found, ours),
-            (number, wanted),
-            input,
-        );
+        record_size(group, &setting, key as usize, value as usize);
         let stats = [(); 8].map(|()| rng.number(&edges));
         crate::large::calls::lookups::methods(group, &stats);
         methods_by_model(group, &stats[..rng.pick(&[8, 8, 7, 0])]);

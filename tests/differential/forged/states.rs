@@ -223,37 +223,32 @@ fn consistent(group: &mut Group, stage: &Stage) {
     }
 }
 
+type Open = fn(&[u64], usize, &mut [u64], &mut [u64], &mut [u64], &[u64], &[u64], &[u8]) -> u64;
+
 // An arena of 2^30 bytes is taken and one of a byte more is not. It is never compared whole.
 fn largest_arena(group: &mut Group) {
     use crate::{model, port};
     let arena = vec![0; (1 << 30) + 1];
     let setting = [0, 0, 0, 7, 1, 0];
     for size in [1 << 30, (1 << 30) + 1] {
-        let (mut ours, mut wanted) = ([0; 13], [0; 13]);
-        let (mut index, areas) = ([1; 8], [0; 256]);
-        let lent = &arena[..size];
-        let found = port::calls::open(
-            &setting,
-            1,
-            &mut ours,
-            &mut index,
-            &mut [],
-            &areas,
-            &areas,
-            lent,
-        );
-        let number = model::calls::open(
-            &setting,
-            1,
-            &mut wanted,
-            &mut index,
-            &mut [],
-            &areas,
-            &areas,
-            lent,
-        );
-        group.rule("open", found, number, || format!("arena of {size}"));
-        group.area("builder", &ours, &wanted, || format!("arena of {size}"));
+        let (areas, lent) = ([0; 256], &arena[..size]);
+        let calls = [port::calls::open, model::calls::open as Open];
+        let [ours, wanted] = calls.map(|open| {
+            let (mut builder, index) = ([0; 13], &mut [1; 8]);
+            let number = open(
+                &setting,
+                1,
+                &mut builder,
+                index,
+                &mut [],
+                &areas,
+                &areas,
+                lent,
+            );
+            (number, builder)
+        });
+        group.rule("open", ours.0, wanted.0, || format!("arena of {size}"));
+        group.area("builder", &ours.1, &wanted.1, || format!("arena of {size}"));
         largest_of_set(group, lent);
         crate::forged::rebuilds::largest(group, lent);
     }

@@ -1,21 +1,22 @@
 // The suite of full size: the largest sets and arenas, and rebuilds of them.
-use crate::large;
+use crate::large::full as large;
 use crate::report::Run;
-use crate::small;
+use crate::small::full as small;
 
 pub fn run(run: &mut Run) {
-    use large::full::{rebuild_lines as large_lines, sets as large_sets};
-    use small::full::{rebuild_lines as small_lines, sets as small_sets};
-    run.group("totals, large target", large_sets::totals);
-    run.group("totals, small target", small_sets::totals);
-    run.group("spreads, large target", large_sets::spreads);
-    run.group("spreads, small target", small_sets::spreads);
-    run.group("rebuild lines, large target", large_lines::lines);
-    run.group("rebuild lines, small target", small_lines::lines);
-    run.group("1 GiB, large target", large_sets::gibibytes);
-    run.group("1 GiB, small target", small_sets::gibibytes);
-    run.group("most records, large target", large_sets::most_records);
-    run.group("most records, small target", small_sets::most_records);
+    run.both("totals", large::sets::totals, small::sets::totals);
+    run.both("spreads", large::sets::spreads, small::sets::spreads);
+    run.both(
+        "rebuild lines",
+        large::rebuild_lines::lines,
+        small::rebuild_lines::lines,
+    );
+    run.both("1 GiB", large::sets::gibibytes, small::sets::gibibytes);
+    run.both(
+        "most records",
+        large::sets::most_records,
+        small::sets::most_records,
+    );
     if let Some(memory) = peak_memory() {
         println!("peak memory: {memory}");
     }

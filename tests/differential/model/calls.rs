@@ -299,21 +299,6 @@ fn write_set(builder: &[u64], segments: u64, set: &mut [u64]) {
     set[12..].copy_from_slice(&[key, value, filled - key - value]);
 }
 
-// Where there are too many, the first starts stand there and no lengths.
-fn write_segments(found: &[u64], filled: u64, starts: &mut [u64], lengths: &mut [u64]) -> bool {
-    let shown = found.len().min(SEGMENTS_MAX);
-    starts[..SEGMENTS_MAX].fill(0);
-    starts[..shown].copy_from_slice(&found[..shown]);
-    if found.len() > SEGMENTS_MAX {
-        return false;
-    }
-    lengths[..SEGMENTS_MAX].fill(0);
-    for (i, &start) in found.iter().enumerate() {
-        lengths[i] = found.get(i + 1).copied().unwrap_or(filled) - start;
-    }
-    true
-}
-
 // The questions of a finish between its state and the count of segments.
 fn asked_finish(given: &State<'_>, target: u64, index: &[u64], scratch: &[u64]) -> u64 {
     let &[expected, inserted, buckets, _, filled, ..] = given.numbers else {

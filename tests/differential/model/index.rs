@@ -1,25 +1,16 @@
 // What the index must do, written down once more for where the Rust has no answer: counts that
 // don't fit their areas, locations at which it would panic, targets that are not its own. Where it
 // has one, the groups compare this with it too.
+use crate::model::rules::{SEGMENTS_MAX, word_stored, word_tag, write_segments};
 use crate::parts::record_write::tick;
 use crate::port::index::Areas;
 use oracle_large::access;
 
 pub const NO_START: u64 = 1 << 40;
 
-const SEGMENTS: usize = 256;
-
 const TOO_MANY: u64 = 7;
 
 const TOO_SHORT: u64 = 10;
-
-fn stored(word: u64) -> u64 {
-    word % (1 << 40)
-}
-
-fn tag(word: u64) -> u64 {
-    word >> 40 & 0x7f_ffff
-}
 
 // The words of so many buckets, if there are as many.
 fn words_of(index: &[u64], buckets: usize) -> Option<&[u64]> {
@@ -28,20 +19,22 @@ fn words_of(index: &[u64], buckets: usize) -> Option<&[u64]> {
 
 pub fn next_start(index: &[u64], buckets: usize, bound: u64) -> u64 {
     let words = words_of(index, buckets).unwrap_or(&[]);
-    let locations = words.iter().filter_map(|&word| stored(word).checked_sub(1));
+    let locations = words
+        .iter()
+        .filter_map(|&word| word_stored(word).checked_sub(1));
     let far = locations.filter(|&location| location >= bound);
     far.min().unwrap_or(NO_START)
 }
 
 pub fn locations_inside(index: &[u64], buckets: usize, filled: usize) -> bool {
-    let inside = |&word: &u64| word == 0 || (1..=filled as u64).contains(&stored(word));
+    let inside = |&word: &u64| word == 0 || (1..=filled as u64).contains(&word_stored(word));
     words_of(index, buckets).is_some_and(|words| words.iter().all(inside))
 }
 
 // Where each segment starts, 257 at most.
 pub fn starts(index: &[u64], buckets: usize, filled: usize, target: usize) -> Vec<u64> {
     let mut starts = vec![0_u64];
-    while target > 0 && starts.len() <= SEGMENTS {
+    while target > 0 && starts.len() <= SEGMENTS_MAX {
         let bound = u128::from(starts[starts.len() - 1]) + target as u128;
         if bound >= filled as u128 {
             break;
@@ -64,20 +57,12 @@ pub fn split(
     lengths_area: &mut [u64],
 ) -> Result<u64, u64> {
     let fit = words_of(index, buckets).is_some();
-    if !fit || starts_area.len().min(lengths_area.len()) < SEGMENTS {
+    if !fit || starts_area.len().min(lengths_area.len()) < SEGMENTS_MAX {
         return Err(TOO_SHORT);
     }
     let starts = starts(index, buckets, filled, target);
-    let shown = starts.len().min(SEGMENTS);
-    starts_area[..SEGMENTS].fill(0);
-    starts_area[..shown].copy_from_slice(&starts[..shown]);
-    if starts.len() > SEGMENTS {
+    if !write_segments(&starts, filled as u64, starts_area, lengths_area) {
         return Err(TOO_MANY);
-    }
-    lengths_area[..SEGMENTS].fill(0);
-    for (i, &start) in starts.iter().enumerate() {
-        let end = starts.get(i + 1).copied().unwrap_or(filled as u64);
-        lengths_area[i] = end.saturating_sub(start);
     }
     if filled > target {
         for word in &mut index[..8 * buckets] {
@@ -88,14 +73,14 @@ pub fn split(
 }
 
 fn split_word(word: u64, starts: &[u64]) -> u64 {
-    let Some(location) = stored(word).checked_sub(1) else {
+    let Some(location) = word_stored(word).checked_sub(1) else {
         return word;
     };
     let (segment, start) = (starts.iter().enumerate())
         .rfind(|&(_, &start)| start <= location)
         .unwrap_or((0, &0));
     let location = ((segment as u64) << 32) + (location - start) + 1;
-    tag(word) << 40 | location % (1 << 40)
+    word_tag(word) << 40 | location % (1 << 40)
 }
 
 // The record under a stored location; a segment that is not inside the filled bytes has none.
@@ -123,7 +108,7 @@ type Slot = Option<(u64, u64)>;
 fn slot_in(areas: &Areas, slot: usize) -> Slot {
     if !areas.packed {
         let word = areas.index[slot];
-        return (word != 0).then(|| (tag(word), stored(word)));
+        return (word != 0).then(|| (word_tag(word), word_stored(word)));
     }
     let bytes: Vec<u8> = (areas.index.iter())
         .flat_map(|word| word.to_le_bytes())

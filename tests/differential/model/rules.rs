@@ -266,6 +266,23 @@ pub fn segment_starts(index: &[u64], target: u64) -> Vec<u64> {
     starts
 }
 
+// Where there are too many, the first starts stand there and no lengths. Only forged words have a start
+// past the filled bytes, of a segment of no bytes then.
+pub fn write_segments(found: &[u64], filled: u64, starts: &mut [u64], lengths: &mut [u64]) -> bool {
+    let shown = found.len().min(SEGMENTS_MAX);
+    starts[..SEGMENTS_MAX].fill(0);
+    starts[..shown].copy_from_slice(&found[..shown]);
+    if found.len() > SEGMENTS_MAX {
+        return false;
+    }
+    lengths[..SEGMENTS_MAX].fill(0);
+    for (i, &start) in found.iter().enumerate() {
+        let end = found.get(i + 1).copied().unwrap_or(filled);
+        lengths[i] = end.saturating_sub(start);
+    }
+    true
+}
+
 pub fn split_word(word: u64, starts: &[u64]) -> u64 {
     let Some(location) = word_stored(word).checked_sub(1) else {
         return word;

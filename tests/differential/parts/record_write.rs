@@ -1,4 +1,5 @@
 // Sizes of records, and records written to areas of every length.
+use crate::parts::varints::written;
 use crate::port::parts as port;
 use crate::report::Group;
 use crate::rng::{Rng, edges, pattern};
@@ -9,8 +10,6 @@ use std::time::Duration;
 pub const LENGTHS: [usize; 9] = [0, 1, 11, 12, 13, 127, 128, 16_383, 16_384];
 
 pub const NEVER: u16 = 65_535;
-
-const TOO_SHORT: u64 = 10;
 
 // One second: deadlines are then lifetimes in seconds.
 pub fn tick(on: bool) -> Option<Duration> {
@@ -105,8 +104,7 @@ pub fn write(group: &mut Group, random: u64) {
 
 // Writes to a rest of so many bytes, and compares all of it with what was there before.
 fn write_one(group: &mut Group, on: bool, key: &[u8], value: &[u8], expires_at: u16, room: usize) {
-    let mut wanted = rust_record(on, key, value, expires_at);
-    let size = wanted.len();
+    let wanted = rust_record(on, key, value, expires_at);
     let mut rest = pattern(room);
     let found = port::append_record(&mut rest, on, key, value, expires_at);
     let input = || {
@@ -114,14 +112,7 @@ fn write_one(group: &mut Group, on: bool, key: &[u8], value: &[u8], expires_at: 
             "rest of {room}, expiry {on}, deadline {expires_at}, key {key:02x?}, value {value:02x?}"
         )
     };
-    if room < size {
-        group.rule("append_record", found, Err(TOO_SHORT), input);
-        group.area("append_record", &rest, &pattern(room), input);
-        return;
-    }
-    wanted.extend_from_slice(&pattern(room)[size..]);
-    group.rust("append_record", found, Ok(size as u64), input);
-    group.area("append_record", &rest, &wanted, input);
+    written(group, "append_record", found, &rest, wanted, input);
 }
 
 pub struct Record {

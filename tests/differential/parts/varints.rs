@@ -36,20 +36,36 @@ fn write_one(group: &mut Group, value: usize, room: usize) {
     group.rust("varint_bytes", port::test_varint_bytes(value), size, input);
     let mut area = pattern(room);
     let found = port::write_varint(&mut area, value);
+    if written(group, "write_varint", found, &area, wanted, input) {
+        group.rule(
+            "read_varint back",
+            port::read_varint(&area, 0),
+            Some((value, size)),
+            input,
+        );
+    }
+}
+
+// What stands in an area that had the pattern: these bytes at its front, or nothing new where it is too
+// short for them.
+pub fn written(
+    group: &mut Group,
+    call: &str,
+    found: Result<u64, u64>,
+    area: &[u8],
+    mut wanted: Vec<u8>,
+    input: impl Fn() -> String,
+) -> bool {
+    let (room, size) = (area.len(), wanted.len());
     if room < size {
-        group.rule("write_varint", found, Err(TOO_SHORT), input);
-        group.area("write_varint", &area, &pattern(room), input);
-        return;
+        group.rule(call, found, Err(TOO_SHORT), &input);
+        group.area(call, area, &pattern(room), input);
+        return false;
     }
     wanted.extend_from_slice(&pattern(room)[size..]);
-    group.rust("write_varint", found, Ok(size as u64), input);
-    group.area("write_varint", &area, &wanted, input);
-    group.rule(
-        "read_varint back",
-        port::read_varint(&area, 0),
-        Some((value, size)),
-        input,
-    );
+    group.rust(call, found, Ok(size as u64), &input);
+    group.area(call, area, &wanted, input);
+    true
 }
 
 pub fn read(group: &mut Group, random: u64) {
