@@ -1,5 +1,4 @@
-// The port's exports of the index, as in parts.rs. Nothing checks these declarations against the
-// exports: change both.
+// The port's exports of the index, as in parts.rs.
 unsafe extern "C" {
     pub safe fn test_encode_index_word(tag: u64, location: u64) -> u64;
     pub safe fn test_index_tag(word: u64) -> u64;

@@ -1,5 +1,5 @@
 // The port's exports of the lower crates. Answers that don't fit one number come back in lent words.
-// Nothing checks these declarations against the exports: change both.
+// tests/bindings/signatures compares these declarations with the exports.
 unsafe extern "C" {
     pub safe fn test_hash_tag(hash: u64) -> u64;
     pub safe fn test_reduce_hash(hash: u64, buckets: usize) -> usize;
@@ -9,8 +9,8 @@ unsafe extern "C" {
     pub safe fn test_wrapping_mul(a: u64, b: u64) -> u64;
     pub safe fn test_rotate_left_27(hash: u64) -> u64;
     pub safe fn test_mixed_hash(hash: u64) -> u64;
-    pub safe fn test_lowest_marked_byte(marks: u64) -> usize;
-    pub safe fn test_without_lowest_mark(marks: u64) -> u64;
+    pub safe fn test_lowest_marked_byte(word: u64) -> usize;
+    pub safe fn test_without_lowest_mark(word: u64) -> u64;
     safe fn test_encode_expiry(
         on: bool,
         tick_secs: u64,
@@ -53,7 +53,7 @@ export!(fn test_append_record(
     out: &mut [u64],
 ) -> u64);
 
-export!(fn test_record_at(records: &[u8], on: bool, location: usize, out: &mut [u64],) -> bool);
+export!(fn test_record_at(bytes: &[u8], on: bool, location: usize, out: &mut [u64],) -> bool);
 
 export!(fn test_same_bytes(a: &[u8], b: &[u8],) -> bool);
 
