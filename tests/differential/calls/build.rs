@@ -6,7 +6,7 @@ use super::oracle;
 use super::oracle::access::SEGMENT_TARGET;
 use super::oracle::access_index::{self as access, Builder, Set, Setting};
 use crate::calls::records::{Entry, duration, too_long, total};
-use crate::calls::world::{Ask, By, Pushed, Sizes, UNSET, World, model};
+use crate::calls::world::{Ask, By, Pushed, Sizes, UNSET, World, model, placed, refusal_of};
 use crate::model::rules;
 use crate::report::Group;
 use crate::rng::Rng;
@@ -129,7 +129,7 @@ impl Build {
         let plain = world.kept();
         let records = list.len() as u64;
         let refusal = by(&mut world, &Ask::Open { records }, 0);
-        let wanted = rust.as_ref().map_or_else(|&refusal| refusal, |_| 0);
+        let wanted = refusal_of(&rust);
         group.rust("open", refusal, wanted, || about.to_string());
         let build = Build {
             by,
@@ -159,10 +159,7 @@ impl Build {
         let mut places = self.places(slot, hash);
         oracle::set_hash(hash);
         let rust = self.builder.push(key, value, duration(lifetime));
-        let (wanted, place) = match rust {
-            Ok(()) => (0, place),
-            Err(refusal) => (refusal, [UNSET; 2]),
-        };
+        let (wanted, place) = placed(rust, place);
         let input = || format!("{key:x?}, {hash:#x}, lifetime {lifetime:?}");
         places.record.end = self.builder.records().len();
         if self.world.interval() > 1 {
@@ -268,7 +265,7 @@ impl Build {
         let target = SEGMENT_TARGET as u64;
         let refusal = (self.by)(&mut self.world, &Ask::Finish { target }, 0);
         let rust = self.builder.finish();
-        let wanted = rust.as_ref().map_or_else(|&refusal| refusal, |_| 0);
+        let wanted = refusal_of(&rust);
         group.rust("finish", refusal, wanted, || self.about.clone());
         let Ok(set) = rust else {
             refused_segments(group, &self.about, &mut self.world, before, &index);
@@ -316,14 +313,20 @@ fn finished(mut world: World, set: &Set, packed: bool) -> World {
         let buckets = words.len() / 8;
         world.scratch[..buckets].copy_from_slice(&words[..buckets]);
     }
+    world.set[..6].copy_from_slice(&world.builder[..6]);
+    let filled = set.stats()[4];
+    world.set[6..].copy_from_slice(&set_numbers(set, filled));
+    world
+}
+
+// The words of a set behind its setting.
+pub fn set_numbers(set: &Set, filled: u64) -> [u64; 9] {
     let [entries, buckets, _, _, bytes, key, value, header] = set.stats();
     let filter = set.filter().map_or(0, <[u64]>::len) as u64;
-    let segments = starts.len() as u64;
-    let setting = world.builder[..6].to_vec();
-    world.set[..6].copy_from_slice(&setting);
-    world.set[6..10].copy_from_slice(&[entries, buckets, filter, segments]);
-    world.set[10..].copy_from_slice(&[bytes, bytes, key, value, header]);
-    world
+    let segments = set.starts().len() as u64;
+    [
+        entries, buckets, filter, segments, filled, bytes, key, value, header,
+    ]
 }
 
 // After refusal 7 the first 256 starts stand there, and nothing else is changed.

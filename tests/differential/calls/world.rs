@@ -309,6 +309,19 @@ macro_rules! ask_by {
     }};
 }
 
+// The Rust's refusal as a number, 0 for none.
+pub fn refusal_of<T>(rust: &Result<T, u64>) -> u64 {
+    rust.as_ref().err().copied().unwrap_or(0)
+}
+
+// The Rust's refusal of a push, and the answer's words: slot and location, where it has none.
+pub fn placed(rust: Result<(), u64>, place: [u64; 2]) -> (u64, [u64; 2]) {
+    match rust {
+        Ok(()) => (0, place),
+        Err(refusal) => (refusal, [UNSET; 2]),
+    }
+}
+
 // Who answers: the port, or the model in its place.
 pub type By = fn(&mut World, &Ask, usize) -> u64;
 

@@ -1,14 +1,16 @@
 // One rebuild of a large set beside the Rust's, with the one arena of its line. This file is a module
 // twice, once for each build of the Rust.
 use super::calls::areas::Places;
-use super::calls::build::setting_words;
+use super::calls::build::{set_numbers, setting_words};
 use super::calls::lookups::Finished;
 use super::lines::line::{front, same_segments};
 use super::oracle;
-use super::oracle::access_index::{self as access, Set, Setting};
+use super::oracle::access_index::{self as access, Setting};
 use super::oracle::access_rebuilds::{Opening, Rebuild};
 use crate::calls::records::{Entry, duration};
-use crate::calls::world::{Ask, Opened, Pushed, Reused, Sizes, UNSET, World, port};
+use crate::calls::world::{
+    Ask, Opened, Pushed, Reused, Sizes, UNSET, World, placed, port, refusal_of,
+};
 use crate::report::Group;
 use crate::rng::has_pattern;
 use std::mem::take;
@@ -83,7 +85,7 @@ impl Making {
             now: plan.now,
         };
         let refusal = port(&mut world, &Ask::RebuildOpen(opened), 0);
-        let wanted = rust.as_ref().map_or_else(|&refusal| refusal, |_| 0);
+        let wanted = refusal_of(&rust);
         group.rust("rebuild open", refusal, wanted, || plan.about.to_string());
         let making = Making {
             about: plan.about.to_string(),
@@ -142,10 +144,7 @@ impl Making {
         let mut places = self.places(slot, entry.hash);
         let (ask, rust) = self.rust_push(from, entry, lifetime);
         let location = access::index_location(self.rust.index()[slot]) as u64;
-        let (wanted, place) = match rust {
-            Ok(()) => (0, [slot as u64, location]),
-            Err(refusal) => (refusal, [UNSET; 2]),
-        };
+        let (wanted, place) = placed(rust, [slot as u64, location]);
         let about = || format!("{}, {:x?}", self.about, entry.key);
         let copied = places.record.start - self.filled()..self.rust.copied().len();
         places.record.end += copied.len();
@@ -225,7 +224,7 @@ impl Making {
         let refusal = port(&mut self.world, &Ask::RebuildFinish, 4);
         self.never_written(group);
         let rust = self.rust.finish();
-        let wanted = rust.as_ref().map_or_else(|&refusal| refusal, |_| 0);
+        let wanted = refusal_of(&rust);
         let about = || format!("rebuild finish, {}", self.about);
         group.rust("refusal", refusal, wanted, about);
         let (set, totals) = rust.ok()?;
@@ -233,7 +232,7 @@ impl Making {
         group.area("totals", &world.out[..4], &totals, about);
         group.area("answer", &world.out[4..], &[UNSET; 10], about);
         group.area("rebuild", &world.rebuild, &rebuild, about);
-        group.area("set", &world.set[6..], &numbers(&set, filled), about);
+        group.area("set", &world.set[6..], &set_numbers(&set, filled), about);
         group.area(
             "setting",
             &world.set[..6],
@@ -257,14 +256,4 @@ impl Making {
         group.area("scratch", &world.scratch, &scratch, about);
         (refusal == 0).then(|| Finished::new(port, self.about.clone(), self.world, set))
     }
-}
-
-// The words of a set behind its setting.
-fn numbers(set: &Set, filled: u64) -> [u64; 9] {
-    let [entries, buckets, _, _, bytes, key, value, header] = set.stats();
-    let filter = set.filter().map_or(0, <[u64]>::len) as u64;
-    let segments = set.starts().len() as u64;
-    [
-        entries, buckets, filter, segments, filled, bytes, key, value, header,
-    ]
 }

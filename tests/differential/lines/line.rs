@@ -6,7 +6,7 @@ use super::oracle::access_index::{self as access, Builder, Parts, Set, Setting};
 use super::oracle::access_rebuilds::{Opening, Rebuild};
 use super::oracle::set_hash;
 use crate::calls::records::duration;
-use crate::calls::world::{Ask, Opened, Pushed, Reused, Sizes, UNSET, World};
+use crate::calls::world::{Ask, Opened, Pushed, Reused, Sizes, World, placed, refusal_of};
 use crate::lines::sides::{At, Sides};
 use crate::model::book::Book;
 use crate::model::rules::{self, RECORDS_MAX};
@@ -108,10 +108,7 @@ impl Line {
         rust: Result<(), u64>,
         place: [u64; 2],
     ) {
-        let (refusal, place) = match rust {
-            Ok(()) => (0, place),
-            Err(refusal) => (refusal, [UNSET; 2]),
-        };
+        let (refusal, place) = placed(rust, place);
         let about = || format!("{call}, {}", self.about);
         group.rust("refusal", number, refusal, about);
         group.area(
@@ -190,7 +187,7 @@ impl Line {
                 now: opened.now,
             };
             let rust = Rebuild::open(&known.set, &opening);
-            let refusal = rust.as_ref().map_or_else(|&refusal| refusal, |_| 0);
+            let refusal = refusal_of(&rust);
             group.rust("rebuild open", number, refusal, || self.about.clone());
             if number == 0 {
                 self.rebuilding = rust.ok();
@@ -268,7 +265,7 @@ impl Line {
         let totals = self.answer(At::Open, 4);
         let rust = self.rebuilding.take().map(Rebuild::finish);
         if let Some(rust) = &rust {
-            let refusal = rust.as_ref().map_or_else(|&refusal| refusal, |_| 0);
+            let refusal = refusal_of(rust);
             let wanted = rust.as_ref().map_or([0; 4], |(_, totals)| *totals);
             let about = || format!("rebuild finish, {}", self.about);
             group.rust("refusal", number, refusal, about);
