@@ -2,6 +2,7 @@
 // times and ratios: bench all | quick | plot FILE
 mod calls;
 #[allow(dead_code)]
+#[macro_use]
 #[path = "../bindings/rust/src/ffi.rs"]
 mod ffi;
 mod growth;
@@ -11,7 +12,7 @@ mod passes;
 mod plot;
 mod port;
 #[allow(dead_code)]
-#[path = "../tests/differential/port_index.rs"]
+#[path = "../tests/differential/port/index.rs"]
 mod port_index;
 mod rebuilds;
 mod records;

@@ -30,8 +30,8 @@ compile() { # NAME ARGUMENTS..
 # The source goes into the build unchanged, with the accessors behind it.
 rm -rf "$build"
 mkdir -p "$build/oracle"
-cp "$here/oracle.rs" "$build/oracle/oracle.rs"
-cat "$oracle" "$here"/access{,_index,_sets,_rebuilds}.rs >"$build/oracle/segment_cache.rs"
+cp "$here/oracle/oracle.rs" "$build/oracle/oracle.rs"
+cat "$oracle" "$here"/oracle/access{,_index,_sets,_rebuilds}.rs >"$build/oracle/segment_cache.rs"
 
 # As a release build, and once more with the short segment target that it has in its own tests.
 release=(--crate-type rlib -C overflow-checks=off -C debug-assertions=off -A warnings)

@@ -1,52 +1,81 @@
 // Calls the port and the Rust that it was made from with the same inputs and compares the answers.
-mod areas;
-mod book;
-mod build_walks;
-mod call_lists;
-mod call_orders;
-mod durations;
-mod filter;
-mod finds;
-mod forged;
-mod forged_calls;
-mod forged_finds;
-mod forged_rebuilds;
-mod forged_states;
-mod full;
-mod full_records;
-mod hash;
-mod index_words;
-mod large;
-mod line_records;
-mod line_sides;
-mod model;
-mod packed_index;
-mod port;
-mod port_index;
-mod port_lookups;
-#[cfg(not(stand_in))]
-mod port_rebuilds;
-mod port_sets;
-mod rebuild_stages;
-mod record_read;
-mod record_write;
+#[cfg_attr(stand_in, allow(dead_code))]
+#[macro_use]
+#[path = "../../bindings/rust/src/ffi.rs"]
+mod ffi;
 mod report;
 mod rng;
-mod segment_starts;
-mod set_model;
-mod set_model_lookups;
-mod set_model_rebuilds;
-mod set_rules;
-mod set_world;
-mod small;
-mod spreads;
-mod stages;
-mod varints;
 
-// In place of the library's rebuild calls, those of a file: programs with an error are tried so.
-#[cfg(stand_in)]
-mod port_rebuilds {
-    include!(env!("STAND_IN"));
+mod calls {
+    pub mod orders;
+    pub mod records;
+    pub mod world;
+}
+mod forged {
+    pub mod arenas;
+    pub mod calls;
+    pub mod finds;
+    pub mod rebuild_stages;
+    pub mod rebuilds;
+    pub mod stages;
+    pub mod states;
+}
+mod full {
+    pub mod records;
+    pub mod suite;
+}
+mod index {
+    pub mod filter;
+    pub mod packed;
+    pub mod starts;
+    pub mod walks;
+    pub mod words;
+}
+mod lines {
+    pub mod records;
+    pub mod sides;
+}
+mod model {
+    pub mod book;
+    pub mod calls;
+    pub mod index;
+    pub mod lookups;
+    pub mod rebuilds;
+    pub mod rules;
+}
+mod parts {
+    pub mod areas;
+    pub mod durations;
+    pub mod hash;
+    pub mod record_read;
+    pub mod record_write;
+    pub mod varints;
+}
+mod port {
+    pub mod calls;
+    pub mod index;
+    pub mod parts;
+    #[cfg(not(stand_in))]
+    pub mod rebuilds;
+    // In place of the library's rebuild calls, those of a file: programs with an error are tried so.
+    #[cfg(stand_in)]
+    pub mod rebuilds {
+        include!(env!("STAND_IN"));
+    }
+}
+mod sets {
+    pub mod finds;
+    pub mod spreads;
+}
+
+// The groups that split arenas, with the Rust as it is and as it is in its own tests.
+mod large {
+    use oracle_large as oracle;
+    include!("both.rs");
+}
+mod small {
+    use oracle_small as oracle;
+    include!("both.rs");
 }
 
 use report::{Group, Run};
@@ -74,7 +103,7 @@ fn main() -> ExitCode {
     let mut run = Run::new(random, only);
     run.group("oracle", oracle);
     if suite == "full" {
-        full::run(&mut run);
+        full::suite::run(&mut run);
     } else {
         parts(&mut run);
         sets(&mut run);
@@ -88,82 +117,65 @@ fn main() -> ExitCode {
 
 // The functions of the lower crates.
 fn parts(run: &mut Run) {
-    run.group("hash parts", hash::parts);
-    run.group("tags", hash::tags);
-    run.group("zero bytes and marks", hash::marks);
-    run.group("mixed hash", hash::mixed);
-    run.group("deadlines", durations::deadlines);
-    run.group("remaining time", durations::remaining);
-    run.group("varint writing", varints::write);
-    run.group("varint reading", varints::read);
-    run.group("record sizes", record_write::sizes);
-    run.group("record writing", record_write::write);
-    run.group("record reading", record_read::read);
-    run.group("byte slices", areas::slices);
-    run.group("lent words", areas::words);
-    run.group("index words", index_words::words);
-    run.group("buckets", index_words::buckets);
-    run.group("build walks", build_walks::walks);
-    run.group("negative filter", filter::filter);
-    run.group("segment starts", segment_starts::starts);
-    run.group("segments, large target", large::segments::split);
-    run.group("segments, small target", small::segments::split);
-    run.group("packed index", packed_index::packing);
+    run.group("hash parts", parts::hash::parts);
+    run.group("tags", parts::hash::tags);
+    run.group("zero bytes and marks", parts::hash::marks);
+    run.group("mixed hash", parts::hash::mixed);
+    run.group("deadlines", parts::durations::deadlines);
+    run.group("remaining time", parts::durations::remaining);
+    run.group("varint writing", parts::varints::write);
+    run.group("varint reading", parts::varints::read);
+    run.group("record sizes", parts::record_write::sizes);
+    run.group("record writing", parts::record_write::write);
+    run.group("record reading", parts::record_read::read);
+    run.group("byte slices", parts::areas::slices);
+    run.group("lent words", parts::areas::words);
+    run.group("index words", index::words::words);
+    run.group("buckets", index::words::buckets);
+    run.group("build walks", index::walks::walks);
+    run.group("negative filter", index::filter::filter);
+    run.group("segment starts", index::starts::starts);
+    run.both(
+        "segments",
+        large::index::segments::split,
+        small::index::segments::split,
+    );
+    run.group("packed index", index::packed::packing);
 }
 
 // Whole sets, call by call of the lower crates and by the public calls.
 fn sets(run: &mut Run) {
-    run.group("forged lookups", forged_finds::finds);
-    run.group("sets, large target", large::sets::sets);
-    run.group("sets, small target", small::sets::sets);
-    run.group("calls, large target", large::calls::calls);
-    run.group("calls, small target", small::calls::calls);
-    run.group("model of calls, large target", large::calls::model_of_calls);
-    run.group("model of calls, small target", small::calls::model_of_calls);
-    run.group("orders of questions, lists of calls", call_orders::orders);
-    run.group(
-        "lists with rebuilds, large target",
-        large::line_lists::lists,
+    run.group("forged lookups", forged::finds::finds);
+    run.both("sets", large::sets::all::sets, small::sets::all::sets);
+    run.both("calls", large::calls::all::calls, small::calls::all::calls);
+    run.both(
+        "model of calls",
+        large::calls::all::model_of_calls,
+        small::calls::all::model_of_calls,
     );
-    run.group(
-        "lists with rebuilds, small target",
-        small::line_lists::lists,
+    run.group("orders of questions, lists of calls", calls::orders::orders);
+    run.both(
+        "lists with rebuilds",
+        large::lines::lists::lists,
+        small::lines::lists::lists,
     );
-    run.group("forged states and areas", forged_states::states);
-    run.group("forged rebuilds and areas", forged_rebuilds::states);
-    run.group("forged words, records and segments", forged_calls::calls);
+    run.group("forged states and areas", forged::states::states);
+    run.group("forged rebuilds and areas", forged::rebuilds::states);
+    run.group("forged words, records and segments", forged::calls::calls);
 }
 
 // The two builds are what they should be: the segment target of each, and the stub for the hash.
 fn oracle(group: &mut Group, _random: u64) {
-    let none = || String::new();
-    group.rule(
-        "large target",
-        oracle_large::access::SEGMENT_TARGET,
-        100_663_296,
-        none,
-    );
-    group.rule(
-        "small target",
-        oracle_small::access::SEGMENT_TARGET,
-        4_096,
-        none,
-    );
+    use oracle_large::access as large;
+    use oracle_small::access as small;
+    let targets = [large::SEGMENT_TARGET, small::SEGMENT_TARGET];
+    group.rule("large target", targets[0], 100_663_296, String::new);
+    group.rule("small target", targets[1], 4_096, String::new);
     for hash in rng::edges() {
         oracle_large::set_hash(hash);
         oracle_small::set_hash(!hash);
         let input = || format!("{hash:#x}");
-        group.rule(
-            "large hash",
-            oracle_large::access::key_hash(b"key"),
-            hash,
-            input,
-        );
-        group.rule(
-            "small hash",
-            oracle_small::access::key_hash(b"key"),
-            !hash,
-            input,
-        );
+        group.rule("large hash", large::key_hash(b"key"), hash, input);
+        group.rule("small hash", small::key_hash(b"key"), !hash, input);
     }
 }

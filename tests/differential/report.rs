@@ -26,12 +26,18 @@ impl Run {
         }
     }
 
-    pub fn group(&mut self, name: &'static str, compare: impl FnOnce(&mut Group, u64)) {
+    // A group that runs with both builds of the Rust.
+    pub fn both(&mut self, name: &str, large: fn(&mut Group, u64), small: fn(&mut Group, u64)) {
+        self.group(&format!("{name}, large target"), large);
+        self.group(&format!("{name}, small target"), small);
+    }
+
+    pub fn group(&mut self, name: &str, compare: impl FnOnce(&mut Group, u64)) {
         if !name.contains(&self.only) {
             return;
         }
         let mut group = Group {
-            name,
+            name: name.to_string(),
             start: Instant::now(),
             cases: 0,
             differences: 0,
@@ -54,7 +60,7 @@ impl Run {
 }
 
 pub struct Group {
-    name: &'static str,
+    name: String,
     start: Instant,
     cases: u64,
     differences: u64,

@@ -65,12 +65,6 @@ macro_rules! export {
     };
 }
 
-unsafe extern "C" {
-    safe fn segment_cache_builder_words() -> usize;
-    safe fn segment_cache_set_words() -> usize;
-    safe fn segment_cache_rebuild_words() -> usize;
-}
-
 // A count answers 0 where it is the right one.
 macro_rules! count {
     ($name:literal, $call:ident, $right:literal) => {

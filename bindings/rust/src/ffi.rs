@@ -1,31 +1,38 @@
 //! The exports of libcapi.a, each written as the library declares it. In C a slice is a pointer and a
 //! length; the macro makes that declaration and a function on slices around it, so that no caller can
-//! lend a length that isn't the slice's own.
+//! lend a length that isn't the slice's own. The tests and the bench call the library by this file too,
+//! and use the macro for exports with other results.
 
 macro_rules! export {
     (fn $name:ident($($rest:tt)*)) => {
-        export!(@ $name [] [] [] $($rest)*);
+        export!(fn $name($($rest)*) -> u64);
     };
-    (@ $name:ident [$($c:tt)*] [$($params:tt)*] [$($args:tt)*] $arg:ident: &[$t:ty], $($rest:tt)*) => {
-        export!(@ $name
+    (fn $name:ident($($rest:tt)*) -> $result:ty) => {
+        export!(@ $name $result [] [] [] $($rest)*);
+    };
+    (@ $name:ident $result:ty
+        [$($c:tt)*] [$($params:tt)*] [$($args:tt)*] $arg:ident: &[$t:ty], $($rest:tt)*) => {
+        export!(@ $name $result
             [$($c)* _: *const $t, _: usize,] [$($params)* $arg: &[$t],]
             [$($args)* $arg.as_ptr(), $arg.len(),] $($rest)*);
     };
-    (@ $name:ident [$($c:tt)*] [$($params:tt)*] [$($args:tt)*] $arg:ident: &mut [$t:ty], $($rest:tt)*) => {
-        export!(@ $name
+    (@ $name:ident $result:ty
+        [$($c:tt)*] [$($params:tt)*] [$($args:tt)*] $arg:ident: &mut [$t:ty], $($rest:tt)*) => {
+        export!(@ $name $result
             [$($c)* _: *mut $t, _: usize,] [$($params)* $arg: &mut [$t],]
             [$($args)* $arg.as_mut_ptr(), $arg.len(),] $($rest)*);
     };
-    (@ $name:ident [$($c:tt)*] [$($params:tt)*] [$($args:tt)*] $arg:ident: $t:ty, $($rest:tt)*) => {
-        export!(@ $name
+    (@ $name:ident $result:ty
+        [$($c:tt)*] [$($params:tt)*] [$($args:tt)*] $arg:ident: $t:ty, $($rest:tt)*) => {
+        export!(@ $name $result
             [$($c)* _: $t,] [$($params)* $arg: $t,]
             [$($args)* $arg,] $($rest)*);
     };
-    (@ $name:ident [$($c:tt)*] [$($params:tt)*] [$($args:tt)*]) => {
+    (@ $name:ident $result:ty [$($c:tt)*] [$($params:tt)*] [$($args:tt)*]) => {
         #[allow(clippy::too_many_arguments)]
-        pub fn $name($($params)*) -> u64 {
+        pub fn $name($($params)*) -> $result {
             unsafe extern "C" {
-                fn $name($($c)*) -> u64;
+                fn $name($($c)*) -> $result;
             }
             // SAFETY: every pointer and length is of a live slice, references don't alias, and the
             // library, proved for all inputs, reads and writes only inside the slices.
@@ -218,3 +225,11 @@ export!(fn segment_cache_area_words(
     records: usize,
     words: &mut [u64],
 ));
+
+// The crate has these three as constants; tests of the library ask for them.
+#[allow(dead_code)]
+unsafe extern "C" {
+    pub safe fn segment_cache_builder_words() -> usize;
+    pub safe fn segment_cache_set_words() -> usize;
+    pub safe fn segment_cache_rebuild_words() -> usize;
+}
