@@ -45,7 +45,8 @@ module _ (H : List ℕ → ℕ) where
         current = ok;
         sets =
             Forall₂·imp
-            (λ s l. set-arena H (k .expiry) (w .arena) (pasted at bytes (w .arena)) top top s l (take-pasted at top bytes (w .arena) (omega (arith, m .top)) (omega arith)) (pasted-length at bytes (w .arena) fits) (omega arith))
+            (λ s l. set-arena H (k .expiry) (w .arena) (pasted at bytes (w .arena)) top top s l (take-pasted at top bytes (w .arena) (omega (arith, m .top)) (omega arith))
+            (pasted-length at bytes (w .arena) fits) (omega arith))
             (m .sets);
       }
     where

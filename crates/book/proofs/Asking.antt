@@ -55,15 +55,19 @@ live-ruled arena tick y e same bytes = rw same (go (eqb (e .deadline) 65535) (lt
     go false true = ap value bytes
     go false false = refl
 
-module _ (H : List ℕ → ℕ) (x : SegmentExpiry) (arena : List ℕ) (top : ℕ) (s : FinishedSet) (l : ListedSet) (ok : SetHolds H x arena top s l) (key : List ℕ) (h : ℕ) (hash : h ≡ H key) (bound : h < 2 ^ 64) where
+module _ (H : List ℕ → ℕ) (x : SegmentExpiry) (arena : List ℕ) (top : ℕ) (s : FinishedSet) (l : ListedSet) (ok : SetHolds H x arena top s l) (key : List ℕ) (h : ℕ)
+    (hash : h ≡ H key) (bound : h < 2 ^ 64) where
   long : 8 * s .cache .buckets ≤ length (s .areas .index)
   long = set-index-holds (s .cache) (length (s .areas .index)) (length (s .areas .filter)) (length (s .areas .starts)) (length (s .areas .lengths)) (length arena) (ok .passes)
 
   -- the value handed out lies in the arena
-  value-bytes : (y : FoundRecord) (e : Entry) → foundIn arena s key h ≡ find.Found y → contents arena (Read (y .entry)) ≡ some (storedOf e) → (y .entry .«expires_at» ≡ e .deadline) × (spanned arena (y .entry .value) ≡ e .value)
+  value-bytes : (y : FoundRecord) (e : Entry) → foundIn arena s key h ≡ find.Found y → contents arena (Read (y .entry)) ≡ some (storedOf e)
+      → (y .entry .«expires_at» ≡ e .deadline) × (spanned arena (y .entry .value) ≡ e .value)
   unfolding spanned
   value-bytes y e f c =
-      let at = find-slot (viewOf (s .cache)) (s .cache .config .«packed_bucket_index») (s .areas .index) (s .cache .buckets) (s .areas .filter) (s .cache .«filter_words») (s .areas .starts) (s .areas .lengths) arena key h y bound f in
+      let at =
+      find-slot (viewOf (s .cache)) (s .cache .config .«packed_bucket_index») (s .areas .index) (s .cache .buckets) (s .areas .filter) (s .cache .«filter_words»)
+      (s .areas .starts) (s .areas .lengths) arena key h y bound f in
       let i = read-inside (viewOf (s .cache)) arena (s .areas .starts) (s .areas .lengths) (at .0 .location) (y .entry) (at .0 .reads) in
       let whole : y .entry .value .at + y .entry .value .len ≤ length arena = omega (arith, i .value-inside, length-take (s .cache .filled) arena) in
       let t : Stored = record { key = part (y .entry .key .at) (y .entry .key .len) arena; value = part (y .entry .value .at) (y .entry .value .len) arena; deadline = y .entry .«expires_at» } in
@@ -90,9 +94,11 @@ module _ (H : List ℕ → ℕ) (x : SegmentExpiry) (arena : List ℕ) (top : �
 -- ---- marks
 
 -- the index stands for the same list after the mark of a found slot is set or cleared
-module _ {H : List ℕ → ℕ} {Holds : ℕ → Entry → Type 0} (view : SegmentView) (index : List ℕ) (buckets : ℕ) (filter : List ℕ) (words : ℕ) (starts lengths arena key : List ℕ) (h : ℕ) (y : FoundRecord) (bound : h < 2 ^ 64) {r : List Entry} where
+module _ {H : List ℕ → ℕ} {Holds : ℕ → Entry → Type 0} (view : SegmentView) (index : List ℕ) (buckets : ℕ) (filter : List ℕ) (words : ℕ) (starts lengths arena key : List ℕ) (h : ℕ)
+    (y : FoundRecord) (bound : h < 2 ^ 64) {r : List Entry} where
   slot-marked : (packed : Bool) → findIn view packed index buckets filter words starts lengths arena key h ≡ find.Found y
-      → Indexed storedOf H packed Holds buckets (indexSlots packed buckets index) filter words r → Indexed storedOf H packed Holds buckets (indexSlots packed buckets (slotMarked packed index (y .slot))) filter words r
+      → Indexed storedOf H packed Holds buckets (indexSlots packed buckets index) filter words r
+      → Indexed storedOf H packed Holds buckets (indexSlots packed buckets (slotMarked packed index (y .slot))) filter words r
   unfolding slotMarked
   slot-marked true f x =
       let below : y .slot < 8 * buckets = find-slot view true index buckets filter words starts lengths arena key h y bound f .1 in
@@ -100,7 +106,8 @@ module _ {H : List ℕ → ℕ} {Holds : ℕ → Entry → Type 0} (view : Segme
   slot-marked false f x = marked-indexed buckets index x (y .slot) (find-word view index buckets filter words starts lengths arena key h y bound f .0)
 
   slot-cleared : (packed : Bool) → findIn view packed index buckets filter words starts lengths arena key h ≡ find.Found y
-      → Indexed storedOf H packed Holds buckets (indexSlots packed buckets index) filter words r → Indexed storedOf H packed Holds buckets (indexSlots packed buckets (slotCleared packed index (y .slot))) filter words r
+      → Indexed storedOf H packed Holds buckets (indexSlots packed buckets index) filter words r
+      → Indexed storedOf H packed Holds buckets (indexSlots packed buckets (slotCleared packed index (y .slot))) filter words r
   unfolding slotCleared
   slot-cleared true f x =
       let below : y .slot < 8 * buckets = find-slot view true index buckets filter words starts lengths arena key h y bound f .1 in
@@ -132,7 +139,8 @@ module _ (H : List ℕ → ℕ) (x : SegmentExpiry) (arena : List ℕ) (top : �
         reindexed _ (get-passes (s .cache) h key (s .areas .index) (s .areas .filter) (s .areas .starts) (s .areas .lengths) arena tick ∙ ok .passes)
         (rw (get-asks (s .cache) h key (s .areas .index) (s .areas .filter) (s .areas .starts) (s .areas .lengths) arena (ok .passes) tick) (go (foundIn arena s key h) refl))
       where
-        live : (y : FoundRecord) → foundIn arena s key h ≡ find.Found y → (b : Bool) → Same (cond b (slotMarked (s .cache .config .«packed_bucket_index») (s .areas .index) (y .slot)) (s .areas .index))
+        live : (y : FoundRecord) → foundIn arena s key h ≡ find.Found y → (b : Bool)
+            → Same (cond b (slotMarked (s .cache .config .«packed_bucket_index») (s .areas .index) (y .slot)) (s .areas .index))
         live y f true =
             slot-marked (viewOf (s .cache)) (s .areas .index) (s .cache .buckets) (s .areas .filter) (s .cache .«filter_words») (s .areas .starts) (s .areas .lengths) arena key h y bound
             (s .cache .config .«packed_bucket_index») f (ok .index)

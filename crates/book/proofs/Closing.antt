@@ -83,7 +83,8 @@ module _ (H : List ℕ → ℕ) where
       same : ss ≡ bookStarts (length tape) target (k .list)
       same =
           rw (← ok .filled)
-          (index-starts (b .«bucket_count») (a .index) (a .filter) (b .«filter_words») (b .filled) target (k .list) (ok .index) (asked .some-target) (rw (ok .filled) (ok .below)) (omega (arith, ok .filled, short)) few)
+          (index-starts (b .«bucket_count») (a .index) (a .filter) (b .«filter_words») (b .filled) target (k .list) (ok .index) (asked .some-target) (rw (ok .filled) (ok .below))
+          (omega (arith, ok .filled, short)) few)
 
       Reads : ℕ → Entry → Type 0
       Reads m e =
@@ -103,4 +104,5 @@ module _ (H : List ℕ → ℕ) where
       moves l e h =
           let at : l ≡ e .at = omega (arith, h .flat) in
           rw (at, ok .expiry, ok .filled)
-          (split-reads x tape arena (a .starts) (a .lengths) memory short (asked .starts-hold) (asked .lengths-hold) 0 _ (rw (ok .filled) at few) e (h .written) (omega arith) (rw (ok .filled) at (every-tail (apart e h))))
+          (split-reads x tape arena (a .starts) (a .lengths) memory short (asked .starts-hold) (asked .lengths-hold) 0 _ (rw (ok .filled) at few) e (h .written) (omega arith)
+          (rw (ok .filled) at (every-tail (apart e h))))

@@ -78,7 +78,8 @@ segmentsOf s = (take (s .cache .segments) (s .areas .starts), s .cache .filled)
 abbrev pub segmentsIn : ListedSet → List ℕ × ℕ
 segmentsIn l = (l .starts, l .filled)
 
-same-segments : {H : List ℕ → ℕ} {x : SegmentExpiry} {arena : List ℕ} {top : ℕ} {ss : List FinishedSet} {ls : List ListedSet} → Forall₂ (SetHolds H x arena top) ss ls → map segmentsOf ss ≡ map segmentsIn ls
+same-segments : {H : List ℕ → ℕ} {x : SegmentExpiry} {arena : List ℕ} {top : ℕ} {ss : List FinishedSet} {ls : List ListedSet} → Forall₂ (SetHolds H x arena top) ss ls
+    → map segmentsOf ss ≡ map segmentsIn ls
 same-segments Forall₂·nil = refl
 same-segments (Forall₂·cons y r) =
     ap₂ (λ (p : List ℕ × ℕ) (l : List (List ℕ × ℕ)). p ∷ l) (ap₂ (λ (starts : List ℕ) (filled : ℕ). (starts, filled)) (y .starts) (y .filled)) (same-segments r)

@@ -44,7 +44,8 @@ module _ (H : List ℕ → ℕ) where
       → (key value : List ℕ) (h slot deadline size after : ℕ) → h ≡ H key → h < 2 ^ 64 → slotFor never (a .index) (r .«bucket_count») h ≡ Empty slot
       → storedAt (k .expiry) (recordBytes (k .expiry) key value deadline) 0 ≡ some record { key = key; value = value; deadline = deadline }
       → size ≡ length (recordBytes (k .expiry) key value deadline) → r .«copied_bytes» ≤ 1_073_741_824 → retained (r .kept) < 256
-      → rebuildPasses (copiedGrown r size (length key) (length value)) (length (set (a .index) slot (wordOf (tagOf h) (copiedLocation r)))) (length (displacedMarked (a .filter) (r .«filter_words») h slot (r .«bucket_count»))) (a .starts) (a .lengths) after ≡ true
+      → rebuildPasses (copiedGrown r size (length key) (length value)) (length (set (a .index) slot (wordOf (tagOf h) (copiedLocation r))))
+      (length (displacedMarked (a .filter) (r .«filter_words») h slot (r .«bucket_count»))) (a .starts) (a .lengths) after ≡ true
       → RebuildHolds H (copiedGrown r size (length key) (length value))
       record {
         index = set (a .index) slot (wordOf (tagOf h) (copiedLocation r));

@@ -45,10 +45,12 @@ new-back e key value ttl base n fits = stored-back e key value (encodedExpiry e 
 module _ (H : List ℕ → ℕ) where
   -- the slot found, the entry's deadline, how many bytes it takes, and how long the arena is then
   pub builder-push : (b : SegmentCacheBuilder) (a : Areas) (arena : List ℕ) (k : Book) → BuilderHolds H b a (length arena) k
-      → (key value : List ℕ) (h slot deadline size after : ℕ) → h ≡ H key → h < 2 ^ 64 → slotFor (holdsKey (buildRecord (b .config .expiry) (take (b .filled) arena)) key (tagOf h)) (a .index) (b .«bucket_count») h ≡ Empty slot
+      → (key value : List ℕ) (h slot deadline size after : ℕ) → h ≡ H key → h < 2 ^ 64
+      → slotFor (holdsKey (buildRecord (b .config .expiry) (take (b .filled) arena)) key (tagOf h)) (a .index) (b .«bucket_count») h ≡ Empty slot
       → storedAt (k .expiry) (recordBytes (k .expiry) key value deadline) 0 ≡ some record { key = key; value = value; deadline = deadline }
       → size ≡ length (recordBytes (k .expiry) key value deadline) → b .filled ≤ 1_073_741_824
-      → builderPasses (builderGrown b size (length key) (length value)) (length (set (a .index) slot (wordOf (tagOf h) (b .filled)))) (length (displacedMarked (a .filter) (b .«filter_words») h slot (b .«bucket_count»))) (length (a .starts)) (length (a .lengths)) after ≡ true
+      → builderPasses (builderGrown b size (length key) (length value)) (length (set (a .index) slot (wordOf (tagOf h) (b .filled))))
+      (length (displacedMarked (a .filter) (b .«filter_words») h slot (b .«bucket_count»))) (length (a .starts)) (length (a .lengths)) after ≡ true
       → BuilderHolds H (builderGrown b size (length key) (length value))
       record {
         index = set (a .index) slot (wordOf (tagOf h) (b .filled));

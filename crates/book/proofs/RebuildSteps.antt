@@ -74,7 +74,8 @@ module _ (H : List ℕ → ℕ) where
 
   -- ---- reused push
 
-  pub reuse-holds : (w : World) (k : Book) → Holds H w k → (c : Current) → CurrentHolds H (length (w .arena)) k c → (key value : List ℕ) (h : ℕ) (source : SegmentRecordLocation) → h ≡ H key → h < 2 ^ 64
+  pub reuse-holds : (w : World) (k : Book) → Holds H w k → (c : Current) → CurrentHolds H (length (w .arena)) k c → (key value : List ℕ) (h : ℕ) (source : SegmentRecordLocation)
+      → h ≡ H key → h < 2 ^ 64
       → Holds H (reuseStep w c key value h source .after) (heard k (reuse key value h (source .location) (source .«header_bytes»), reuseStep w c key value h source .accepted))
   reuse-holds w k m idle ok key value h source hash bound = m
   reuse-holds w k m (building b a) ok key value h source hash bound = m
@@ -137,7 +138,8 @@ module _ (H : List ℕ → ℕ) where
           rw (← ok .expiry) (omega (arith, asked .fits, asked .areas .arena-short)) in
           appended H w k m (r .«source_filled» + r .«copied_bytes») bytes key value d (ok .filled) content (omega (arith, asked .fits, long)) _
           (is-rebuilding
-          (rebuild-copy H r a (length (w .arena)) k ok key value h _ d size (length (pasted (r .«source_filled» + r .«copied_bytes») bytes (w .arena))) hash bound (asked .place) (new-back x key value ttl (k .tick) number small) (long ∙ ap length content)
+          (rebuild-copy H r a (length (w .arena)) k ok key value h _ d size (length (pasted (r .«source_filled» + r .«copied_bytes») bytes (w .arena))) hash bound (asked .place)
+          (new-back x key value ttl (k .tick) number small) (long ∙ ap length content)
           (omega (arith, asked .areas .filled-held, asked .areas .arena-short)) (asked .room) (passes _ refl)))
 
   -- ---- rebuild finish
@@ -151,7 +153,8 @@ module _ (H : List ℕ → ℕ) where
       (λ b e. refinish-passes r (a .index) (a .starts) (a .lengths) scratch (w .arena) b e (length (a .filter)) (rebuild-filter-holds r _ _ _ _ _ (ok .passes)))
     where
       go : {f : RebuildFinished} → RefinishCase r (a .index) (a .starts) (a .lengths) scratch (w .arena) f
-          → ((b : SharedSegmentCacheBuild) → f .answer ≡ accept b → areasHoldLookup (b .cache) (length (f .index)) (length (a .filter)) (length (f .starts)) (length (f .lengths)) (length (w .arena)) ≡ true)
+          → ((b : SharedSegmentCacheBuild) → f .answer ≡ accept b → areasHoldLookup (b .cache) (length (f .index)) (length (a .filter)) (length (f .starts)) (length (f .lengths))
+          (length (w .arena)) ≡ true)
           → Holds H (refinishLeaves w a f .after) (cond (isAccepted (f .answer)) (closed k (rebuiltStarts (k .kept) (filledIn (newest (k .sets))) (length (k .tape)))) k)
       go (refinish-refused n) passes = record { memory = m .memory; top = m .top; current = is-rebuilding ok; sets = m .sets }
       go (refinish-made asked) passes = joins H w k m _ _ (rebuild-finish H r a (w .arena) scratch k ok (m .memory) asked (passes _ refl))

@@ -138,7 +138,8 @@ module _ (H : List ℕ → ℕ) where
         passes = passes;
         index =
             laid-out (r .config .«packed_bucket_index») (r .«bucket_count») (a .index) scratch (asked .scratch-holds)
-            (reheld (λ l e h. rests-read view (k .tape) arena (a .starts) (a .lengths) (S (addsSegment r)) (L (addsSegment r)) base n bytes small (wide (addsSegment r) refl) (olds (addsSegment r)) (news (addsSegment r) refl) l e (rw (← ok .expiry) at h)) (ok .index));
+            (reheld (λ l e h. rests-read view (k .tape) arena (a .starts) (a .lengths) (S (addsSegment r)) (L (addsSegment r)) base n bytes small (wide (addsSegment r) refl)
+            (olds (addsSegment r)) (news (addsSegment r) refl) l e (rw (← ok .expiry) at h)) (ok .index));
       }
     where
       n : ℕ

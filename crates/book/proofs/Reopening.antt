@@ -52,7 +52,8 @@ module _ (H : List ℕ → ℕ) where
   pub rebuild-open : (s : FinishedSet) (l : ListedSet) (k : Book) (arena : List ℕ) (top : ℕ) → SetHolds H (k .expiry) arena top s l → newest (k .sets) ≡ some l → l .filled ≤ length (k .tape)
       → (records copied : ℕ) (flags : List ℕ) (tick : ℕ) (index filter starts lengths : List ℕ)
       → ReopenAsked (s .cache) (s .areas .starts) (s .areas .lengths) (length arena) records copied flags (length index) (length filter) (length starts) (length lengths)
-      → rebuildPasses (rebuildOpened (s .cache) records flags tick) (length (cleared index (8 * bucketsIn (s .cache .config) records))) (length (cleared filter (filterWordsIn (s .cache .config) records)))
+      → rebuildPasses (rebuildOpened (s .cache) records flags tick) (length (cleared index (8 * bucketsIn (s .cache .config) records)))
+      (length (cleared filter (filterWordsIn (s .cache .config) records)))
       (over (padded (chosen flags (s .areas .starts))) starts) (over (padded (chosen flags (s .areas .lengths))) lengths) (length arena) ≡ true
       → RebuildHolds H (rebuildOpened (s .cache) records flags tick)
       record {

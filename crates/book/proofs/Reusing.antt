@@ -70,7 +70,14 @@ module _ (H : List ℕ → ℕ) where
       o = source .location % 2 ^ 32
 
       e : Entry
-      e = record { at = placeOf (startsIn (newest (k .sets))) (source .location); key = key; value = value; deadline = deadlineOn x (k .tape) (placeOf (startsIn (newest (k .sets))) (source .location)) }
+      e =
+          record {
+            at = placeOf (startsIn (newest (k .sets))) (source .location);
+            key = key;
+            value = value;
+            deadline = deadlineOn x (k .tape)
+                (placeOf (startsIn (newest (k .sets))) (source .location));
+          }
 
       filled-bytes : take (r .«source_filled» + r .«copied_bytes») arena ≡ k .tape
       filled-bytes = ap (λ (n : ℕ). take n arena) (ok .filled) ∙ memory

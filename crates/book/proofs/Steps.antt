@@ -48,7 +48,8 @@ module _ (H : List ℕ → ℕ) where
   push-holds w k m idle ok key value h ttl hash bound = m
   push-holds w k m (rebuilding r a) ok key value h ttl hash bound = m
   push-holds w k m (building b a) (is-building ok) key value h ttl hash bound =
-      go (push-case b h key value ttl (a .index) (a .filter) (w .arena)) (λ p e. push-passes b h key value ttl (a .index) (a .filter) (w .arena) p e (length (a .starts)) (length (a .lengths)) (builder-lengths b _ _ _ _ _ (ok .passes)))
+      go (push-case b h key value ttl (a .index) (a .filter) (w .arena)) (λ p e. push-passes b h key value ttl (a .index) (a .filter) (w .arena) p e (length (a .starts))
+      (length (a .lengths)) (builder-lengths b _ _ _ _ _ (ok .passes)))
     where
       x : SegmentExpiry
       x = k .expiry
@@ -70,7 +71,8 @@ module _ (H : List ℕ → ℕ) where
           rw (← ok .expiry) (omega (arith, acc .fits, acc .areas .arena-short)) in
           appended H w k m (b .filled) bytes key value d (ok .filled) content (omega (arith, acc .fits)) _
           (is-building
-          (builder-push H b a (w .arena) k ok key value h _ d size (length (pasted (b .filled) bytes (w .arena))) hash bound (acc .place) (new-back x key value ttl 0 number small) (long ∙ ap length content)
+          (builder-push H b a (w .arena) k ok key value h _ d size (length (pasted (b .filled) bytes (w .arena))) hash bound (acc .place) (new-back x key value ttl 0 number small)
+          (long ∙ ap length content)
           (omega (arith, acc .areas .filled-held, acc .areas .arena-short)) (passes _ refl)))
 
   -- ---- finish
@@ -170,7 +172,8 @@ module _ (H : List ℕ → ℕ) where
   unopened-holds arena config = record { memory = refl; top = omega arith; current = is-idle; sets = Forall₂·nil }
 
   open-holds : (config : SegmentCacheConfig) (records : ℕ) (arena : List ℕ) (a : Areas) → Holds H (opened config records arena a) (blank config)
-  open-holds config records arena a = go (open-case config records (a .index) (a .filter) (a .starts) (a .lengths) arena) (open-passes config records (a .index) (a .filter) (a .starts) (a .lengths) arena)
+  open-holds config records arena a =
+      go (open-case config records (a .index) (a .filter) (a .starts) (a .lengths) arena) (open-passes config records (a .index) (a .filter) (a .starts) (a .lengths) arena)
     where
       go : {o : Opened} → OpenCase config records (a .index) (a .filter) (a .starts) (a .lengths) arena o
           → ((b : SegmentCacheBuilder) → o .answer ≡ accept b → builderPasses b (length (o .index)) (length (o .filter)) (length (a .starts)) (length (a .lengths)) (length arena) ≡ true)
@@ -219,7 +222,8 @@ module _ (H : List ℕ → ℕ) where
   Hashed (refinish scratch) = Unit {0}
 
   pub step-holds : (w : World) (k : Book) → Holds H w k → (c : Call (List ℕ)) → Hashed c → Holds H (step w c .after) (heard k (bare c, step w c .accepted))
-  step-holds w k m (opening config records arena index filter starts lengths) hs = opening-holds w k m config records arena record { index = index; filter = filter; starts = starts; lengths = lengths }
+  step-holds w k m (opening config records arena index filter starts lengths) hs =
+      opening-holds w k m config records arena record { index = index; filter = filter; starts = starts; lengths = lengths }
   step-holds w k m (push key value h ttl) hs = push-holds w k m (w .current) (m .current) key value h ttl (hs .0) (hs .1)
   step-holds w k m (finish target scratch) hs = finish-holds w k m (w .current) (m .current) target scratch
   step-holds w k m (lookup j key h tick) hs =

@@ -70,5 +70,6 @@ pub filter-of-zero : (words : ℕ) → (filterWord words 0 ≡ 0) × (filterMask
 filter-of-zero words = (filter-zero words, mask-zero)
 
 -- "in the packed index alike with hash 0": the tags 127 and 0 are kept alike, at every location
-pub kept-alike : (location : ℕ) → location + 1 < 2 ^ 40 → (referenceBytes (wordOf 127 location) ≡ referenceBytes (wordOf 0 location)) × (controlByte (wordOf 127 location) ≡ controlByte (wordOf 0 location))
+pub kept-alike : (location : ℕ) → location + 1 < 2 ^ 40 → (referenceBytes (wordOf 127 location) ≡ referenceBytes (wordOf 0 location))
+    × (controlByte (wordOf 127 location) ≡ controlByte (wordOf 0 location))
 kept-alike location h = tags-alike location h

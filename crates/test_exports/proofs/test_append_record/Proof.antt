@@ -58,7 +58,8 @@ returns-2 c =
     let w = c .before .before .before .before .before .before .before .before in
     let a = from w .args in
     let some = wrote-some (bytes w) (a .rest .now) (w .append-record .result) (w .append-record .ensures .0) (c .before .before .before .before .before .if1 .left) in
-    rw (← (c .before .before .before .before .before .before .before .before .before .before .expiry-of .ensures), some) (ap (told 0) (c .before .before .put-words .ensures), w .append-record .ensures .1)
+    rw (← (c .before .before .before .before .before .before .before .before .before .before .expiry-of .ensures), some)
+    (ap (told 0) (c .before .before .put-words .ensures), w .append-record .ensures .1)
 
 pub test-append-record-spec : {M : Type 1} → statement M
 test-append-record-spec =

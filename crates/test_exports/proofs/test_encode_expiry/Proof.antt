@@ -35,11 +35,24 @@ add-result c = search needs
 returns : tie.Need-returns
 unfolding codeOf
 returns c =
-    rw (← (c .before .before .before .before .before .expiry-of .ensures), ← (c .before .before .before .before .lifetime-of .ensures), ← (c .before .before .before .encode-expiry-at-tick .ensures), c .before .deadline .given .1)
+    rw (
+      ← (c .before .before .before .before .before .expiry-of .ensures),
+      ← (c .before .before .before .before .lifetime-of .ensures),
+      ←
+          (c .before .before .before .encode-expiry-at-tick .ensures),
+      c .before .deadline .given .1,
+    )
 
 returns-2 : tie.Need-returns-2
 returns-2 c =
-    rw (← (c .before .before .before .before .before .before .expiry-of .ensures), ← (c .before .before .before .before .before .lifetime-of .ensures), ← (c .before .before .before .before .encode-expiry-at-tick .ensures), c .before .before .refusal .given .1, c .number .ensures) (code-refused 65536 (c .before .before .refusal .given .0 .0))
+    rw (
+      ← (c .before .before .before .before .before .before .expiry-of .ensures),
+      ← (c .before .before .before .before .before .lifetime-of .ensures),
+      ←
+          (c .before .before .before .before .encode-expiry-at-tick .ensures),
+      c .before .before .refusal .given .1,
+      c .number .ensures,
+    ) (code-refused 65536 (c .before .before .refusal .given .0 .0))
 
 pub test-encode-expiry-spec : {M : Type 1} → statement M
 test-encode-expiry-spec =

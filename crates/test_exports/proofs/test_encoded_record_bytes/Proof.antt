@@ -36,7 +36,13 @@ same-length c = search needs
 returns : tie.Need-returns
 unfolding outcomeTold
 returns c =
-    rw (← (c .before .before .before .before .before .before .before .before .before .expiry-of .ensures), ← (c .before .before .before .before .before .before .before .before .encoded-record-bytes .ensures), c .before .before .before .before .before .before .size .given .1) (ap (told 0) (c .before .before .put-words .ensures))
+    rw (
+      ← (c .before .before .before .before .before .before .before .before .before .expiry-of .ensures),
+      ←
+          (c .before .before .before .before .before .before .before .before .encoded-record-bytes .ensures),
+      c .before .before .before .before .before .before .size .given .1,
+    ) (ap
+    (told 0) (c .before .before .put-words .ensures))
 
 returns-2 : tie.Need-returns-2
 returns-2 c =

@@ -29,7 +29,9 @@ same-length : tie.Need-same-length
 same-length c = search needs
 
 returns-2 : tie.Need-returns-2
-returns-2 c = rw (← (c .before .before .before .before .before .before .before .before .read-varint .ensures), c .before .before .before .before .before .before .value .given .1) (ap (told true) (c .before .before .put-words .ensures))
+returns-2 c =
+    rw (← (c .before .before .before .before .before .before .before .before .read-varint .ensures), c .before .before .before .before .before .before .value .given .1)
+    (ap (told true) (c .before .before .put-words .ensures))
 
 pub test-read-varint-spec : {M : Type 1} → statement M
 test-read-varint-spec =

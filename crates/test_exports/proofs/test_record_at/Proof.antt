@@ -21,7 +21,8 @@ enum-told c = search needs
 
 returns : tie.Need-returns
 returns c =
-    rw (← (c .before .before .before .expiry-of .ensures), ← (c .before .before .record-at .ensures), c .enum-told .given .1) (ap (told false) (placed-none (c .before .before .before .before .before .before .args .out .now)))
+    rw (← (c .before .before .before .expiry-of .ensures), ← (c .before .before .record-at .ensures), c .enum-told .given .1)
+    (ap (told false) (placed-none (c .before .before .before .before .before .before .args .out .now)))
 
 cast-t20 : tie.Need-cast-t20
 cast-t20 c = search needs
@@ -37,7 +38,12 @@ same-length c = search needs
 
 returns-2 : tie.Need-returns-2
 returns-2 c =
-    rw (← (c .before .before .before .before .before .before .before .before .before .before .before .before .expiry-of .ensures), ← (c .before .before .before .before .before .before .before .before .before .before .before .record-at .ensures), c .before .before .before .before .before .before .before .before .before .«record» .given .1) (ap (told true) (c .before .before .put-words .ensures))
+    rw (
+      ← (c .before .before .before .before .before .before .before .before .before .before .before .before .expiry-of .ensures),
+      ←
+          (c .before .before .before .before .before .before .before .before .before .before .before .record-at .ensures),
+      c .before .before .before .before .before .before .before .before .before .«record» .given .1,
+    ) (ap (told true) (c .before .before .put-words .ensures))
 
 pub test-record-at-spec : {M : Type 1} → statement M
 test-record-at-spec =

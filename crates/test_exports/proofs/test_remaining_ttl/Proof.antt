@@ -32,18 +32,25 @@ put-words-requires c κs = search needs
 
 returns : tie.Need-returns
 returns c =
-    rw (← (c .before .before .before .expiry-of .ensures), ← (c .before .before .remaining-ttl .ensures), c .enum-told .given .1) (ap (told 0) (placed-none (c .before .before .before .before .before .args .out .now)))
+    rw (← (c .before .before .before .expiry-of .ensures), ← (c .before .before .remaining-ttl .ensures), c .enum-told .given .1)
+    (ap (told 0) (placed-none (c .before .before .before .before .before .args .out .now)))
 
 returns-2 : tie.Need-returns-2
 returns-2 c =
-    rw (← (c .before .before .before .expiry-of .ensures), ← (c .before .before .remaining-ttl .ensures), c .enum-told2 .given .1) (ap (told 1) (placed-none (c .before .before .before .before .before .args .out .now)))
+    rw (← (c .before .before .before .expiry-of .ensures), ← (c .before .before .remaining-ttl .ensures), c .enum-told2 .given .1)
+    (ap (told 1) (placed-none (c .before .before .before .before .before .args .out .now)))
 
 same-length : tie.Need-same-length
 same-length c = search needs
 
 returns-3 : tie.Need-returns-3
 returns-3 c =
-    rw (← (c .before .before .before .before .before .before .before .before .before .before .expiry-of .ensures), ← (c .before .before .before .before .before .before .before .before .before .remaining-ttl .ensures), c .before .before .before .before .before .before .before .left .given .1) (ap (told 2) (c .before .before .put-words .ensures))
+    rw (
+      ← (c .before .before .before .before .before .before .before .before .before .before .expiry-of .ensures),
+      ←
+          (c .before .before .before .before .before .before .before .before .before .remaining-ttl .ensures),
+      c .before .before .before .before .before .before .before .left .given .1,
+    ) (ap (told 2) (c .before .before .put-words .ensures))
 
 pub test-remaining-ttl-spec : {M : Type 1} → statement M
 test-remaining-ttl-spec =
