@@ -24,7 +24,9 @@ use Rattle.sets.specs.declared.builder.SegmentCacheBuilder.{SegmentCacheBuilder
 use Rattle.sets.specs.declared.cache.FrozenSegmentCache.{FrozenSegmentCache}
 use Rattle.sets.specs.declared.cache.SegmentBaseRecord.{SegmentBaseRecord}
 use Rattle.sets.specs.declared.stats.SegmentCacheStats.{SegmentCacheStats}
-use Rattle.capi.specs.Words.{askWidths, builderIn, builderWords, flagOf, lifetimeIn, setIn, setWords, settingAlone, statsIn, statsWords}
+use Rattle.capi.specs.Words.{askWidths, builderIn, builderWords, flagOf, lifetimeIn, setIn, setWords, settingAlone, statsIn, statsWords, stored}
+use Rattle.capi.specs.declared.stats_calls.StatsNumber.{StatsNumber}
+use Rattle.capi.specs.declared.stats_calls.StatsNumber.the-variants.{RetainedBytes, OverheadBytes, IndexLoad}
 use Rattle.capi.specs.declared.words.LoadedBuilder.{LoadedBuilder}
 use Rattle.capi.specs.declared.words.LoadedBuilder.the-variants as builder
 use Rattle.capi.specs.declared.words.LoadedLifetime.{LoadedLifetime}
@@ -71,7 +73,7 @@ told number words = record { number = number; words = words }
 
 -- the builder's words after a call that makes a builder; a refusal leaves them as they were
 abbrev pub stateTold : Reply SegmentCacheBuilder (Unit {0}) → List ℕ → Told
-stateTold (accept b) old = told 0 (builderWords b)
+stateTold (accept b) old = told 0 (stored (builderWords b) old)
 stateTold (refuse n u) old = told n old
 
 pub record OpenWords : Type 0 where
@@ -104,7 +106,7 @@ abbrev pub placeTold : ℕ → List ℕ → List ℕ → PlaceTold
 placeTold number b place = record { number = number; builder = b; place = place }
 
 abbrev pub pushTold : Reply Placed SegmentCacheBuilder → List ℕ → List ℕ → PlaceTold
-pushTold (accept p) old place = placeTold 0 (builderWords (p .builder)) (p .slot ∷ p .location ∷ [])
+pushTold (accept p) old place = placeTold 0 (stored (builderWords (p .builder)) old) (stored (p .slot ∷ p .location ∷ []) place)
 pushTold (refuse n b) old place = placeTold n old place
 
 pub record PushWords : Type 0 where
@@ -137,7 +139,7 @@ exportedPush old h key value ttl index filter arena place =
 -- ---- finish
 
 abbrev pub setTold : Reply FrozenSegmentCache SegmentCacheBuilder → List ℕ → Told
-setTold (accept s) old = told 0 (setWords s)
+setTold (accept s) old = told 0 (stored (setWords s) old)
 setTold (refuse n b) old = told n old
 
 pub record FinishWords : Type 0 where
@@ -166,7 +168,7 @@ exportedFinish w target index starts lengths scratch arena old =
 -- ---- the words of areas: index, filter, starts, lengths, scratch
 
 abbrev pub areaWordsTold : Reply AreaWords (Unit {0}) → List ℕ → Told
-areaWordsTold (accept w) old = told 0 (w .index ∷ w .filter ∷ w .starts ∷ w .lengths ∷ w .scratch ∷ [])
+areaWordsTold (accept w) old = told 0 (stored (w .index ∷ w .filter ∷ w .starts ∷ w .lengths ∷ w .scratch ∷ []) old)
 areaWordsTold (refuse n u) old = told n old
 
 unfoldable pub exportedAreaWords : List ℕ → ℕ → List ℕ → Told
@@ -176,7 +178,7 @@ exportedAreaWords w records old =
 -- ---- the size of a record
 
 abbrev pub sizeTold : Outcome → List ℕ → Told
-sizeTold o old = told (o .number) (cond (eqb (o .number) 0) (o .value ∷ []) old)
+sizeTold o old = told (o .number) (cond (eqb (o .number) 0) (stored (o .value ∷ []) old) old)
 
 unfoldable pub exportedSize : List ℕ → ℕ → ℕ → List ℕ → Told
 exportedSize w key value old =
@@ -187,8 +189,8 @@ exportedSize w key value old =
 -- ---- get and peek: 1, place and length of the value; three zeros for nothing
 
 abbrev pub spanTold : Reply (Option Span) (Unit {0}) → List ℕ → Told
-spanTold (accept (some v)) old = told 0 (1 ∷ v .at ∷ v .len ∷ [])
-spanTold (accept none) old = told 0 (0 ∷ 0 ∷ 0 ∷ [])
+spanTold (accept (some v)) old = told 0 (stored (1 ∷ v .at ∷ v .len ∷ []) old)
+spanTold (accept none) old = told 0 (stored (0 ∷ 0 ∷ 0 ∷ []) old)
 spanTold (refuse n u) old = told n old
 
 -- a number, the index and lent words
@@ -218,7 +220,7 @@ exportedPeek w h key tick index filter starts lengths arena old =
 -- ---- mark clearing: 1 where the mark was set, else 0
 
 abbrev pub accessedTold : Reply Bool (Unit {0}) → List ℕ → Told
-accessedTold (accept b) old = told 0 (flagOf b ∷ [])
+accessedTold (accept b) old = told 0 (stored (flagOf b ∷ []) old)
 accessedTold (refuse n u) old = told n old
 
 unfoldable pub exportedTake : List ℕ → ℕ → List ℕ → List ℕ → List ℕ → List ℕ → List ℕ → List ℕ → List ℕ → IndexTold
@@ -263,8 +265,8 @@ recordWords r =
     ∷ []
 
 abbrev pub recordTold : Reply (Option SegmentBaseRecord) (Unit {0}) → List ℕ → Told
-recordTold (accept (some r)) old = told 0 (recordWords r)
-recordTold (accept none) old = told 0 (0 ∷ 0 ∷ 0 ∷ 0 ∷ 0 ∷ 0 ∷ 0 ∷ 0 ∷ 0 ∷ 0 ∷ 0 ∷ [])
+recordTold (accept (some r)) old = told 0 (stored (recordWords r) old)
+recordTold (accept none) old = told 0 (stored (0 ∷ 0 ∷ 0 ∷ 0 ∷ 0 ∷ 0 ∷ 0 ∷ 0 ∷ 0 ∷ 0 ∷ 0 ∷ []) old)
 recordTold (refuse n u) old = told n old
 
 unfoldable pub exportedProbe : List ℕ → ℕ → List ℕ → ℕ → List ℕ → List ℕ → List ℕ → List ℕ → List ℕ → List ℕ → Told
@@ -278,7 +280,7 @@ exportedWalk w from tick index starts lengths arena old =
 -- ---- statistics
 
 abbrev pub statsTold : Reply SegmentCacheStats (Unit {0}) → List ℕ → Told
-statsTold (accept s) old = told 0 (statsWords s)
+statsTold (accept s) old = told 0 (stored (statsWords s) old)
 statsTold (refuse n u) old = told n old
 
 unfoldable pub exportedStats : List ℕ → List ℕ → Told
@@ -294,6 +296,11 @@ overheadIn s = retainedIn s - (s .«logical_key_bytes» + s .«logical_value_byt
 abbrev pub loadIn : SegmentCacheStats → ℕ
 loadIn s = loadOf (s .entries) (s .«index_slots»)
 
+abbrev pub numberIn : StatsNumber → SegmentCacheStats → ℕ
+numberIn RetainedBytes = retainedIn
+numberIn OverheadBytes = overheadIn
+numberIn IndexLoad = loadIn
+
 -- one number of statistics
 unfoldable pub exportedNumber : (SegmentCacheStats → ℕ) → List ℕ → List ℕ → Told
-exportedNumber f w old = cond (eqb (length old) 1) (onStats (statsIn w) (λ s. told 0 (f s ∷ [])) (told 11 old)) (told 11 old)
+exportedNumber f w old = cond (eqb (length old) 1) (onStats (statsIn w) (λ s. told 0 (stored (f s ∷ []) old)) (told 11 old)) (told 11 old)

@@ -13,7 +13,7 @@ use Rattle.sets.specs.declared.rebuild.SegmentRecordLocation.{SegmentRecordLoca
 use Rattle.sets.specs.declared.rebuild.SharedSegmentCacheBuild.{SharedSegmentCacheBuild}
 use Rattle.sets.specs.declared.rebuild.SharedSegmentCacheBuilder.{SharedSegmentCacheBuilder}
 use Rattle.capi.specs.Calls.{PlaceTold, PushWords, Told, onLifetime, onSet, placeTold, pushWords, told}
-use Rattle.capi.specs.Words.{lifetimeIn, rebuildIn, rebuildWords, setIn, setWords}
+use Rattle.capi.specs.Words.{lifetimeIn, rebuildIn, rebuildWords, setIn, setWords, stored}
 use Rattle.capi.specs.declared.words.LoadedRebuild.{LoadedRebuild}
 use Rattle.capi.specs.declared.words.LoadedRebuild.the-variants as rebuild
 
@@ -26,7 +26,7 @@ onRebuild rebuild.Malformed f other = other
 
 -- the rebuild's words after a call that makes a rebuild; a refusal leaves them as they were
 abbrev pub rebuildTold : Reply SharedSegmentCacheBuilder FrozenSegmentCache → List ℕ → Told
-rebuildTold (accept r) old = told 0 (rebuildWords r)
+rebuildTold (accept r) old = told 0 (stored (rebuildWords r) old)
 rebuildTold (refuse n source) old = told n old
 
 pub record RebuildOpenWords : Type 0 where
@@ -57,7 +57,7 @@ exportedRebuildOpen w sourceStarts sourceLengths arena records copied flags tick
 
 -- a number, the rebuild's words and the place
 abbrev pub rebuildPushTold : Reply RebuildPlaced SharedSegmentCacheBuilder → List ℕ → List ℕ → PlaceTold
-rebuildPushTold (accept p) old place = placeTold 0 (rebuildWords (p .builder)) (p .slot ∷ p .location ∷ [])
+rebuildPushTold (accept p) old place = placeTold 0 (stored (rebuildWords (p .builder)) old) (stored (p .slot ∷ p .location ∷ []) place)
 rebuildPushTold (refuse n r) old place = placeTold n old place
 
 pub record ReusedWords : Type 0 where
@@ -118,7 +118,7 @@ abbrev pub buildTold : ℕ → List ℕ → List ℕ → BuildTold
 buildTold number s totals = record { number = number; set = s; totals = totals }
 
 abbrev pub rebuiltTold : Reply SharedSegmentCacheBuild SharedSegmentCacheBuilder → List ℕ → List ℕ → BuildTold
-rebuiltTold (accept b) old totals = buildTold 0 (setWords (b .cache)) (totalsWords b)
+rebuiltTold (accept b) old totals = buildTold 0 (stored (setWords (b .cache)) old) (stored (totalsWords b) totals)
 rebuiltTold (refuse n r) old totals = buildTold n old totals
 
 pub record RebuildFinishWords : Type 0 where

@@ -10,6 +10,7 @@ use Rattle.hash_parts.specs.declared.duration.Lifetime.the-variants as life
 use Rattle.hash_parts.specs.declared.setting.SegmentCacheConfig.{SegmentCacheConfig}
 use Rattle.hash_parts.specs.declared.setting.SegmentExpiry.{SegmentExpiry}
 use Rattle.hash_parts.specs.declared.setting.SegmentExpiry.the-variants.{None, Relative16}
+use Rattle.records.specs.Area.{written}
 use Rattle.sets.specs.Questions.{all}
 use Rattle.sets.specs.declared.builder.SegmentCacheBuilder.{SegmentCacheBuilder}
 use Rattle.sets.specs.declared.cache.FrozenSegmentCache.{FrozenSegmentCache}
@@ -28,6 +29,11 @@ use Rattle.capi.specs.declared.words.LoadedSetting.{LoadedSetting}
 use Rattle.capi.specs.declared.words.LoadedSetting.the-variants as setting
 use Rattle.capi.specs.declared.words.LoadedStats.{LoadedStats}
 use Rattle.capi.specs.declared.words.LoadedStats.the-variants as stats
+
+-- lent words with others stored over the front, where they fit; else as they were. Words of the same number are then all there is (`stored-whole` of
+-- proofs/Stores.antt).
+abbrev pub stored : List ℕ → List ℕ → List ℕ
+stored w old = written w old .area
 
 -- ---- a setting: expiry flag, tick's seconds and nanoseconds, occupied slots, packed flag, filter bits
 

@@ -1,13 +1,11 @@
-// Opening, filling and finishing a set.
+// Opening and finishing a set, and the sizes of areas and records.
 use crate::words::BUILDER_WORDS;
 use crate::words::LoadedBuilder;
-use crate::words::LoadedLifetime;
 use crate::words::LoadedSetting;
 use crate::words::MALFORMED;
 use crate::words::SET_WORDS;
 use crate::words::copy_words;
 use crate::words::load_builder;
-use crate::words::load_lifetime;
 use crate::words::load_setting;
 use crate::words::store_builder;
 use crate::words::store_set;
@@ -17,14 +15,12 @@ use sets::areas::AreaWordsAnswer;
 use sets::areas::area_words;
 use sets::builder::FinishAnswer;
 use sets::builder::OpenAnswer;
-use sets::builder::PushAnswer;
 use sets::builder::SegmentCacheBuilder;
 ghost use mathlib.Core.Path.{_≡_};
-ghost use lib.ListN.{length};
 ghost use Rattle.records.specs.Record.{sizeOutcome};
-ghost use Rattle.sets.specs.Answers.{finishReply, openReply, pushReply};
+ghost use Rattle.sets.specs.Answers.{finishReply, openReply};
 ghost use Rattle.sets.specs.Areas.{areaWordsReply};
-ghost use Rattle.capi.specs.Calls.{areaWordsTold, exportedAreaWords, exportedFinish, exportedOpen, exportedPush, exportedSize, finishWords, openWords, placeTold, pushTold, pushWords, setTold, sizeTold, stateTold, told};
+ghost use Rattle.capi.specs.Calls.{areaWordsTold, exportedAreaWords, exportedFinish, exportedOpen, exportedSize, finishWords, openWords, setTold, sizeTold, stateTold, told};
 
 const AREAS: usize = 5;
 
@@ -74,7 +70,6 @@ pub extern "C" fn segment_cache_open(
 }
 
 fn tell_open(answer: OpenAnswer, builder: &mut [u64]) -> u64
-    requires { ⌜ length (now builder) ≡ 13 ⌝ }
     ensures { λ r. ⌜ told r (now (builder .exit)) ≡ stateTold (openReply answer) (now (builder .entry)) ⌝ }
 {
     match answer {
@@ -83,57 +78,6 @@ fn tell_open(answer: OpenAnswer, builder: &mut [u64]) -> u64
             0
         }
         OpenAnswer::Refused(refusal) => refusal.number() as u64,
-    }
-}
-
-// The two words of the place: slot and location.
-pub fn segment_cache_push(
-    builder: &mut [u64],
-    hash: u64,
-    key: &[u8],
-    value: &[u8],
-    lifetime: &[u64],
-    index: &mut [u64],
-    filter: &mut [u64],
-    arena: &mut [u8],
-    place: &mut [u64],
-) -> u64
-    ensures { λ r. ⌜ pushWords r (now (builder .exit)) (now (index .exit)) (now (filter .exit)) (now (arena .exit)) (now (place .exit)) ≡ exportedPush (now (builder .entry)) hash (now (key .entry)) (now (value .entry)) (now (lifetime .entry)) (now (index .entry)) (now (filter .entry)) (now (arena .entry)) (now (place .entry)) ⌝ }
-{
-    if builder.len() != BUILDER_WORDS {
-        return MALFORMED;
-    }
-    if place.len() != 2 {
-        return MALFORMED;
-    }
-    let LoadedBuilder::Is(state) = load_builder(&builder[..]) else {
-        return MALFORMED;
-    };
-    let LoadedLifetime::Is(ttl) = load_lifetime(lifetime) else {
-        return MALFORMED;
-    };
-    let answer = state.push(hash, key, value, ttl, index, filter, arena);
-    tell_push(answer, builder, place)
-}
-
-fn tell_push(answer: PushAnswer, builder: &mut [u64], place: &mut [u64]) -> u64
-    requires { ⌜ (length (now builder) ≡ 13) × (length (now place) ≡ 2) ⌝ }
-    ensures { λ r. ⌜ placeTold r (now (builder .exit)) (now (place .exit)) ≡ pushTold (pushReply answer) (now (builder .entry)) (now (place .entry)) ⌝ }
-{
-    match answer {
-        PushAnswer::Pushed {
-            builder: state,
-            slot,
-            location,
-        } => {
-            store_builder(builder, state);
-            copy_words(place, &[slot as u64, location as u64]);
-            0
-        }
-        PushAnswer::Refused {
-            refusal,
-            builder: _,
-        } => refusal.number() as u64,
     }
 }
 
@@ -161,7 +105,6 @@ pub extern "C" fn segment_cache_finish(
 }
 
 fn tell_finish(answer: FinishAnswer, set: &mut [u64]) -> u64
-    requires { ⌜ length (now set) ≡ 15 ⌝ }
     ensures { λ r. ⌜ told r (now (set .exit)) ≡ setTold (finishReply answer) (now (set .entry)) ⌝ }
 {
     match answer {
@@ -196,7 +139,6 @@ pub extern "C" fn segment_cache_area_words(
 }
 
 fn tell_area_words(answer: AreaWordsAnswer, words: &mut [u64]) -> u64
-    requires { ⌜ length (now words) ≡ 5 ⌝ }
     ensures { λ r. ⌜ told r (now (words .exit)) ≡ areaWordsTold (areaWordsReply answer) (now (words .entry)) ⌝ }
 {
     match answer {
@@ -243,7 +185,6 @@ pub extern "C" fn segment_cache_encoded_record_bytes(
 }
 
 fn tell_size(answer: SizeAnswer, size: &mut [u64]) -> u64
-    requires { ⌜ length (now size) ≡ 1 ⌝ }
     ensures { λ r. ⌜ told r (now (size .exit)) ≡ sizeTold (sizeOutcome answer) (now (size .entry)) ⌝ }
 {
     match answer {

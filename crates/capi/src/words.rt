@@ -14,18 +14,21 @@ ghost use mathlib.Core.Path.{_≡_};
 ghost use Prim.Native.Nat.{_≤_};
 ghost use lib.ListN.{length};
 ghost use Rattle.sets.specs.Questions.{firstNo};
-ghost use Rattle.capi.specs.Words.{askWidths, builderIn, builderWords, expiryFlag, expiryOf, flagOf, lifetimeIn, nanosCapped, occupancyCapped, rebuildIn, rebuildWords, setIn, setWords, settingAlone, settingIn, statsIn, tickNanos, tickNanosFit, tickSecs};
+ghost use Rattle.capi.specs.Words.{askWidths, builderIn, builderWords, expiryFlag, expiryOf, flagOf, lifetimeIn, nanosCapped, occupancyCapped, rebuildIn, rebuildWords, setIn, setWords, settingAlone, settingBefore, settingIn, statsIn, stored, tickNanos, tickNanosFit, tickSecs};
 
-pub(crate) const BUILDER_WORDS: usize = 13;
+pub const BUILDER_WORDS: usize = 13;
 
 pub(crate) const SET_WORDS: usize = 15;
 
-pub(crate) const REBUILD_WORDS: usize = 22;
+pub const REBUILD_WORDS: usize = 22;
 
 pub(crate) const STATS_WORDS: usize = 8;
 
+// The place of a pushed record: slot and location.
+pub const PLACE_WORDS: usize = 2;
+
 // What a call answers to words of another number or form: the number of an invalid state.
-pub(crate) const MALFORMED: u64 = 11;
+pub const MALFORMED: u64 = 11;
 
 const INVALID_NANOSECONDS: u64 = 9;
 
@@ -40,22 +43,22 @@ pub(crate) enum LoadedSetting {
     Malformed,
 }
 
-pub(crate) enum LoadedBuilder {
+pub enum LoadedBuilder {
     Is(SegmentCacheBuilder),
     Malformed,
 }
 
-pub(crate) enum LoadedSet {
+pub enum LoadedSet {
     Is(FrozenSegmentCache),
     Malformed,
 }
 
-pub(crate) enum LoadedRebuild {
+pub enum LoadedRebuild {
     Is(SharedSegmentCacheBuilder),
     Malformed,
 }
 
-pub(crate) enum LoadedLifetime {
+pub enum LoadedLifetime {
     Is(Lifetime),
     Malformed,
 }
@@ -137,7 +140,7 @@ pub(crate) fn load_setting(words: &[u64]) -> LoadedSetting
     front_setting(words)
 }
 
-pub(crate) fn load_builder(words: &[u64]) -> LoadedBuilder
+pub fn load_builder(words: &[u64]) -> LoadedBuilder
     ensures { λ r. ⌜ r ≡ builderIn (now (words .entry)) ⌝ }
 {
     if words.len() != BUILDER_WORDS {
@@ -158,7 +161,7 @@ pub(crate) fn load_builder(words: &[u64]) -> LoadedBuilder
     })
 }
 
-pub(crate) fn load_set(words: &[u64]) -> LoadedSet
+pub fn load_set(words: &[u64]) -> LoadedSet
     ensures { λ r. ⌜ r ≡ setIn (now (words .entry)) ⌝ }
 {
     if words.len() != SET_WORDS {
@@ -181,7 +184,7 @@ pub(crate) fn load_set(words: &[u64]) -> LoadedSet
     })
 }
 
-pub(crate) fn load_rebuild(words: &[u64]) -> LoadedRebuild
+pub fn load_rebuild(words: &[u64]) -> LoadedRebuild
     ensures { λ r. ⌜ r ≡ rebuildIn (now (words .entry)) ⌝ }
 {
     if words.len() != REBUILD_WORDS {
@@ -215,7 +218,7 @@ pub(crate) fn load_rebuild(words: &[u64]) -> LoadedRebuild
 }
 
 // No words for never.
-pub(crate) fn load_lifetime(words: &[u64]) -> LoadedLifetime
+pub fn load_lifetime(words: &[u64]) -> LoadedLifetime
     ensures { λ r. ⌜ r ≡ lifetimeIn (now (words .entry)) ⌝ }
 {
     if words.len() == 0 {
@@ -267,11 +270,13 @@ pub(crate) fn load_stats(words: &[u64]) -> LoadedStats
     })
 }
 
-// Writes words over lent ones of the same number.
-pub(crate) fn copy_words(out: &mut [u64], words: &[u64])
-    requires { ⌜ length (now words) ≡ length (now out) ⌝ }
-    ensures { λ r. ⌜ now (out .exit) ≡ now (words .entry) ⌝ }
+// Stores words over the front of lent ones, where they fit.
+pub fn copy_words(out: &mut [u64], words: &[u64])
+    ensures { λ r. ⌜ now (out .exit) ≡ stored (now (words .entry)) (now (out .entry)) ⌝ }
 {
+    if out.len() < words.len() {
+        return;
+    }
     let mut i = 0;
     while i < words.len() {
         out[i] = words[i];
@@ -279,7 +284,7 @@ pub(crate) fn copy_words(out: &mut [u64], words: &[u64])
     }
 }
 
-pub(crate) fn flag_of(on: bool) -> u64
+pub fn flag_of(on: bool) -> u64
     ensures { λ r. ⌜ r ≡ flagOf on ⌝ }
 {
     if on {
@@ -315,11 +320,13 @@ fn tick_nanos(expiry: SegmentExpiry) -> u64
     }
 }
 
-pub(crate) fn store_builder(out: &mut [u64], builder: SegmentCacheBuilder)
-    requires { ⌜ length (now out) ≡ 13 ⌝ }
-    ensures { λ r. ⌜ now (out .exit) ≡ builderWords builder ⌝ }
+// Stores a state: the six words of its setting, then its other words.
+fn store_state(out: &mut [u64], config: SegmentCacheConfig, rest: &[u64])
+    ensures { λ r. ⌜ now (out .exit) ≡ stored (settingBefore config (now (rest .entry))) (now (out .entry)) ⌝ }
 {
-    let config = builder.config;
+    if out.len() < SETTING_WORDS + rest.len() {
+        return;
+    }
     let expiry = config.expiry;
     let flag = expiry_flag(expiry);
     let secs = tick_secs(expiry);
@@ -334,6 +341,18 @@ pub(crate) fn store_builder(out: &mut [u64], builder: SegmentCacheBuilder)
             config.target_occupied_slots as u64,
             packed,
             config.negative_filter_bits_per_entry as u64,
+        ],
+    );
+    copy_words(&mut out[SETTING_WORDS..], rest);
+}
+
+pub fn store_builder(out: &mut [u64], builder: SegmentCacheBuilder)
+    ensures { λ r. ⌜ now (out .exit) ≡ stored (builderWords builder) (now (out .entry)) ⌝ }
+{
+    store_state(
+        out,
+        builder.config,
+        &[
             builder.expected_entries as u64,
             builder.inserted_entries as u64,
             builder.bucket_count as u64,
@@ -346,24 +365,12 @@ pub(crate) fn store_builder(out: &mut [u64], builder: SegmentCacheBuilder)
 }
 
 pub(crate) fn store_set(out: &mut [u64], set: FrozenSegmentCache)
-    requires { ⌜ length (now out) ≡ 15 ⌝ }
-    ensures { λ r. ⌜ now (out .exit) ≡ setWords set ⌝ }
+    ensures { λ r. ⌜ now (out .exit) ≡ stored (setWords set) (now (out .entry)) ⌝ }
 {
-    let config = set.config;
-    let expiry = config.expiry;
-    let flag = expiry_flag(expiry);
-    let secs = tick_secs(expiry);
-    let nanos = tick_nanos(expiry);
-    let packed = flag_of(config.packed_bucket_index);
-    copy_words(
+    store_state(
         out,
+        set.config,
         &[
-            flag,
-            secs,
-            nanos,
-            config.target_occupied_slots as u64,
-            packed,
-            config.negative_filter_bits_per_entry as u64,
             set.entries as u64,
             set.buckets as u64,
             set.filter_words as u64,
@@ -378,24 +385,12 @@ pub(crate) fn store_set(out: &mut [u64], set: FrozenSegmentCache)
 }
 
 pub(crate) fn store_rebuild(out: &mut [u64], rebuild: SharedSegmentCacheBuilder)
-    requires { ⌜ length (now out) ≡ 22 ⌝ }
-    ensures { λ r. ⌜ now (out .exit) ≡ rebuildWords rebuild ⌝ }
+    ensures { λ r. ⌜ now (out .exit) ≡ stored (rebuildWords rebuild) (now (out .entry)) ⌝ }
 {
-    let config = rebuild.config;
-    let expiry = config.expiry;
-    let flag = expiry_flag(expiry);
-    let secs = tick_secs(expiry);
-    let nanos = tick_nanos(expiry);
-    let packed = flag_of(config.packed_bucket_index);
-    copy_words(
+    store_state(
         out,
+        rebuild.config,
         &[
-            flag,
-            secs,
-            nanos,
-            config.target_occupied_slots as u64,
-            packed,
-            config.negative_filter_bits_per_entry as u64,
             rebuild.expected_entries as u64,
             rebuild.inserted_entries as u64,
             rebuild.bucket_count as u64,

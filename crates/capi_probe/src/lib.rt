@@ -1,5 +1,10 @@
 // One call for C in a library of its own, where nothing else calls what it calls: so the compiler makes one
 // piece of code of it.
+use capi::answers::RECORD_WORDS;
+use capi::answers::tell_record;
+use capi::words::LoadedSet;
+use capi::words::MALFORMED;
+use capi::words::load_set;
 ghost use mathlib.Core.Path.{_≡_};
 ghost use Rattle.capi.specs.Calls.{exportedProbe, told};
 
@@ -20,16 +25,12 @@ pub extern "C" fn segment_cache_probe(
 ) -> u64
     ensures { λ r. ⌜ told r (now («record» .exit)) ≡ exportedProbe (now (set .entry)) hash (now (key .entry)) tick (now (index .entry)) (now (filter .entry)) (now (starts .entry)) (now (lengths .entry)) (now (arena .entry)) (now («record» .entry)) ⌝ }
 {
-    capi::lookup_calls::segment_cache_probe(
-        set,
-        hash,
-        key,
-        tick,
-        index,
-        filter,
-        starts,
-        lengths,
-        arena,
-        record,
-    )
+    if record.len() != RECORD_WORDS {
+        return MALFORMED;
+    }
+    let LoadedSet::Is(state) = load_set(set) else {
+        return MALFORMED;
+    };
+    let answer = state.probe_hashed_at_tick(hash, key, tick, index, filter, starts, lengths, arena);
+    tell_record(answer, record)
 }

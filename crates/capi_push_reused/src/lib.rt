@@ -1,5 +1,12 @@
 // One call for C in a library of its own, where nothing else calls what it calls: so the compiler makes one
 // piece of code of it.
+use capi::answers::tell_rebuild_push;
+use capi::words::LoadedRebuild;
+use capi::words::MALFORMED;
+use capi::words::PLACE_WORDS;
+use capi::words::REBUILD_WORDS;
+use capi::words::load_rebuild;
+use sets::rebuild::SegmentRecordLocation;
 ghost use mathlib.Core.Path.{_≡_};
 ghost use Rattle.capi.specs.Rebuilds.{exportedReused, reusedWords};
 
@@ -22,18 +29,19 @@ pub extern "C" fn segment_cache_push_reused(
 ) -> u64
     ensures { λ r. ⌜ reusedWords r (now (rebuild .exit)) (now (index .exit)) (now (filter .exit)) (now (place .exit)) ≡ exportedReused (now (rebuild .entry)) hash (now (key .entry)) (now (value .entry)) location «header_bytes» (now (index .entry)) (now (filter .entry)) (now (starts .entry)) (now (lengths .entry)) (now (arena .entry)) (now (place .entry)) ⌝ }
 {
-    capi::rebuild_calls::segment_cache_push_reused(
-        rebuild,
-        hash,
-        key,
-        value,
+    if rebuild.len() != REBUILD_WORDS {
+        return MALFORMED;
+    }
+    if place.len() != PLACE_WORDS {
+        return MALFORMED;
+    }
+    let LoadedRebuild::Is(state) = load_rebuild(&rebuild[..]) else {
+        return MALFORMED;
+    };
+    let at = SegmentRecordLocation {
         location,
         header_bytes,
-        index,
-        filter,
-        starts,
-        lengths,
-        arena,
-        place,
-    )
+    };
+    let answer = state.push_reused(hash, key, value, at, index, filter, starts, lengths, arena);
+    tell_rebuild_push(answer, rebuild, place)
 }

@@ -34,7 +34,13 @@ same-length c = search needs
 
 returns-3 : tie.Need-returns-3
 unfolding exportedAreaWords
-returns-3 c = rw (eq-eqb _ _ (c .before .before .before .before .before .before .before .before .before .if1 .left), sym (c .before .before .before .before .before .before .before .before .load-setting .ensures) ∙ c .before .before .before .before .before .before .config .given .1, sym (c .before .before .before .before .area-words .ensures), sym (c .before .before .tell-area-words .ensures))
+returns-3 c =
+    let tell = c .before .before in
+    let call = tell .before .before in
+    let opened = call .before .before in
+    let load = opened .before .before in
+    let test = load .before in
+    rw (eq-eqb _ _ (test .if1 .left), sym (load .load-setting .ensures) ∙ opened .config .given .1, sym (call .area-words .ensures), sym (tell .tell-area-words .ensures))
 
 pub segment-cache-area-words-spec : {M : Type 1} → statement M
 segment-cache-area-words-spec =

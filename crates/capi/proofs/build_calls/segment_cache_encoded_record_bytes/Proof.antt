@@ -72,10 +72,18 @@ same-length c = search needs
 returns-4 : tie.Need-returns-4
 unfolding exportedSize
 returns-4 c =
-    let length-is = eq-eqb _ _ (c .before .before .before .before .before .before .before .before .before .before .before .if1 .left) in
-    let loaded = sym (c .before .before .before .before .before .before .before .before .before .before .load-setting .ensures) ∙ c .before .before .before .before .before .before .before .before .config .given .1 in
-    let fit = sym (c .before .before .before .before .before .before .width-refusal .ensures) ∙ c .before .before .before .before .before .if2 .left in
-    rw (length-is, loaded, fit, sym (c .before .before .before .before .encoded-record-bytes .ensures), sym (c .before .before .tell-size .ensures))
+    let tell = c .before .before in
+    let call = tell .before .before in
+    let wide = call .before .before in
+    let opened = wide .before .before in
+    let load = opened .before .before in
+    rw (
+      eq-eqb _ _ (load .before .if1 .left),
+      sym (load .load-setting .ensures) ∙ opened .config .given .1,
+      sym (wide .width-refusal .ensures) ∙ call .before .if2 .left,
+      sym (call .encoded-record-bytes .ensures),
+      sym (tell .tell-size .ensures),
+    )
 
 pub segment-cache-encoded-record-bytes-spec : {M : Type 1} → statement M
 segment-cache-encoded-record-bytes-spec =

@@ -46,7 +46,13 @@ same-length-5 c = search needs
 
 returns-3 : tie.Need-returns-3
 unfolding exportedFinish
-returns-3 c = rw (eq-eqb _ _ (c .before .before .before .before .before .before .before .before .before .before .before .before .before .before .before .before .before .before .before .before .before .if1 .left), sym (c .before .before .before .before .before .before .before .before .before .before .before .before .before .before .before .before .before .before .before .before .load-builder .ensures) ∙ c .before .before .before .before .before .before .before .before .before .before .before .before .before .before .before .before .before .before .state .given .1, sym (c .before .before .before .before .before .before .before .before .before .before .before .before .finish .ensures), sym (c .before .before .tell-finish .ensures))
+returns-3 c =
+    let tell = c .before .before in
+    let call = tell .before .before .before .before .before .before .before .before .before .before in
+    let opened = call .before .before .before .before .before .before in
+    let load = opened .before .before in
+    let test = load .before in
+    rw (eq-eqb _ _ (test .if1 .left), sym (load .load-builder .ensures) ∙ opened .state .given .1, sym (call .finish .ensures), sym (tell .tell-finish .ensures))
 
 pub segment-cache-finish-spec : {M : Type 1} → statement M
 segment-cache-finish-spec =

@@ -40,7 +40,13 @@ same-length-3 c = search needs
 
 returns-3 : tie.Need-returns-3
 unfolding exportedOpen
-returns-3 c = rw (eq-eqb _ _ (c .before .before .before .before .before .before .before .before .before .before .before .before .before .before .before .if1 .left), sym (c .before .before .before .before .before .before .before .before .before .before .before .before .before .before .load-setting .ensures) ∙ c .before .before .before .before .before .before .before .before .before .before .before .before .config .given .1, sym (c .before .before .before .before .before .before .before .before .try-new .ensures), sym (c .before .before .tell-open .ensures))
+returns-3 c =
+    let tell = c .before .before in
+    let call = tell .before .before .before .before .before .before in
+    let opened = call .before .before .before .before in
+    let load = opened .before .before in
+    let test = load .before in
+    rw (eq-eqb _ _ (test .if1 .left), sym (load .load-setting .ensures) ∙ opened .config .given .1, sym (call .try-new .ensures), sym (tell .tell-open .ensures))
 
 pub segment-cache-open-spec : {M : Type 1} → statement M
 segment-cache-open-spec =

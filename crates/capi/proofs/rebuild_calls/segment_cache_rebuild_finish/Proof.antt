@@ -25,7 +25,11 @@ enum-told c = search needs
 
 returns-3 : tie.Need-returns-3
 unfolding exportedRebuildFinish
-returns-3 c = rw (eq-eqb _ _ (c .before .before .before .before .if1 .left), eq-eqb _ _ (c .before .before .before .if2 .left), sym (c .before .before .load-rebuild .ensures) ∙ c .enum-told .given .1)
+returns-3 c =
+    let load = c .before .before in
+    let test₂ = load .before in
+    let test = test₂ .before in
+    rw (eq-eqb _ _ (test .if1 .left), eq-eqb _ _ (test₂ .if2 .left), sym (load .load-rebuild .ensures) ∙ c .enum-told .given .1)
 
 finish-requires : tie.Need-finish-requires
 finish-requires c κs = search needs
@@ -59,7 +63,13 @@ returns-4 c =
     let given = finishes .before .before .before .before .before .before in
     let loads = given .before .before in
     let second = loads .before in
-    rw (eq-eqb _ _ (second .before .if1 .left), eq-eqb _ _ (second .if2 .left), sym (loads .load-rebuild .ensures) ∙ given .state .given .1, sym (finishes .finish .ensures), sym (tells .tell-rebuild-finish .ensures))
+    rw (
+      eq-eqb _ _ (second .before .if1 .left),
+      eq-eqb _ _ (second .if2 .left),
+      sym (loads .load-rebuild .ensures) ∙ given .state .given .1,
+      sym (finishes .finish .ensures),
+      sym (tells .tell-rebuild-finish .ensures),
+    )
 
 pub segment-cache-rebuild-finish-spec : {M : Type 1} → statement M
 segment-cache-rebuild-finish-spec =

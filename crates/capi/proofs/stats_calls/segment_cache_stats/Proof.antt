@@ -34,7 +34,13 @@ same-length c = search needs
 
 returns-3 : tie.Need-returns-3
 unfolding exportedStats
-returns-3 c = rw (eq-eqb _ _ (c .before .before .before .before .before .before .before .before .before .if1 .left), sym (c .before .before .before .before .before .before .before .before .load-set .ensures) ∙ c .before .before .before .before .before .before .state .given .1, sym (c .before .before .before .before .stats .ensures), sym (c .before .before .tell-stats .ensures))
+returns-3 c =
+    let tell = c .before .before in
+    let call = tell .before .before in
+    let opened = call .before .before in
+    let load = opened .before .before in
+    let test = load .before in
+    rw (eq-eqb _ _ (test .if1 .left), sym (load .load-set .ensures) ∙ opened .state .given .1, sym (call .stats .ensures), sym (tell .tell-stats .ensures))
 
 pub segment-cache-stats-spec : {M : Type 1} → statement M
 segment-cache-stats-spec =

@@ -46,7 +46,11 @@ shared-slice-read-t24 c = search needs
 
 returns-3 : tie.Need-returns-3
 unfolding builderIn
-returns-3 c = rw (eq-eqb _ _ (c .before .before .before .before .before .before .before .before .before .before .before .if1 .left), sym (c .before .before .before .before .before .before .before .before .before .before .front-setting .ensures) ∙ c .before .before .before .before .before .before .before .before .config .given .1)
+returns-3 c =
+    let opened = c .before .before .before .before .before .before .before .before in
+    let call = opened .before .before in
+    let test = call .before in
+    rw (eq-eqb _ _ (test .if1 .left), sym (call .front-setting .ensures) ∙ opened .config .given .1)
 
 pub load-builder-spec : {M : Type 1} → statement M
 load-builder-spec =

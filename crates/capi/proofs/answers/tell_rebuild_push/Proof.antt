@@ -1,0 +1,58 @@
+-- `tell_rebuild_push` meets its contract by what it calls. Assumes nothing.
+use Rattle.capi.specs.Calls.{placeTold}
+use mathlib.Core.Path.{ap₂}
+use borrow.Author.Needs.{needs}
+use Rattle.capi.proofs.answers.tell_rebuild_push.Statement.{statement}
+use Rattle.capi.proofs.answers.tell_rebuild_push.Tie as tie
+
+enum-known-answer : tie.Need-enum-known-answer
+enum-known-answer c = search needs
+
+store-rebuild-requires : tie.Need-store-rebuild-requires
+store-rebuild-requires c κs = search needs
+
+slice-aggregate-copy-words : tie.Need-slice-aggregate-copy-words
+slice-aggregate-copy-words c = search needs
+
+copy-words-requires : tie.Need-copy-words-requires
+copy-words-requires c κs = search needs
+
+enum-known-answer-2 : tie.Need-enum-known-answer-2
+enum-known-answer-2 c = search needs
+
+number-requires : tie.Need-number-requires
+number-requires c κs = search needs
+
+cast-result : tie.Need-cast-result
+cast-result c = search needs
+
+same-length : tie.Need-same-length
+same-length c = search needs
+
+same-length-2 : tie.Need-same-length-2
+same-length-2 c = search needs
+
+returns : tie.Need-returns
+returns c =
+    let placed = c .before .before in
+    let stored = placed .before .before .before .before .before in
+    rw (stored .before .before .before .answer .given .1) (ap₂ (placeTold 0) (stored .store-rebuild .ensures) (placed .copy-words .ensures))
+
+returns-2 : tie.Need-returns-2
+returns-2 c = rw (c .before .before .answer2 .given .1, c .number .ensures)
+
+pub tell-rebuild-push-spec : {M : Type 1} → statement M
+tell-rebuild-push-spec =
+    tie.close
+    (tie.spec
+    enum-known-answer
+    store-rebuild-requires
+    slice-aggregate-copy-words
+    copy-words-requires
+    enum-known-answer-2
+    number-requires
+    cast-result
+    same-length
+    same-length-2
+    returns
+    returns-2)

@@ -1,0 +1,57 @@
+-- `segment_cache_probe` meets its contract: the form of the words, then the call and what it hands back. Assumes nothing.
+use Rattle.capi.specs.Calls.{exportedProbe}
+use borrow.Author.Tests.{eq-eqb, ne-eqb}
+use mathlib.Core.Path.{sym, _∙_}
+use borrow.Author.Needs.{needs}
+use Rattle.capi_probe.proofs.segment_cache_probe.Statement.{statement}
+use Rattle.capi_probe.proofs.segment_cache_probe.Tie as tie
+
+returns : tie.Need-returns
+unfolding exportedProbe
+returns c = rw (ne-eqb _ _ (c .if1 .taken))
+
+load-set-requires : tie.Need-load-set-requires
+load-set-requires c κs = search needs
+
+enum-known-state : tie.Need-enum-known-state
+enum-known-state c = search needs
+
+enum-told : tie.Need-enum-told
+enum-told c = search needs
+
+returns-2 : tie.Need-returns-2
+unfolding exportedProbe
+returns-2 c = rw (eq-eqb _ _ (c .before .before .before .if1 .left), sym (c .before .before .load-set .ensures) ∙ c .enum-told .given .1)
+
+probe-hashed-at-tick-requires : tie.Need-probe-hashed-at-tick-requires
+probe-hashed-at-tick-requires c κs = search needs
+
+tell-record-requires : tie.Need-tell-record-requires
+tell-record-requires c κs = search needs
+
+same-length : tie.Need-same-length
+same-length c = search needs
+
+returns-3 : tie.Need-returns-3
+unfolding exportedProbe
+returns-3 c =
+    let tell = c .before .before in
+    let call = tell .before .before in
+    let opened = call .before .before in
+    let load = opened .before .before in
+    let test = load .before in
+    rw (eq-eqb _ _ (test .if1 .left), sym (load .load-set .ensures) ∙ opened .state .given .1, sym (call .probe-hashed-at-tick .ensures .0), sym (tell .tell-record .ensures))
+
+pub segment-cache-probe-spec : {M : Type 1} → statement M
+segment-cache-probe-spec =
+    tie.close
+    (tie.spec
+    returns
+    load-set-requires
+    enum-known-state
+    enum-told
+    returns-2
+    probe-hashed-at-tick-requires
+    tell-record-requires
+    same-length
+    returns-3)

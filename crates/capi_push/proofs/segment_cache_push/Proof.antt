@@ -1,0 +1,123 @@
+-- `segment_cache_push` meets its contract: the form of the words, then the call and what it hands back. Assumes nothing.
+use Rattle.capi.specs.Calls.{exportedPush}
+use borrow.Author.Tests.{eq-eqb, ne-eqb}
+use mathlib.Core.Path.{sym, _∙_}
+use borrow.Author.Needs.{needs}
+use Rattle.capi_push.proofs.segment_cache_push.Statement.{statement}
+use Rattle.capi_push.proofs.segment_cache_push.Tie as tie
+
+returns : tie.Need-returns
+unfolding exportedPush
+returns c = rw (ne-eqb _ _ (c .if1 .taken))
+
+returns-2 : tie.Need-returns-2
+unfolding exportedPush
+returns-2 c = rw (eq-eqb _ _ (c .before .if1 .left), ne-eqb _ _ (c .if2 .taken))
+
+load-builder-requires : tie.Need-load-builder-requires
+load-builder-requires c κs = search needs
+
+enum-known-state : tie.Need-enum-known-state
+enum-known-state c = search needs
+
+enum-told : tie.Need-enum-told
+enum-told c = search needs
+
+same-length : tie.Need-same-length
+same-length c = search needs
+
+returns-3 : tie.Need-returns-3
+unfolding exportedPush
+returns-3 c =
+    let load = c .before .before in
+    let test₂ = load .before .before in
+    let test = test₂ .before in
+    rw (eq-eqb _ _ (test .if1 .left), eq-eqb _ _ (test₂ .if2 .left), sym (load .load-builder .ensures) ∙ c .enum-told .given .1)
+
+load-lifetime-requires : tie.Need-load-lifetime-requires
+load-lifetime-requires c κs = search needs
+
+enum-known-ttl : tie.Need-enum-known-ttl
+enum-known-ttl c = search needs
+
+enum-told-2 : tie.Need-enum-told-2
+enum-told-2 c = search needs
+
+same-length-2 : tie.Need-same-length-2
+same-length-2 c = search needs
+
+returns-4 : tie.Need-returns-4
+unfolding exportedPush
+returns-4 c =
+    let life = c .before .before in
+    let opened = life .before .before in
+    let load = opened .before .before in
+    let test₂ = load .before .before in
+    let test = test₂ .before in
+    rw (eq-eqb _ _ (test .if1 .left), eq-eqb _ _ (test₂ .if2 .left), sym (load .load-builder .ensures) ∙ opened .state .given .1, sym (life .load-lifetime .ensures) ∙ c .enum-told2 .given .1)
+
+push-requires : tie.Need-push-requires
+push-requires c κs = search needs
+
+tell-push-requires : tie.Need-tell-push-requires
+tell-push-requires c κs = search needs
+
+same-length-3 : tie.Need-same-length-3
+same-length-3 c = search needs
+
+same-length-4 : tie.Need-same-length-4
+same-length-4 c = search needs
+
+same-length-5 : tie.Need-same-length-5
+same-length-5 c = search needs
+
+same-length-6 : tie.Need-same-length-6
+same-length-6 c = search needs
+
+same-length-7 : tie.Need-same-length-7
+same-length-7 c = search needs
+
+returns-5 : tie.Need-returns-5
+unfolding exportedPush
+returns-5 c =
+    let tell = c .before .before .before .before in
+    let call = tell .before .before .before .before .before .before .before .before .before in
+    let lived = call .before .before .before .before .before in
+    let life = lived .before .before in
+    let opened = life .before .before in
+    let load = opened .before .before in
+    let test₂ = load .before .before in
+    let test = test₂ .before in
+    rw (
+      eq-eqb _ _ (test .if1 .left),
+      eq-eqb _ _ (test₂ .if2 .left),
+      sym (load .load-builder .ensures) ∙ opened .state .given .1,
+      sym (life .load-lifetime .ensures) ∙ lived .ttl .given .1,
+      sym (call .push .ensures),
+      sym (tell .tell-push .ensures),
+    )
+
+pub segment-cache-push-spec : {M : Type 1} → statement M
+segment-cache-push-spec =
+    tie.close
+    (tie.spec
+    returns
+    returns-2
+    load-builder-requires
+    enum-known-state
+    enum-told
+    same-length
+    returns-3
+    load-lifetime-requires
+    enum-known-ttl
+    enum-told-2
+    same-length-2
+    returns-4
+    push-requires
+    tell-push-requires
+    same-length-3
+    same-length-4
+    same-length-5
+    same-length-6
+    same-length-7
+    returns-5)

@@ -1,0 +1,126 @@
+-- `segment_cache_push_copied` meets its contract: the form of the words, then the call and what it hands back. Assumes nothing.
+use Rattle.capi.specs.Rebuilds.{exportedCopied}
+use borrow.Author.Tests.{eq-eqb, ne-eqb}
+use mathlib.Core.Path.{sym, _∙_}
+use borrow.Author.Needs.{needs}
+use Rattle.capi_push_copied.proofs.segment_cache_push_copied.Statement.{statement}
+use Rattle.capi_push_copied.proofs.segment_cache_push_copied.Tie as tie
+
+returns : tie.Need-returns
+unfolding exportedCopied
+returns c = rw (ne-eqb _ _ (c .if1 .taken))
+
+returns-2 : tie.Need-returns-2
+unfolding exportedCopied
+returns-2 c = rw (eq-eqb _ _ (c .before .if1 .left), ne-eqb _ _ (c .if2 .taken))
+
+load-rebuild-requires : tie.Need-load-rebuild-requires
+load-rebuild-requires c κs = search needs
+
+enum-known-state : tie.Need-enum-known-state
+enum-known-state c = search needs
+
+enum-told : tie.Need-enum-told
+enum-told c = search needs
+
+same-length : tie.Need-same-length
+same-length c = search needs
+
+returns-3 : tie.Need-returns-3
+unfolding exportedCopied
+returns-3 c =
+    let load = c .before .before in
+    let test₂ = load .before .before in
+    let test = test₂ .before in
+    rw (eq-eqb _ _ (test .if1 .left), eq-eqb _ _ (test₂ .if2 .left), sym (load .load-rebuild .ensures) ∙ c .enum-told .given .1)
+
+load-lifetime-requires : tie.Need-load-lifetime-requires
+load-lifetime-requires c κs = search needs
+
+enum-known-ttl : tie.Need-enum-known-ttl
+enum-known-ttl c = search needs
+
+enum-told-2 : tie.Need-enum-told-2
+enum-told-2 c = search needs
+
+same-length-2 : tie.Need-same-length-2
+same-length-2 c = search needs
+
+returns-4 : tie.Need-returns-4
+unfolding exportedCopied
+returns-4 c =
+    let lives = c .before .before in
+    let given = lives .before .before in
+    let loads = given .before .before in
+    let second = loads .before .before in
+    rw (
+      eq-eqb _ _ (second .before .if1 .left),
+      eq-eqb _ _ (second .if2 .left),
+      sym (loads .load-rebuild .ensures) ∙ given .state .given .1,
+      sym (lives .load-lifetime .ensures) ∙ c .enum-told2 .given .1,
+    )
+
+push-copied-requires : tie.Need-push-copied-requires
+push-copied-requires c κs = search needs
+
+tell-rebuild-push-requires : tie.Need-tell-rebuild-push-requires
+tell-rebuild-push-requires c κs = search needs
+
+same-length-3 : tie.Need-same-length-3
+same-length-3 c = search needs
+
+same-length-4 : tie.Need-same-length-4
+same-length-4 c = search needs
+
+same-length-5 : tie.Need-same-length-5
+same-length-5 c = search needs
+
+same-length-6 : tie.Need-same-length-6
+same-length-6 c = search needs
+
+same-length-7 : tie.Need-same-length-7
+same-length-7 c = search needs
+
+returns-5 : tie.Need-returns-5
+unfolding exportedCopied
+returns-5 c =
+    let tells = c .before .before .before .before in
+    let pushes = tells .before .before .before .before .before .before .before .before .before in
+    let timed = pushes .before .before .before .before .before in
+    let lives = timed .before .before in
+    let given = lives .before .before in
+    let loads = given .before .before in
+    let second = loads .before .before in
+    rw (
+      eq-eqb _ _ (second .before .if1 .left),
+      eq-eqb _ _ (second .if2 .left),
+      sym (loads .load-rebuild .ensures) ∙ given .state .given .1,
+      sym (lives .load-lifetime .ensures) ∙ timed .ttl .given .1,
+      sym (pushes .push-copied .ensures),
+      sym (tells .tell-rebuild-push .ensures),
+    )
+
+pub segment-cache-push-copied-spec : {M : Type 1} → statement M
+segment-cache-push-copied-spec =
+    tie.close
+    (tie.spec
+    returns
+    returns-2
+    load-rebuild-requires
+    enum-known-state
+    enum-told
+    same-length
+    returns-3
+    load-lifetime-requires
+    enum-known-ttl
+    enum-told-2
+    same-length-2
+    returns-4
+    push-copied-requires
+    tell-rebuild-push-requires
+    same-length-3
+    same-length-4
+    same-length-5
+    same-length-6
+    same-length-7
+    returns-5)

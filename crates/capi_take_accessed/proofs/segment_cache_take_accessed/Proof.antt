@@ -1,0 +1,61 @@
+-- `segment_cache_take_accessed` meets its contract: the form of the words, then the call and what it hands back. Assumes nothing.
+use Rattle.capi.specs.Calls.{exportedTake}
+use borrow.Author.Tests.{eq-eqb, ne-eqb}
+use mathlib.Core.Path.{sym, _∙_}
+use borrow.Author.Needs.{needs}
+use Rattle.capi_take_accessed.proofs.segment_cache_take_accessed.Statement.{statement}
+use Rattle.capi_take_accessed.proofs.segment_cache_take_accessed.Tie as tie
+
+returns : tie.Need-returns
+unfolding exportedTake
+returns c = rw (ne-eqb _ _ (c .if1 .taken))
+
+load-set-requires : tie.Need-load-set-requires
+load-set-requires c κs = search needs
+
+enum-known-state : tie.Need-enum-known-state
+enum-known-state c = search needs
+
+enum-told : tie.Need-enum-told
+enum-told c = search needs
+
+returns-2 : tie.Need-returns-2
+unfolding exportedTake
+returns-2 c = rw (eq-eqb _ _ (c .before .before .before .if1 .left), sym (c .before .before .load-set .ensures) ∙ c .enum-told .given .1)
+
+take-accessed-requires : tie.Need-take-accessed-requires
+take-accessed-requires c κs = search needs
+
+tell-take-requires : tie.Need-tell-take-requires
+tell-take-requires c κs = search needs
+
+same-length : tie.Need-same-length
+same-length c = search needs
+
+same-length-2 : tie.Need-same-length-2
+same-length-2 c = search needs
+
+returns-3 : tie.Need-returns-3
+unfolding exportedTake
+returns-3 c =
+    let tell = c .before .before in
+    let call = tell .before .before .before .before in
+    let opened = call .before .before .before in
+    let load = opened .before .before in
+    let test = load .before in
+    rw (eq-eqb _ _ (test .if1 .left), sym (load .load-set .ensures) ∙ opened .state .given .1, sym (call .take-accessed .ensures), sym (tell .tell-take .ensures))
+
+pub segment-cache-take-accessed-spec : {M : Type 1} → statement M
+segment-cache-take-accessed-spec =
+    tie.close
+    (tie.spec
+    returns
+    load-set-requires
+    enum-known-state
+    enum-told
+    returns-2
+    take-accessed-requires
+    tell-take-requires
+    same-length
+    same-length-2
+    returns-3)
