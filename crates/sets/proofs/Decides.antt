@@ -1,8 +1,11 @@
 -- Where a call is refused, and where not. Assumes nothing.
 use mathlib.Core.Path.{_≡_, refl, ap}
+use mathlib.Core.Bool.{Bool, cond}
 use mathlib.Core.List.{List}
 use Prim.Native.Nat.{ℕ, zero, suc}
 use native.Mathlib.Omega.{arith}
+use lib.Dec.{eqb}
+use borrow.Author.Tests.{ne-eqb}
 use Rattle.hash_parts.specs.Error.{errorNumber}
 use Rattle.hash_parts.specs.declared.duration.Lifetime.{Lifetime}
 use Rattle.hash_parts.specs.declared.error.SegmentCacheBuildError.{SegmentCacheBuildError}
@@ -22,12 +25,20 @@ module _ {A : Type 0} where
   pub decided-refused : (e : SegmentCacheBuildError) (x : A) (f : ℕ → A) → decided (errorNumber e) x f ≡ f (errorNumber e)
   decided-refused e x f = decided-pos (errorNumber e) x f (λ (z : errorNumber e ≡ 0). omega (arith, refusal-pos e))
 
+  -- so does a question whose number is its own answer
+  pub own-refused : (e : SegmentCacheBuildError) (n : ℕ) (x : A) (f : ℕ → A) → decided (cond (eqb (errorNumber e) 0) n (errorNumber e)) x f ≡ f (errorNumber e)
+  own-refused e n x f = rw (ne-eqb (errorNumber e) 0 (λ (z : errorNumber e ≡ 0). omega (arith, refusal-pos e))) (decided-refused e x f)
+
   -- what holds of an accepted call and of every refusal holds of the call
   pub decided-either : (P : A → Type 0) (n : ℕ) (x : A) (f : ℕ → A) → P x → ((m : ℕ) → P (f m)) → P (decided n x f)
   decided-either P zero x f holds refused = holds
   decided-either P (suc n) x f holds refused = refused (suc n)
 
 -- ---- a plan
+
+-- what a plan comes to, by its questions
+abbrev pub plan : {A : Type 0} → A → List (Bool × ℕ) → Reply A (Unit {0})
+plan x l = decided (firstNo l) (accept x) (λ n. refuse n tt)
 
 module _ {A : Type 0} where
   pub planned-yes : (n : ℕ) (x y : A) → _≡_ {A = Reply A (Unit {0})} (decided n (accept x) (λ m. refuse m tt)) (accept y) → (n ≡ 0) × (x ≡ y)
