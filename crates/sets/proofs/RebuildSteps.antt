@@ -28,7 +28,6 @@ use Rattle.sets.specs.declared.rebuild.SegmentRecordLocation.{SegmentRec
 use Rattle.sets.specs.declared.rebuild.SharedSegmentCacheBuild.{SharedSegmentCacheBuild}
 use Rattle.sets.specs.declared.rebuild.SharedSegmentCacheBuilder.{SharedSegmentCacheBuilder}
 use Rattle.sets.proofs.Counts.{both}
-use Rattle.sets.proofs.Decides.{planned-yes, planned-no}
 use Rattle.sets.proofs.RebuildAsked.{segments-each}
 
 -- ---- segments
@@ -99,32 +98,6 @@ over-cleared s area zeroed few long e =
     let k : length (s ++ replicate (256 - length s) 0) ≡ 256 = omega (arith, length-append s (replicate (256 - length s) 0), length-replicate {A = ℕ} (256 - length s) 0) in
     rw (take-all 256 s few, k, append-assoc s (replicate (256 - length s) 0) (drop 256 area))
     (ap (λ (t : List ℕ). s ++ drop (length s) t) z ∙ ap (λ (t : List ℕ). s ++ t) (drop-zeros (length s) 256 (drop 256 area) few))
-
--- ---- plans
-
-module _ (r : SharedSegmentCacheBuilder) (h : ℕ) (key value : List ℕ) (source : SegmentRecordLocation) (index : List ℕ) (filter : ℕ) (starts lengths arena : List ℕ) where
-  pub reused-placed : (s : ℕ) → planReused r h key value source index filter starts lengths arena ≡ accept s
-      → (firstNo (askReused r h key value source index filter starts lengths arena) ≡ 0) × (emptySlot index (r .«bucket_count») h .value ≡ s)
-  unfolding planReused
-  reused-placed s e = planned-yes (firstNo (askReused r h key value source index filter starts lengths arena)) _ s e
-
-  pub reused-refused : (n : ℕ) → planReused r h key value source index filter starts lengths arena ≡ refuse n tt
-      → firstNo (askReused r h key value source index filter starts lengths arena) ≡ n
-  unfolding planReused
-  reused-refused n e = planned-no (firstNo (askReused r h key value source index filter starts lengths arena)) n _ e
-
-module _ (r : SharedSegmentCacheBuilder) (h key value : ℕ) (ttl : Lifetime) (index : List ℕ) (filter : ℕ) (starts lengths : List ℕ) (arena : ℕ) where
-  pub copied-placed : (s d : ℕ) → planCopied r h key value ttl index filter starts lengths arena ≡ accept (s, d)
-      → (firstNo (askCopied r h key value ttl index filter starts lengths arena) ≡ 0) × (emptySlot index (r .«bucket_count») h .value ≡ s) × (copiedDeadline r ttl .value ≡ d)
-  unfolding planCopied
-  copied-placed s d e =
-      let p = planned-yes (firstNo (askCopied r h key value ttl index filter starts lengths arena)) _ (s, d) e in
-      (p .0, ap (λ (x : ℕ × ℕ). x .0) (p .1), ap (λ (x : ℕ × ℕ). x .1) (p .1))
-
-  pub copied-refused : (n : ℕ) → planCopied r h key value ttl index filter starts lengths arena ≡ refuse n tt
-      → firstNo (askCopied r h key value ttl index filter starts lengths arena) ≡ n
-  unfolding planCopied
-  copied-refused n e = planned-no (firstNo (askCopied r h key value ttl index filter starts lengths arena)) n _ e
 
 -- ---- numbers
 
