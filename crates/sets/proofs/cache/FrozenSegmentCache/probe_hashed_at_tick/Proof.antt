@@ -24,14 +24,21 @@ enum-told c = search needs
 
 returns-2 : tie.Need-returns-2
 unfolding probeAnswer askLookup
-returns-2 c = (rw (said-yes (c .before .before .before .before .lookup-areas-hold .ensures) (c .before .before .before .if1 .left), sym (c .before .before .find .ensures) ∙ c .enum-told .given .1), refl)
+returns-2 c =
+    let f = c .before .before in
+    let b = f .before in
+    (rw (said-yes (b .before .lookup-areas-hold .ensures) (b .if1 .left), sym (f .find .ensures) ∙ c .enum-told .given .1), refl)
 
 base-record-requires : tie.Need-base-record-requires
 base-record-requires c κs = search needs
 
 returns-3 : tie.Need-returns-3
 unfolding probeAnswer askLookup
-returns-3 c = (rw (said-yes (c .before .before .before .before .before .before .lookup-areas-hold .ensures) (c .before .before .before .before .before .if1 .left), sym (c .before .before .before .before .find .ensures) ∙ c .before .before .answer .given .1, c .base-record .ensures), refl)
+returns-3 c =
+    let y = c .before .before in
+    let f = y .before .before in
+    let b = f .before in
+    (rw (said-yes (b .before .lookup-areas-hold .ensures) (b .if1 .left), sym (f .find .ensures) ∙ y .answer .given .1, c .base-record .ensures), refl)
 
 pub probe-hashed-at-tick-spec : {M : Type 1} → statement M
 probe-hashed-at-tick-spec =
