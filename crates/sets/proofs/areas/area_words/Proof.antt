@@ -1,14 +1,14 @@
 -- `area_words` meets its contract. Assumes nothing.
-use lib.Dec.{leb}
-use borrow.Author.Tests.{le-leb, leb-true, lt-leb}
-use Rattle.sets.proofs.Said.{Past, said-no, said-yes}
 use mathlib.Core.Path.{sym, _∙_}
 use Prim.Native.Nat.{ℕ}
+use lib.Dec.{leb}
+use borrow.Author.Tests.{le-leb, leb-true, lt-leb}
 use Rattle.sets.specs.Areas.{areaWordsFor, askCounts, wordsNeeded}
-use Rattle.sets.proofs.Decides.{plan}
-use borrow.Author.Needs.{needs}
 use Rattle.sets.specs.Questions.{occupancyFits}
+use Rattle.sets.proofs.Said.{Past, said-no, said-yes}
+use Rattle.sets.proofs.Decides.{plan}
 use Rattle.sets.proofs.Counts.{both}
+use borrow.Author.Needs.{needs}
 use Rattle.sets.proofs.areas.area_words.Statement.{statement}
 use Rattle.sets.proofs.areas.area_words.Tie as tie
 

@@ -1,12 +1,12 @@
 -- `next_entry` meets its contract: what the slots from the next one on say is what was asked. Assumes nothing.
 use mathlib.Core.Path.{_≡_, refl, sym, _∙_}
-use native.Mathlib.Omega.{arith}
 use Prim.Native.Nat.{ℕ, _-_, _*_}
+use native.Mathlib.Omega.{arith}
 use Rattle.records.specs.declared.record.RecordAnswer.{RecordAnswer}
-use Rattle.sets.specs.Lookup.{entryAt, firstEntry, nextEntry}
-use borrow.Author.Needs.{needs}
 use Rattle.index.specs.View.{recordIn}
+use Rattle.sets.specs.Lookup.{entryAt, firstEntry, nextEntry}
 use Rattle.sets.proofs.WalkSteps.{entry-hit, entry-miss, entry-none}
+use borrow.Author.Needs.{needs}
 use Rattle.sets.proofs.lookup.next_entry.Statement.{statement}
 use Rattle.sets.proofs.lookup.next_entry.Tie as tie
 

@@ -2,8 +2,8 @@
 use mathlib.Core.Path.{sym, _∙_}
 use Prim.Native.Nat.{ℕ}
 use borrow.Author.Tests.{le-leb, lt-leb}
-use Rattle.sets.proofs.Said.{Past, said-no, said-yes}
 use Rattle.sets.specs.Questions.{askOpen, firstNo}
+use Rattle.sets.proofs.Said.{Past, said-no, said-yes}
 use borrow.Author.Needs.{needs}
 use Rattle.sets.proofs.questions.check_open.Statement.{statement}
 use Rattle.sets.proofs.questions.check_open.Tie as tie

@@ -1,9 +1,9 @@
 -- `record_fits` meets its contract. Assumes nothing.
 use mathlib.Core.Path.{sym, ap, _∙_}
-use borrow.Author.Tests.{lt-leb}
 use Prim.Native.Nat.{ℕ, _<_}
 use native.Mathlib.Omega.{arith}
 use lib.Dec.{leb}
+use borrow.Author.Tests.{lt-leb}
 use Rattle.records.specs.Record.{recordSize, sizeOutcome}
 use Rattle.sets.proofs.Appends.{size-large, size-told}
 use borrow.Author.Needs.{needs}

@@ -1,14 +1,14 @@
 -- `check_rebuild_open` meets its contract: after each question that is answered yes those after it are left. Assumes nothing.
-use borrow.Author.Tests.{le-leb, lt-leb, eq-eqb, ne-eqb}
-use native.Mathlib.Omega.{arith}
-use Rattle.sets.specs.Kept.{keptCount}
-use Rattle.sets.proofs.RebuildAsked.{source-areas-asked}
-use Rattle.sets.proofs.RebuildSteps.{kept-most, segment-most}
 use mathlib.Core.Path.{_≡_, sym, _∙_}
 use mathlib.Core.Bool.{true}
 use Prim.Native.Nat.{ℕ, _+_}
+use native.Mathlib.Omega.{arith}
+use borrow.Author.Tests.{le-leb, lt-leb, eq-eqb, ne-eqb}
+use Rattle.sets.specs.Kept.{keptCount}
 use Rattle.sets.specs.Questions.{firstNo}
 use Rattle.sets.specs.Rebuild.{areasHoldSource, askRebuildOpen, segmentFor}
+use Rattle.sets.proofs.RebuildAsked.{source-areas-asked}
+use Rattle.sets.proofs.RebuildSteps.{kept-most, segment-most}
 use Rattle.sets.proofs.Said.{Past, said-no, said-yes}
 use borrow.Author.Needs.{needs}
 use Rattle.sets.proofs.rebuild_questions.check_rebuild_open.Statement.{statement}

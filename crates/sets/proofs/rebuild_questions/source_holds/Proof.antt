@@ -1,13 +1,13 @@
 -- `source_holds` meets its contract. Assumes nothing.
-use Rattle.sets.proofs.Said.{said-no, said-yes}
-use native.Mathlib.Omega.{arith}
-use lib.ListN.{length}
-use Rattle.sets.proofs.RebuildSteps.{areas-256, set-few}
 use mathlib.Core.Path.{_≡_, sym, _∙_}
 use mathlib.Core.Bool.{true}
 use mathlib.Core.List.{[], _∷_}
+use native.Mathlib.Omega.{arith}
+use lib.ListN.{length}
 use Rattle.sets.specs.Questions.{all, arenaHolds, segmentAreasHold}
 use Rattle.sets.specs.Rebuild.{areasHoldSource, segmentsInside}
+use Rattle.sets.proofs.Said.{said-no, said-yes}
+use Rattle.sets.proofs.RebuildSteps.{areas-256, set-few}
 use borrow.Author.Needs.{needs}
 use Rattle.sets.proofs.rebuild_questions.source_holds.Statement.{statement}
 use Rattle.sets.proofs.rebuild_questions.source_holds.Tie as tie

@@ -1,9 +1,9 @@
 -- `check_finish` meets its contract: after each question that is answered yes those after it are left. Assumes nothing.
-use borrow.Author.Tests.{eq-eqb, ne-eqb}
-use Rattle.sets.specs.Build.{askFinish}
 use mathlib.Core.Path.{sym, _∙_}
 use Prim.Native.Nat.{ℕ}
 use lib.ListN.{take}
+use borrow.Author.Tests.{eq-eqb, ne-eqb}
+use Rattle.sets.specs.Build.{askFinish}
 use Rattle.sets.specs.Questions.{firstNo}
 use Rattle.sets.proofs.Said.{Past, said-no, said-yes}
 use borrow.Author.Needs.{needs}

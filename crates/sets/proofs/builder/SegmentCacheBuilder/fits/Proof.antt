@@ -1,14 +1,14 @@
 -- `fits` meets its contract. Assumes nothing.
-use Rattle.sets.specs.Build.{builderFits}
-use Rattle.sets.proofs.Counts.{counts-records}
-use native.Mathlib.Omega.{arith}
 use mathlib.Core.Path.{_≡_, sym, _∙_}
 use mathlib.Core.List.{[], _∷_}
 use Prim.Native.Nat.{_+_, _-_, _*_, _^_, _≤_}
+use native.Mathlib.Omega.{arith}
 use lib.Dec.{leb}
 use borrow.Author.Tests.{le-leb, leb-true, lt-leb}
+use Rattle.sets.specs.Build.{builderFits}
 use Rattle.sets.specs.Questions.{all, bytesFit}
 use Rattle.sets.specs.declared.builder.SegmentCacheBuilder.{SegmentCacheBuilder}
+use Rattle.sets.proofs.Counts.{counts-records}
 use Rattle.sets.proofs.Said.{said-no, said-yes}
 use borrow.Author.Needs.{needs}
 use Rattle.sets.proofs.builder.SegmentCacheBuilder.fits.Statement.{statement}

@@ -1,14 +1,14 @@
 -- `plan_push` meets its contract: after each question that is answered yes those after it are left. Assumes nothing.
-use Rattle.index.specs.Build.{slotOutcome}
-use lib.Seq.{length-take-le}
-use lib.ListN.{length}
-use borrow.Author.Tests.{lt-ltb, le-ltb, le-leb, lt-leb}
-use Rattle.sets.proofs.Counts.{builder-areas-asked}
 use mathlib.Core.Path.{_≡_, sym, ap, _∙_}
 use mathlib.Core.Bool.{true}
 use Prim.Native.Nat.{ℕ, _≤_}
+use lib.Seq.{length-take-le}
+use lib.ListN.{length}
+use borrow.Author.Tests.{lt-ltb, le-ltb, le-leb, lt-leb}
+use Rattle.index.specs.Build.{slotOutcome}
 use Rattle.sets.specs.Build.{areasHoldBuilder, askPush, deadlineFor, pushSlot}
 use Rattle.sets.specs.BuildPlans.{askRecord, planPush, planRecord}
+use Rattle.sets.proofs.Counts.{builder-areas-asked}
 use Rattle.sets.proofs.Decides.{plan}
 use Rattle.sets.proofs.Said.{Past, said-no, said-yes}
 use borrow.Author.Needs.{needs}

@@ -2,7 +2,6 @@
 use mathlib.Core.Path.{_≡_, sym, ap, _∙_}
 use Prim.Native.Nat.{_-_}
 use lib.Dec.{leb}
-use borrow.Author.Needs.{needs}
 use Rattle.hash_parts.specs.Duration.{expiryOutcome}
 use Rattle.records.specs.Record.{recordSize}
 use Rattle.sets.specs.Build.{pushEnd}
@@ -11,6 +10,7 @@ use Rattle.sets.specs.Questions.{deadlineRefusal}
 use Rattle.sets.proofs.Appends.{room}
 use Rattle.sets.proofs.Decides.{own-refused}
 use Rattle.sets.proofs.Said.{said-no, said-yes}
+use borrow.Author.Needs.{needs}
 use Rattle.sets.proofs.builder.SegmentCacheBuilder.plan_record.Statement.{statement}
 use Rattle.sets.proofs.builder.SegmentCacheBuilder.plan_record.Tie as tie
 

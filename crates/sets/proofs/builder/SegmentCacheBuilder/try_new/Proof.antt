@@ -4,9 +4,9 @@ use native.Mathlib.Omega.{arith}
 use lib.ListN.{length}
 use Rattle.sets.specs.Build.{afterOpen}
 use Rattle.sets.specs.Questions.{bucketsIn, checkNumber}
+use Rattle.sets.specs.declared.builder.SegmentCacheBuilder.{SegmentCacheBuilder}
 use Rattle.sets.proofs.Decides.{decided-refused}
 use Rattle.sets.proofs.Counts.{counts-records}
-use Rattle.sets.specs.declared.builder.SegmentCacheBuilder.{SegmentCacheBuilder}
 use Rattle.sets.proofs.Asked.{OpenAsked, open-asked, open-left}
 use borrow.Author.Needs.{needs}
 use Rattle.sets.proofs.builder.SegmentCacheBuilder.try_new.Statement.{statement}

@@ -1,13 +1,13 @@
 -- `fits` meets its contract. Assumes nothing.
-use borrow.Author.Tests.{le-leb, lt-leb}
-use Rattle.sets.proofs.Said.{said-no, said-yes}
-use Rattle.sets.specs.Lookup.{setFits}
-use Rattle.sets.proofs.Counts.{counts-records}
 use mathlib.Core.Path.{_≡_, sym, _∙_}
 use mathlib.Core.List.{[], _∷_}
 use Prim.Native.Nat.{_≤_}
+use borrow.Author.Tests.{le-leb, lt-leb}
+use Rattle.sets.specs.Lookup.{setFits}
 use Rattle.sets.specs.Questions.{all, bytesFit}
 use Rattle.sets.specs.declared.cache.FrozenSegmentCache.{FrozenSegmentCache}
+use Rattle.sets.proofs.Said.{said-no, said-yes}
+use Rattle.sets.proofs.Counts.{counts-records}
 use borrow.Author.Needs.{needs}
 use Rattle.sets.proofs.cache.FrozenSegmentCache.fits.Statement.{statement}
 use Rattle.sets.proofs.cache.FrozenSegmentCache.fits.Tie as tie

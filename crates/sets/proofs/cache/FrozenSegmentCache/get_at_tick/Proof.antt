@@ -1,10 +1,10 @@
 -- `get_at_tick` meets its contract. Assumes nothing.
-use Rattle.sets.proofs.Said.{said-no, said-yes}
-use Rattle.sets.proofs.Finding.{got, lookup-slot}
 use mathlib.Core.Path.{_≡_, sym, _∙_}
 use mathlib.Core.Bool.{true}
 use lib.ListN.{length}
 use Rattle.sets.specs.Lookup.{afterGet, areasHoldLookup, askLookup}
+use Rattle.sets.proofs.Said.{said-no, said-yes}
+use Rattle.sets.proofs.Finding.{got, lookup-slot}
 use borrow.Author.Needs.{needs}
 use Rattle.sets.proofs.cache.FrozenSegmentCache.get_at_tick.Statement.{statement}
 use Rattle.sets.proofs.cache.FrozenSegmentCache.get_at_tick.Tie as tie

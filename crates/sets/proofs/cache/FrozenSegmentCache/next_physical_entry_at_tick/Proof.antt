@@ -1,15 +1,13 @@
 -- `next_physical_entry_at_tick` meets its contract. Assumes nothing.
-use Rattle.sets.proofs.Said.{said-no, said-yes}
-use lib.ListN.{length}
-use Rattle.sets.proofs.Counts.{set-index}
-use Rattle.index.specs.View.{recordIn}
 use mathlib.Core.Path.{_≡_, refl, sym, _∙_}
 use mathlib.Core.Bool.{true}
+use lib.ListN.{length}
+use Rattle.index.specs.View.{recordIn}
 use Rattle.sets.specs.Lookup.{areasHoldSet, askWalk, nextEntry, viewOf, walkAnswer}
+use Rattle.sets.proofs.Said.{said-no, said-yes}
+use Rattle.sets.proofs.Counts.{set-index}
 use borrow.Author.Needs.{needs}
-use Rattle.sets.proofs.cache.FrozenSegmentCache.next_physical_entry_at_tick.Statement.{
-  statement,
-}
+use Rattle.sets.proofs.cache.FrozenSegmentCache.next_physical_entry_at_tick.Statement.{statement}
 use Rattle.sets.proofs.cache.FrozenSegmentCache.next_physical_entry_at_tick.Tie as tie
 
 abbrev from : tie.Else1 → tie.Start

@@ -1,7 +1,7 @@
 -- `peek_at_tick` meets its contract. Assumes nothing.
 use mathlib.Core.Path.{refl, sym, _∙_}
-use Rattle.sets.proofs.Said.{said-no, said-yes}
 use Rattle.sets.specs.Lookup.{afterGet, afterPeek, askLookup}
+use Rattle.sets.proofs.Said.{said-no, said-yes}
 use Rattle.sets.proofs.Finding.{got}
 use borrow.Author.Needs.{needs}
 use Rattle.sets.proofs.cache.FrozenSegmentCache.peek_at_tick.Statement.{statement}

@@ -1,7 +1,7 @@
 -- `probe_hashed_at_tick` meets its contract. Assumes nothing.
 use mathlib.Core.Path.{refl, sym, _∙_}
-use Rattle.sets.proofs.Said.{said-no, said-yes}
 use Rattle.sets.specs.Lookup.{askLookup, probeAnswer}
+use Rattle.sets.proofs.Said.{said-no, said-yes}
 use borrow.Author.Needs.{needs}
 use Rattle.sets.proofs.cache.FrozenSegmentCache.probe_hashed_at_tick.Statement.{statement}
 use Rattle.sets.proofs.cache.FrozenSegmentCache.probe_hashed_at_tick.Tie as tie

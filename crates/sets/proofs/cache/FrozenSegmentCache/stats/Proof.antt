@@ -1,13 +1,13 @@
 -- `stats` meets its contract. Assumes nothing.
+use mathlib.Core.Path.{ap}
+use Prim.Native.Nat.{_≤_, _<_}
+use native.Mathlib.Omega.{arith}
 use Rattle.sets.specs.declared.stats.SegmentCacheStats.{SegmentCacheStats}
 use Rattle.sets.specs.Answers.{accept}
-use mathlib.Core.Path.{ap}
-use Rattle.sets.proofs.Said.{said-no, said-yes}
 use Rattle.sets.specs.Lookup.{askStats, statsAnswer}
-use native.Mathlib.Omega.{arith}
+use Rattle.sets.proofs.Said.{said-no, said-yes}
 use Rattle.sets.proofs.Counts.{set-counts}
 use Rattle.sets.proofs.Finding.{few-buckets, few-words, stats-made}
-use Prim.Native.Nat.{_≤_, _<_}
 use borrow.Author.Needs.{needs}
 use Rattle.sets.proofs.cache.FrozenSegmentCache.stats.Statement.{statement}
 use Rattle.sets.proofs.cache.FrozenSegmentCache.stats.Tie as tie

@@ -1,11 +1,11 @@
 -- `take_accessed` meets its contract. Assumes nothing.
-use Rattle.sets.proofs.Said.{said-no, said-yes}
-use Rattle.sets.proofs.Finding.{lookup-slot, taken}
-use Rattle.sets.specs.Answers.{accept}
 use mathlib.Core.Path.{_≡_, sym, ap, _∙_}
 use mathlib.Core.Bool.{Bool, true}
 use lib.ListN.{length}
+use Rattle.sets.specs.Answers.{accept}
 use Rattle.sets.specs.Lookup.{afterTake, areasHoldLookup, askLookup}
+use Rattle.sets.proofs.Said.{said-no, said-yes}
+use Rattle.sets.proofs.Finding.{lookup-slot, taken}
 use borrow.Author.Needs.{needs}
 use Rattle.sets.proofs.cache.FrozenSegmentCache.take_accessed.Statement.{statement}
 use Rattle.sets.proofs.cache.FrozenSegmentCache.take_accessed.Tie as tie

@@ -1,17 +1,17 @@
 -- `areas_hold` meets its contract. Assumes nothing.
-use borrow.Author.Tests.{le-leb, lt-leb}
-use Rattle.sets.proofs.Said.{said-no, said-yes}
-use native.Mathlib.Omega.{arith}
-use lib.ListN.{length}
-use Rattle.sets.proofs.KeptBits.{retained-256}
-use Rattle.sets.proofs.RebuildSteps.{areas-256, arena-held}
 use mathlib.Core.Path.{_≡_, sym, _∙_}
 use mathlib.Core.Bool.{true}
 use mathlib.Core.List.{[], _∷_}
 use Prim.Native.Nat.{_*_, _≤_, _<_}
+use native.Mathlib.Omega.{arith}
+use lib.ListN.{length}
+use borrow.Author.Tests.{le-leb, lt-leb}
 use Rattle.sets.specs.Kept.{retained}
 use Rattle.sets.specs.Questions.{all, arenaHolds, segmentAreasHold}
 use Rattle.sets.specs.Rebuild.{areasHoldRebuild, rebuildFilled, segmentsInside}
+use Rattle.sets.proofs.Said.{said-no, said-yes}
+use Rattle.sets.proofs.KeptBits.{retained-256}
+use Rattle.sets.proofs.RebuildSteps.{areas-256, arena-held}
 use borrow.Author.Needs.{needs}
 use Rattle.sets.proofs.rebuild.SharedSegmentCacheBuilder.areas_hold.Statement.{statement}
 use Rattle.sets.proofs.rebuild.SharedSegmentCacheBuilder.areas_hold.Tie as tie

@@ -1,17 +1,17 @@
 -- `fits` meets its contract. Assumes nothing.
-use borrow.Author.Tests.{le-leb, lt-leb}
-use Rattle.sets.proofs.Said.{said-no, said-yes}
-use native.Mathlib.Omega.{arith}
-use Rattle.sets.specs.Kept.{retained}
-use Rattle.sets.specs.Rebuild.{rebuildFits, segmentFor}
-use Rattle.sets.proofs.Counts.{counts-records}
-use Rattle.sets.proofs.KeptBits.{retained-256}
-use Rattle.sets.proofs.RebuildSteps.{segment-most}
 use mathlib.Core.Path.{_≡_, sym, _∙_}
 use mathlib.Core.List.{[], _∷_}
 use Prim.Native.Nat.{_+_, _≤_}
+use native.Mathlib.Omega.{arith}
+use borrow.Author.Tests.{le-leb, lt-leb}
+use Rattle.sets.specs.Kept.{retained}
+use Rattle.sets.specs.Rebuild.{rebuildFits, segmentFor}
 use Rattle.sets.specs.Questions.{all, bytesFit}
 use Rattle.sets.specs.declared.rebuild.SharedSegmentCacheBuilder.{SharedSegmentCacheBuilder}
+use Rattle.sets.proofs.Said.{said-no, said-yes}
+use Rattle.sets.proofs.Counts.{counts-records}
+use Rattle.sets.proofs.KeptBits.{retained-256}
+use Rattle.sets.proofs.RebuildSteps.{segment-most}
 use borrow.Author.Needs.{needs}
 use Rattle.sets.proofs.rebuild.SharedSegmentCacheBuilder.fits.Statement.{statement}
 use Rattle.sets.proofs.rebuild.SharedSegmentCacheBuilder.fits.Tie as tie

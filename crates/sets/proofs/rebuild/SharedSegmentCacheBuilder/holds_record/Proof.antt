@@ -1,10 +1,10 @@
 -- `holds_record` meets its contract. Assumes nothing.
-use native.Mathlib.Omega.{arith}
-use Rattle.index.specs.View.{recordIn}
-use Rattle.sets.proofs.KeptBits.{number-below, retained-256}
 use mathlib.Core.Path.{_≡_, sym, _∙_}
 use Prim.Native.Nat.{_+_, _/_, _^_}
+use native.Mathlib.Omega.{arith}
+use Rattle.index.specs.View.{recordIn}
 use Rattle.sets.specs.Rebuild.{holdsRecord, keptView, movedLocation}
+use Rattle.sets.proofs.KeptBits.{number-below, retained-256}
 use borrow.Author.Needs.{needs}
 use Rattle.sets.proofs.rebuild.SharedSegmentCacheBuilder.holds_record.Statement.{statement}
 use Rattle.sets.proofs.rebuild.SharedSegmentCacheBuilder.holds_record.Tie as tie

@@ -1,15 +1,15 @@
 -- `plan_copied` meets its contract: after each question that is answered yes those after it are left. Assumes nothing.
-use lib.ListN.{length}
-use Rattle.hash_parts.specs.Duration.{expiryOutcome}
-use Rattle.sets.specs.Questions.{deadlineRefusal}
-use Rattle.sets.specs.RebuildPlans.{askRoom, planCopied, planRoom}
-use Rattle.sets.proofs.RebuildAsked.{rebuild-areas-asked}
 use mathlib.Core.Path.{_≡_, sym, ap, _∙_}
 use mathlib.Core.Bool.{true}
 use Prim.Native.Nat.{ℕ}
+use lib.ListN.{length}
 use borrow.Author.Tests.{lt-ltb, le-ltb, le-leb, lt-leb}
+use Rattle.hash_parts.specs.Duration.{expiryOutcome}
 use Rattle.index.specs.Build.{emptySlot}
+use Rattle.sets.specs.Questions.{deadlineRefusal}
+use Rattle.sets.specs.RebuildPlans.{askRoom, planCopied, planRoom}
 use Rattle.sets.specs.Rebuild.{areasHoldRebuild, askCopied, copiedDeadline}
+use Rattle.sets.proofs.RebuildAsked.{rebuild-areas-asked}
 use Rattle.sets.proofs.Decides.{own-refused, plan}
 use Rattle.sets.proofs.Said.{Past, said-no, said-yes}
 use borrow.Author.Needs.{needs}

@@ -1,14 +1,14 @@
 -- `plan_reused` meets its contract: after each question that is answered yes those after it are left. Assumes nothing.
-use borrow.Author.Tests.{lt-ltb, le-ltb, le-leb, lt-leb}
-use native.Mathlib.Omega.{arith}
-use lib.ListN.{length}
-use Rattle.sets.specs.RebuildPlans.{planReused}
-use Rattle.sets.proofs.RebuildAsked.{rebuild-areas-asked}
 use mathlib.Core.Path.{_≡_, sym, ap, _∙_}
 use mathlib.Core.Bool.{true}
 use Prim.Native.Nat.{ℕ}
+use native.Mathlib.Omega.{arith}
+use lib.ListN.{length}
+use borrow.Author.Tests.{lt-ltb, le-ltb, le-leb, lt-leb}
 use Rattle.index.specs.Build.{emptySlot, slotOutcome}
+use Rattle.sets.specs.RebuildPlans.{planReused}
 use Rattle.sets.specs.Rebuild.{areasHoldRebuild, askReused}
+use Rattle.sets.proofs.RebuildAsked.{rebuild-areas-asked}
 use Rattle.sets.proofs.Decides.{plan}
 use Rattle.sets.proofs.Said.{Past, said-no, said-yes}
 use borrow.Author.Needs.{needs}

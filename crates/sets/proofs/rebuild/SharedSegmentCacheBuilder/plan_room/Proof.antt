@@ -1,12 +1,12 @@
 -- `plan_room` meets its contract: after each question that is answered yes those after it are left. Assumes nothing.
-use borrow.Author.Tests.{lt-ltb, le-ltb}
-use Rattle.sets.specs.RebuildPlans.{askRoom, planRoom}
-use Rattle.sets.proofs.Appends.{room}
 use mathlib.Core.Path.{_≡_, sym, ap, _∙_}
 use Prim.Native.Nat.{ℕ, _+_, _-_}
 use lib.Dec.{leb}
+use borrow.Author.Tests.{lt-ltb, le-ltb}
 use Rattle.index.specs.Build.{emptySlot, slotOutcome}
+use Rattle.sets.specs.RebuildPlans.{askRoom, planRoom}
 use Rattle.sets.specs.Rebuild.{copiedSize, rebuildFilled}
+use Rattle.sets.proofs.Appends.{room}
 use Rattle.sets.proofs.Decides.{plan}
 use Rattle.sets.proofs.Said.{Past, said-no, said-yes}
 use borrow.Author.Needs.{needs}

@@ -1,18 +1,18 @@
 -- `push_copied` meets its contract. Assumes nothing.
+use mathlib.Core.Path.{_≡_, sym, ap, _∙_}
+use Prim.Native.Nat.{ℕ, _≤_}
 use native.Mathlib.Omega.{arith}
 use lib.ListN.{length}
+use Rattle.hash_parts.specs.Error.{errorNumber}
 use Rattle.index.specs.declared.build.BuildSlot.the-variants.{Empty}
-use Rattle.sets.proofs.Counts.{counts-records}
-use Rattle.sets.proofs.RebuildAsked.{copied-asked}
-use mathlib.Core.Path.{_≡_, sym, ap, _∙_}
 use Rattle.index.specs.Build.{emptySlot}
 use Rattle.sets.specs.BuildPlans.{planned}
 use Rattle.sets.specs.Questions.{firstNo}
 use Rattle.sets.specs.Rebuild.{afterCopied, askCopied, copiedDeadline}
 use Rattle.sets.specs.RebuildPlans.{planCopied}
+use Rattle.sets.proofs.Counts.{counts-records}
+use Rattle.sets.proofs.RebuildAsked.{copied-asked}
 use Rattle.sets.proofs.EmptySlots.{found-inside}
-use Prim.Native.Nat.{ℕ, _≤_}
-use Rattle.hash_parts.specs.Error.{errorNumber}
 use Rattle.sets.proofs.Decides.{decided-refused, planned-no, planned-two}
 use borrow.Author.Needs.{needs}
 use Rattle.sets.proofs.rebuild.SharedSegmentCacheBuilder.push_copied.Statement.{statement}

@@ -1,19 +1,18 @@
 -- `push_reused` meets its contract. Assumes nothing.
-use Prim.Native.Nat.{_+_}
+use mathlib.Core.Path.{_≡_, sym, ap, _∙_}
+use Prim.Native.Nat.{_+_, ℕ, _≤_}
 use native.Mathlib.Omega.{arith}
 use lib.ListN.{length}
+use Rattle.hash_parts.specs.Error.{errorNumber}
 use Rattle.index.specs.declared.build.BuildSlot.the-variants.{Empty}
-use Rattle.sets.proofs.Counts.{counts-records}
-use Rattle.sets.proofs.ReadInside.{reused-record}
-use Rattle.sets.proofs.RebuildAsked.{reused-asked}
-use mathlib.Core.Path.{_≡_, sym, ap, _∙_}
 use Rattle.index.specs.Build.{emptySlot}
 use Rattle.sets.specs.Questions.{firstNo}
 use Rattle.sets.specs.Rebuild.{afterReused, askReused, keptView, movedLocation}
 use Rattle.sets.specs.RebuildPlans.{planReused, slotPlanned}
+use Rattle.sets.proofs.Counts.{counts-records}
+use Rattle.sets.proofs.ReadInside.{reused-record}
+use Rattle.sets.proofs.RebuildAsked.{reused-asked}
 use Rattle.sets.proofs.EmptySlots.{found-inside}
-use Prim.Native.Nat.{ℕ, _≤_}
-use Rattle.hash_parts.specs.Error.{errorNumber}
 use Rattle.sets.proofs.Decides.{decided-refused, planned-no, planned-yes}
 use borrow.Author.Needs.{needs}
 use Rattle.sets.proofs.rebuild.SharedSegmentCacheBuilder.push_reused.Statement.{statement}
