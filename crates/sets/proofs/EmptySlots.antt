@@ -21,7 +21,8 @@ unfolding looks searched
 looked taken i [] after s limit h e f = f e
 looked taken i (w ∷ l) after s limit h e f = go (eqb w 0) (taken w) e (λ q. looked taken (suc i) l after s limit (omega arith) q f)
   where
-    go : (z t : Bool) → searched (cond z (vacant i) (cond t same passed) ∷ looks taken (suc i) l) after ≡ Empty s → (searched (looks taken (suc i) l) after ≡ Empty s → s < limit) → s < limit
+    go : (z t : Bool) → searched (cond z (vacant i) (cond t same passed) ∷ looks taken (suc i) l) after ≡ Empty s
+        → (searched (looks taken (suc i) l) after ≡ Empty s → s < limit) → s < limit
     go true t q r = let own : i ≡ s = cc in omega arith
     go false true q r = absurd (let z : _≡_ {A = ℕ} 0 1 = cc in omega arith)
     go false false q r = r q

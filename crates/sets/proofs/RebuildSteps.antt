@@ -129,13 +129,6 @@ arena-held filled arena e =
     let t = both (leb filled arena) _ e in
     (leb-true _ _ (t .0), leb-true _ _ (t .1))
 
-pub set-few : (s : FrozenSegmentCache) → setFits s ≡ true → s .segments ≤ 256
-unfolding setFits
-set-few s e =
-    let t = both (countsFit (s .config) (s .entries) (s .buckets) (s .«filter_words»)) _ e in
-    let u = both (leb 1 (s .segments)) _ (t .1) in
-    leb-true _ _ (both (leb (s .segments) 256) _ (u .1) .0)
-
 -- ---- what a push leaves
 
 -- totals that wrap may wrap at each step
@@ -168,7 +161,8 @@ module _ (slot deadline : ℕ) (r : SharedSegmentCacheBuilder) (h : ℕ) (key va
 -- ---- what rebuild open and finish leave
 
 pub reopen-left : (s : FrozenSegmentCache) (records : ℕ) (flags : List ℕ) (tick : ℕ) (index filter zeroed blank starts lengths starts′ lengths′ : List ℕ) (r : SharedSegmentCacheBuilder)
-    → r ≡ rebuildOpened s records flags tick → zeroed ≡ cleared index (r .«bucket_count» * 8) → blank ≡ cleared filter (r .«filter_words») → starts′ ≡ starts → lengths′ ≡ lengths
+    → r ≡ rebuildOpened s records flags tick → zeroed ≡ cleared index (r .«bucket_count» * 8)
+    → blank ≡ cleared filter (r .«filter_words») → starts′ ≡ starts → lengths′ ≡ lengths
     → _≡_ {A = RebuildOpened} (record { answer = accept r; index = zeroed; filter = blank; starts = starts′; lengths = lengths′ })
     (record {
       answer = accept (rebuildOpened s records flags tick);

@@ -7,7 +7,8 @@ use lib.ListN.{length}
 use Rattle.sets.specs.Questions.{all, arenaHolds, segmentAreasHold}
 use Rattle.sets.specs.Rebuild.{areasHoldSource, segmentsInside}
 use Rattle.sets.proofs.Said.{said-no, said-yes}
-use Rattle.sets.proofs.RebuildSteps.{areas-256, set-few}
+use Rattle.sets.proofs.RebuildSteps.{areas-256}
+use Rattle.sets.proofs.Counts.{set-segments}
 use borrow.Author.Needs.{needs}
 use Rattle.sets.proofs.rebuild_questions.source_holds.Statement.{statement}
 use Rattle.sets.proofs.rebuild_questions.source_holds.Tie as tie
@@ -55,7 +56,7 @@ segments-inside-requires c κs =
     let d = b .before .before in
     let a = from b .args in
     let held = areas-256 (length (a .starts .now)) (length (a .lengths .now)) (segments b) in
-    let few = set-few (a .source) (said-yes (d .before .fits2 .ensures) (d .if1 .left)) in
+    let few = set-segments (a .source) (said-yes (d .before .fits2 .ensures) (d .if1 .left)) .1 in
     (omega (arith, held .0, few), omega (arith, held .1, few))
 
 returns-4 : tie.Need-returns-4

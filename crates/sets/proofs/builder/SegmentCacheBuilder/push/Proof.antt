@@ -26,11 +26,7 @@ asks s =
     firstNo
     (askPush (a .self) (a .hash) (a .key .now) (length (a .value .now)) (a .ttl) (a .index .now) (length (a .filter .now)) (a .arena .now))
 
--- its plan is refused, or has a place for the record
-stopped : (c : tie.After-refusal) → asks (from (c .before .before)) ≡ errorNumber (c .refusal .given .0 .0)
-unfolding planPush
-stopped c = planned-no _ _ _ (sym (c .before .before .plan-push .ensures) ∙ ap planned (c .refusal .given .1))
-
+-- its plan has a place for the record
 placed : (c : tie.After-slot) → let s = from (c .before .before) in let a = s .args in
     (asks s ≡ 0)
     × (pushSlot (a .self) (a .hash) (a .key .now) (a .index .now) (a .arena .now) .value ≡ c .slot .given .0 .0)
@@ -66,8 +62,11 @@ same-length-2 : tie.Need-same-length-2
 same-length-2 c = search needs
 
 returns : tie.Need-returns
-unfolding afterPush
-returns c = rw (stopped (c .before)) (sym (decided-refused (c .before .refusal .given .0 .0) _ _))
+unfolding afterPush planPush
+returns c =
+    let b = c .before .before .before in
+    let told = c .before .refusal .given in
+    rw (planned-no (asks (from b)) (errorNumber (told .0 .0)) _ (sym (b .plan-push .ensures) ∙ ap planned (told .1))) (sym (decided-refused (told .0 .0) _ _))
 
 same-length-3 : tie.Need-same-length-3
 same-length-3 c = search needs

@@ -1,20 +1,11 @@
 -- `get_at_tick` meets its contract. Assumes nothing.
-use mathlib.Core.Path.{_≡_, sym, _∙_}
-use mathlib.Core.Bool.{true}
-use lib.ListN.{length}
-use Rattle.sets.specs.Lookup.{afterGet, areasHoldLookup, askLookup}
+use mathlib.Core.Path.{sym, _∙_}
+use Rattle.sets.specs.Lookup.{afterGet, askLookup}
 use Rattle.sets.proofs.Said.{said-no, said-yes}
 use Rattle.sets.proofs.Finding.{got, lookup-slot}
 use borrow.Author.Needs.{needs}
 use Rattle.sets.proofs.cache.FrozenSegmentCache.get_at_tick.Statement.{statement}
 use Rattle.sets.proofs.cache.FrozenSegmentCache.get_at_tick.Tie as tie
-
-abbrev from : tie.Else1 → tie.Start
-from c = c .before .before .before .before .before .before .before .before
-
-held : (c : tie.Else1) → let a = from c .args in
-    areasHoldLookup (a .self) (length (a .index .now)) (length (a .filter .now)) (length (a .starts .now)) (length (a .lengths .now)) (length (a .arena .now)) ≡ true
-held c = said-yes (c .before .lookup-areas-hold .ensures) (c .if1 .left)
 
 lookup-areas-hold-requires : tie.Need-lookup-areas-hold-requires
 lookup-areas-hold-requires c κs = search needs
@@ -39,16 +30,18 @@ returns-2 : tie.Need-returns-2
 unfolding afterGet askLookup
 returns-2 c =
     let f = c .before .before in
-    rw (held (f .before .before), sym (f .find .ensures) ∙ c .enum-told .given .1)
+    let b = f .before .before in
+    rw (said-yes (b .before .lookup-areas-hold .ensures) (b .if1 .left), sym (f .find .ensures) ∙ c .enum-told .given .1)
 
 mark-live-requires : tie.Need-mark-live-requires
 mark-live-requires c κs =
     let y = c .before .before in
-    let b = y .before .before .before .before in
-    let s = from b in
+    let f = y .before .before in
+    let b = f .before .before in
+    let s = b .before .before .before .before .before .before .before .before in
     let a = s .args in
     lookup-slot (a .self) (a .hash) (a .key .now) (a .index .now) (a .filter .now) (a .starts .now) (a .lengths .now) (a .arena .now) (y .answer .given .0 .0)
-    (s .fits .hash .fits) (held b) (sym (y .before .before .find .ensures) ∙ y .answer .given .1)
+    (s .fits .hash .fits) (said-yes (b .before .lookup-areas-hold .ensures) (b .if1 .left)) (sym (f .find .ensures) ∙ y .answer .given .1)
 
 live-value-requires : tie.Need-live-value-requires
 live-value-requires c κs = search needs
@@ -62,7 +55,8 @@ returns-3 c =
     let m = c .before .before .before in
     let y = m .before .before .before in
     let f = y .before .before in
-    rw (held (f .before .before), sym (f .find .ensures) ∙ y .answer .given .1) (got (c .live-value .ensures) (m .mark-live .ensures))
+    let b = f .before .before in
+    rw (said-yes (b .before .lookup-areas-hold .ensures) (b .if1 .left), sym (f .find .ensures) ∙ y .answer .given .1) (got (c .live-value .ensures) (m .mark-live .ensures))
 
 pub get-at-tick-spec : {M : Type 1} → statement M
 get-at-tick-spec =

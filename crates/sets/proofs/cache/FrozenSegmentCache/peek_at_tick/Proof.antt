@@ -27,8 +27,7 @@ returns-2 : tie.Need-returns-2
 unfolding afterPeek afterGet askLookup
 returns-2 c =
     let f = c .before .before in
-    let b = f .before in
-    rw (said-yes (b .before .lookup-areas-hold .ensures) (b .if1 .left), sym (f .find .ensures) ∙ c .enum-told .given .1)
+    rw (said-yes (f .before .before .lookup-areas-hold .ensures) (f .before .if1 .left), sym (f .find .ensures) ∙ c .enum-told .given .1)
 
 live-value-requires : tie.Need-live-value-requires
 live-value-requires c κs = search needs
@@ -38,8 +37,7 @@ unfolding afterPeek afterGet askLookup
 returns-3 c =
     let y = c .before .before in
     let f = y .before .before in
-    let b = f .before in
-    rw (said-yes (b .before .lookup-areas-hold .ensures) (b .if1 .left), sym (f .find .ensures) ∙ y .answer .given .1) (got (c .live-value .ensures) refl)
+    rw (said-yes (f .before .before .lookup-areas-hold .ensures) (f .before .if1 .left), sym (f .find .ensures) ∙ y .answer .given .1) (got (c .live-value .ensures) refl)
 
 pub peek-at-tick-spec : {M : Type 1} → statement M
 peek-at-tick-spec =

@@ -26,8 +26,7 @@ returns-2 : tie.Need-returns-2
 unfolding probeAnswer askLookup
 returns-2 c =
     let f = c .before .before in
-    let b = f .before in
-    (rw (said-yes (b .before .lookup-areas-hold .ensures) (b .if1 .left), sym (f .find .ensures) ∙ c .enum-told .given .1), refl)
+    (rw (said-yes (f .before .before .lookup-areas-hold .ensures) (f .before .if1 .left), sym (f .find .ensures) ∙ c .enum-told .given .1), refl)
 
 base-record-requires : tie.Need-base-record-requires
 base-record-requires c κs = search needs
@@ -37,8 +36,7 @@ unfolding probeAnswer askLookup
 returns-3 c =
     let y = c .before .before in
     let f = y .before .before in
-    let b = f .before in
-    (rw (said-yes (b .before .lookup-areas-hold .ensures) (b .if1 .left), sym (f .find .ensures) ∙ y .answer .given .1, c .base-record .ensures), refl)
+    (rw (said-yes (f .before .before .lookup-areas-hold .ensures) (f .before .if1 .left), sym (f .find .ensures) ∙ y .answer .given .1, c .base-record .ensures), refl)
 
 pub probe-hashed-at-tick-spec : {M : Type 1} → statement M
 probe-hashed-at-tick-spec =

@@ -1,21 +1,13 @@
 -- `take_accessed` meets its contract. Assumes nothing.
-use mathlib.Core.Path.{_≡_, sym, ap, _∙_}
-use mathlib.Core.Bool.{Bool, true}
-use lib.ListN.{length}
+use mathlib.Core.Path.{sym, ap, _∙_}
+use mathlib.Core.Bool.{Bool}
 use Rattle.sets.specs.Answers.{accept}
-use Rattle.sets.specs.Lookup.{afterTake, areasHoldLookup, askLookup}
+use Rattle.sets.specs.Lookup.{afterTake, askLookup}
 use Rattle.sets.proofs.Said.{said-no, said-yes}
 use Rattle.sets.proofs.Finding.{lookup-slot, taken}
 use borrow.Author.Needs.{needs}
 use Rattle.sets.proofs.cache.FrozenSegmentCache.take_accessed.Statement.{statement}
 use Rattle.sets.proofs.cache.FrozenSegmentCache.take_accessed.Tie as tie
-
-abbrev from : tie.Else1 → tie.Start
-from c = c .before .before .before .before .before .before .before .before
-
-held : (c : tie.Else1) → let a = from c .args in
-    areasHoldLookup (a .self) (length (a .index .now)) (length (a .filter .now)) (length (a .starts .now)) (length (a .lengths .now)) (length (a .arena .now)) ≡ true
-held c = said-yes (c .before .lookup-areas-hold .ensures) (c .if1 .left)
 
 lookup-areas-hold-requires : tie.Need-lookup-areas-hold-requires
 lookup-areas-hold-requires c κs = search needs
@@ -40,16 +32,18 @@ returns-2 : tie.Need-returns-2
 unfolding afterTake askLookup
 returns-2 c =
     let f = c .before .before in
-    rw (held (f .before .before), sym (f .find .ensures) ∙ c .enum-told .given .1)
+    let b = f .before .before in
+    rw (said-yes (b .before .lookup-areas-hold .ensures) (b .if1 .left), sym (f .find .ensures) ∙ c .enum-told .given .1)
 
 clear-accessed-requires : tie.Need-clear-accessed-requires
 clear-accessed-requires c κs =
     let y = c .before .before in
-    let b = y .before .before .before .before in
-    let s = from b in
+    let f = y .before .before in
+    let b = f .before .before in
+    let s = b .before .before .before .before .before .before .before .before in
     let a = s .args in
     lookup-slot (a .self) (a .hash) (a .key .now) (a .index .now) (a .filter .now) (a .starts .now) (a .lengths .now) (a .arena .now) (y .answer .given .0 .0)
-    (s .fits .hash .fits) (held b) (sym (y .before .before .find .ensures) ∙ y .answer .given .1)
+    (s .fits .hash .fits) (said-yes (b .before .lookup-areas-hold .ensures) (b .if1 .left)) (sym (f .find .ensures) ∙ y .answer .given .1)
 
 same-length-2 : tie.Need-same-length-2
 same-length-2 c = search needs
@@ -60,7 +54,9 @@ returns-3 c =
     let m = c .before .before in
     let y = m .before .before .before in
     let f = y .before .before in
-    rw (held (f .before .before), sym (f .find .ensures) ∙ y .answer .given .1) (taken (ap (λ (x : Bool). accept x) (m .clear-accessed .ensures .0)) (m .clear-accessed .ensures .1))
+    let b = f .before .before in
+    rw (said-yes (b .before .lookup-areas-hold .ensures) (b .if1 .left), sym (f .find .ensures) ∙ y .answer .given .1)
+    (taken (ap (λ (x : Bool). accept x) (m .clear-accessed .ensures .0)) (m .clear-accessed .ensures .1))
 
 pub take-accessed-spec : {M : Type 1} → statement M
 take-accessed-spec =

@@ -29,11 +29,7 @@ asks s =
     (askCopied (a .self) (a .hash) (length (a .key .now)) (length (a .value .now)) (a .ttl) (a .index .now) (length (a .filter .now)) (a .starts .now) (a .lengths .now)
     (length (a .arena .now)))
 
--- its plan is refused, or has a place for the record
-stopped : (c : tie.After-refusal) → asks (from (c .before .before)) ≡ errorNumber (c .refusal .given .0 .0)
-unfolding planCopied
-stopped c = planned-no _ _ _ (sym (c .before .before .plan-copied .ensures) ∙ ap planned (c .refusal .given .1))
-
+-- its plan has a place for the record
 placed : (c : tie.After-slot) → let s = from (c .before .before) in let a = s .args in
     (asks s ≡ 0)
     × (emptySlot (a .index .now) (a .self .«bucket_count») (a .hash) .value ≡ c .slot .given .0 .0)
@@ -68,8 +64,11 @@ same-length : tie.Need-same-length
 same-length c = search needs
 
 returns : tie.Need-returns
-unfolding afterCopied
-returns c = rw (stopped (c .before)) (sym (decided-refused (c .before .refusal .given .0 .0) _ _))
+unfolding afterCopied planCopied
+returns c =
+    let b = c .before .before .before in
+    let told = c .before .refusal .given in
+    rw (planned-no (asks (from b)) (errorNumber (told .0 .0)) _ (sym (b .plan-copied .ensures) ∙ ap planned (told .1))) (sym (decided-refused (told .0 .0) _ _))
 
 same-length-2 : tie.Need-same-length-2
 same-length-2 c = search needs

@@ -28,11 +28,7 @@ asks s =
     firstNo
     (askReused (a .self) (a .hash) (a .key .now) (a .value .now) (a .source) (a .index .now) (length (a .filter .now)) (a .starts .now) (a .lengths .now) (a .arena .now))
 
--- its plan is refused, or has a place for the record
-stopped : (c : tie.After-refusal) → asks (from (c .before .before)) ≡ errorNumber (c .refusal .given .0 .0)
-unfolding planReused
-stopped c = planned-no _ _ _ (sym (c .before .before .plan-reused .ensures) ∙ ap slotPlanned (c .refusal .given .1))
-
+-- its plan has a place for the record
 placed : (c : tie.After-slot) → let s = from (c .before .before) in let a = s .args in
     (asks s ≡ 0)
     × (emptySlot (a .index .now) (a .self .«bucket_count») (a .hash) .value ≡ c .slot .given .0 .0)
@@ -70,8 +66,11 @@ same-length : tie.Need-same-length
 same-length c = search needs
 
 returns : tie.Need-returns
-unfolding afterReused
-returns c = rw (stopped (c .before)) (sym (decided-refused (c .before .refusal .given .0 .0) _ _))
+unfolding afterReused planReused
+returns c =
+    let b = c .before .before .before in
+    let told = c .before .refusal .given in
+    rw (planned-no (asks (from b)) (errorNumber (told .0 .0)) _ (sym (b .plan-reused .ensures) ∙ ap slotPlanned (told .1))) (sym (decided-refused (told .0 .0) _ _))
 
 same-length-2 : tie.Need-same-length-2
 same-length-2 c = search needs

@@ -29,7 +29,8 @@ asked : (c : tie.After-enum-told) → let a = from c .args in
 asked c =
     let a = from c .args in
     reopen-asked (a .source) (a .source-starts .now) (a .source-lengths .now) (length (a .arena .now)) (a .entry-count) (a .copied-record-capacity) (a .used-source-segments .now)
-    (length (a .index .now)) (length (a .filter .now)) (length (a .starts .now)) (length (a .lengths .now)) (sym (c .before .before .check-rebuild-open .ensures) ∙ ap checkNumber (c .enum-told .given .1))
+    (length (a .index .now)) (length (a .filter .now)) (length (a .starts .now)) (length (a .lengths .now))
+    (sym (c .before .before .check-rebuild-open .ensures) ∙ ap checkNumber (c .enum-told .given .1))
 
 check-rebuild-open-requires : tie.Need-check-rebuild-open-requires
 check-rebuild-open-requires c κs = search needs
