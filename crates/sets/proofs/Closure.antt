@@ -56,8 +56,7 @@ cleared-length area count = go (leb count (length area)) refl
     go true e = over-length (replicate count 0) area (omega (arith, leb-true count (length area) e, length-replicate {A = ℕ} count 0))
 
 pub pasted-length : (at : ℕ) (s area : List ℕ) → at + length s ≤ length area → length (pasted at s area) ≡ length area
-pasted-length at s area h =
-    omega (arith, length-append (take at area) (over s (drop at area)), length-append s (drop (length s) (drop at area)), length-take at area, length-drop at area, length-drop (length s) (drop at area))
+pasted-length at s area h = simp (length-append, length-take, length-drop) (omega arith)
 
 pub displaced-length : (filter : List ℕ) (words h slot buckets : ℕ) → length (displacedMarked filter words h slot buckets) ≡ length filter
 unfolding displacedMarked
@@ -72,9 +71,7 @@ split-length index buckets ss filled target = go (leb filled target)
   where
     go : (b : Bool) → length (cond b index (map (splitWord ss) (take (8 * buckets) index) ++ drop (8 * buckets) index)) ≡ length index
     go true = refl
-    go false =
-        omega
-        (arith, length-append (map (splitWord ss) (take (8 * buckets) index)) (drop (8 * buckets) index), length-map (take (8 * buckets) index) (splitWord ss), length-take (8 * buckets) index, length-drop (8 * buckets) index)
+    go false = simp (length-append, length-map, length-take, length-drop) (omega arith)
 
 packed-index-length : (buckets : ℕ) (index scratch : List ℕ) → length (packedIndex buckets index scratch) ≡ length index
 unfolding packedIndex
@@ -113,7 +110,8 @@ module _ (c : SegmentCacheConfig) (records : ℕ) (index filter starts lengths a
       go (open-refused n) = (refl, refl)
 
   -- what an accepted open leaves passes question 1
-  pub open-passes : (b : SegmentCacheBuilder) → after .answer ≡ accept b → builderPasses b (length (after .index)) (length (after .filter)) (length starts) (length lengths) (length arena) ≡ true
+  pub open-passes : (b : SegmentCacheBuilder) → after .answer ≡ accept b
+      → builderPasses b (length (after .index)) (length (after .filter)) (length starts) (length lengths) (length arena) ≡ true
   unfolding builderPasses
   open-passes b e = rw (open-lengths .0, open-lengths .1) (go (open-case c records index filter starts lengths arena) e)
     where
@@ -232,8 +230,8 @@ module _ (b : SegmentCacheBuilder) (target : ℕ) (index starts lengths scratch 
           let same : setOf b (length (segmentStarts b target index)) ≡ s = cc in
           let one : 1 ≤ length (segmentStarts b target index) = starts-first (take (8 * b .«bucket_count») index) (b .filled) target .1 in
           rw (← same)
-          (rw
-          (f .counts, le-leb _ _ one, le-leb _ _ few, ← a .complete, le-leb _ _ (f .key-bytes), le-leb _ _ (f .value-bytes), le-leb _ _ (f .header-bytes), le-leb _ _ (a .areas .index-holds), le-leb _ _ (a .starts-hold), le-leb _ _ (a .lengths-hold), le-leb _ _ (a .areas .filled-held), le-leb _ _ (a .areas .arena-short), le-leb _ _ held))
+          (rw (f .counts, le-leb _ _ one, le-leb _ _ few, ← a .complete, le-leb _ _ (f .key-bytes), le-leb _ _ (f .value-bytes), le-leb _ _ (f .header-bytes))
+          (rw (le-leb _ _ (a .areas .index-holds), le-leb _ _ (a .starts-hold), le-leb _ _ (a .lengths-hold), le-leb _ _ (a .areas .filled-held), le-leb _ _ (a .areas .arena-short), le-leb _ _ held)))
 
 -- ---- lookup and mark clearing
 

@@ -115,3 +115,10 @@ set-index s index starts lengths arena e =
 pub set-counts : (s : FrozenSegmentCache) → setFits s ≡ true → countsFit (s .config) (s .entries) (s .buckets) (s .«filter_words») ≡ true
 unfolding setFits
 set-counts s e = both (countsFit (s .config) (s .entries) (s .buckets) (s .«filter_words»)) _ e .0
+
+pub set-segments : (s : FrozenSegmentCache) → setFits s ≡ true → (1 ≤ s .segments) × (s .segments ≤ 256)
+unfolding setFits
+set-segments s e =
+    let t = both (countsFit (s .config) (s .entries) (s .buckets) (s .«filter_words»)) _ e in
+    let u = both (leb 1 (s .segments)) _ (t .1) in
+    (leb-true _ _ (u .0), leb-true _ _ (both (leb (s .segments) 256) _ (u .1) .0))

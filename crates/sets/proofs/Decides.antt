@@ -1,17 +1,16 @@
 -- Where a call is refused, and where not. Assumes nothing.
 use mathlib.Core.Path.{_≡_, refl, ap}
+use mathlib.Core.Bool.{Bool, cond}
 use mathlib.Core.List.{List}
 use Prim.Native.Nat.{ℕ, zero, suc}
 use native.Mathlib.Omega.{arith}
+use lib.Dec.{eqb}
+use borrow.Author.Tests.{ne-eqb}
 use Rattle.hash_parts.specs.Error.{errorNumber}
-use Rattle.hash_parts.specs.declared.duration.Lifetime.{Lifetime}
 use Rattle.hash_parts.specs.declared.error.SegmentCacheBuildError.{SegmentCacheBuildError}
 use Rattle.hash_parts.proofs.Refusals.{refusal-pos}
 use Rattle.sets.specs.Answers.{Reply, accept, refuse}
-use Rattle.sets.specs.Build.{askPush, deadlineFor, pushSlot}
-use Rattle.sets.specs.BuildPlans.{planPush}
 use Rattle.sets.specs.Questions.{decided, firstNo}
-use Rattle.sets.specs.declared.builder.SegmentCacheBuilder.{SegmentCacheBuilder}
 
 module _ {A : Type 0} where
   -- a number that is not 0 refuses
@@ -22,12 +21,20 @@ module _ {A : Type 0} where
   pub decided-refused : (e : SegmentCacheBuildError) (x : A) (f : ℕ → A) → decided (errorNumber e) x f ≡ f (errorNumber e)
   decided-refused e x f = decided-pos (errorNumber e) x f (λ (z : errorNumber e ≡ 0). omega (arith, refusal-pos e))
 
+  -- so does a question whose number is its own answer
+  pub own-refused : (e : SegmentCacheBuildError) (n : ℕ) (x : A) (f : ℕ → A) → decided (cond (eqb (errorNumber e) 0) n (errorNumber e)) x f ≡ f (errorNumber e)
+  own-refused e n x f = rw (ne-eqb (errorNumber e) 0 (λ (z : errorNumber e ≡ 0). omega (arith, refusal-pos e))) (decided-refused e x f)
+
   -- what holds of an accepted call and of every refusal holds of the call
   pub decided-either : (P : A → Type 0) (n : ℕ) (x : A) (f : ℕ → A) → P x → ((m : ℕ) → P (f m)) → P (decided n x f)
   decided-either P zero x f holds refused = holds
   decided-either P (suc n) x f holds refused = refused (suc n)
 
 -- ---- a plan
+
+-- what a plan comes to, by its questions
+abbrev pub plan : {A : Type 0} → A → List (Bool × ℕ) → Reply A (Unit {0})
+plan x l = decided (firstNo l) (accept x) (λ n. refuse n tt)
 
 module _ {A : Type 0} where
   pub planned-yes : (n : ℕ) (x y : A) → _≡_ {A = Reply A (Unit {0})} (decided n (accept x) (λ m. refuse m tt)) (accept y) → (n ≡ 0) × (x ≡ y)
@@ -38,14 +45,7 @@ module _ {A : Type 0} where
   planned-no zero m x e = absurd (let z : _≡_ {A = ℕ} 0 1 = cc in omega arith)
   planned-no (suc n) m x e = cc
 
-module _ (b : SegmentCacheBuilder) (h : ℕ) (key : List ℕ) (value : ℕ) (ttl : Lifetime) (index : List ℕ) (filter : ℕ) (arena : List ℕ) where
-  pub plan-placed : (s d : ℕ) → planPush b h key value ttl index filter arena ≡ accept (s, d)
-      → (firstNo (askPush b h key value ttl index filter arena) ≡ 0) × (pushSlot b h key index arena .value ≡ s) × (deadlineFor (b .config) ttl .value ≡ d)
-  unfolding planPush
-  plan-placed s d e =
-      let p = planned-yes (firstNo (askPush b h key value ttl index filter arena)) _ (s, d) e in
-      (p .0, ap (λ (x : ℕ × ℕ). x .0) (p .1), ap (λ (x : ℕ × ℕ). x .1) (p .1))
-
-  pub plan-refused : (n : ℕ) → planPush b h key value ttl index filter arena ≡ refuse n tt → firstNo (askPush b h key value ttl index filter arena) ≡ n
-  unfolding planPush
-  plan-refused n e = planned-no (firstNo (askPush b h key value ttl index filter arena)) n _ e
+pub planned-two : (n x y s d : ℕ) → _≡_ {A = Reply (ℕ × ℕ) (Unit {0})} (decided n (accept (x, y)) (λ m. refuse m tt)) (accept (s, d)) → (n ≡ 0) × (x ≡ s) × (y ≡ d)
+planned-two n x y s d e =
+    let p = planned-yes n (x, y) (s, d) e in
+    (p .0, ap (λ (z : ℕ × ℕ). z .0) (p .1), ap (λ (z : ℕ × ℕ). z .1) (p .1))

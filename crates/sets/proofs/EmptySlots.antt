@@ -21,7 +21,8 @@ unfolding looks searched
 looked taken i [] after s limit h e f = f e
 looked taken i (w ∷ l) after s limit h e f = go (eqb w 0) (taken w) e (λ q. looked taken (suc i) l after s limit (omega arith) q f)
   where
-    go : (z t : Bool) → searched (cond z (vacant i) (cond t same passed) ∷ looks taken (suc i) l) after ≡ Empty s → (searched (looks taken (suc i) l) after ≡ Empty s → s < limit) → s < limit
+    go : (z t : Bool) → searched (cond z (vacant i) (cond t same passed) ∷ looks taken (suc i) l) after ≡ Empty s
+        → (searched (looks taken (suc i) l) after ≡ Empty s → s < limit) → s < limit
     go true t q r = let own : i ≡ s = cc in omega arith
     go false true q r = absurd (let z : _≡_ {A = ℕ} 0 1 = cc in omega arith)
     go false false q r = r q
@@ -33,10 +34,13 @@ walked taken index buckets s no-more e = absurd (let z : _≡_ {A = ℕ} 0 1 = c
 walked taken index buckets s (one-more {b = b} {l = bs} h r) e =
     looked taken (8 * b) (take 8 (drop (8 * b) index)) _ s (8 * buckets) (omega (arith, length-take 8 (drop (8 * b) index))) e (λ q. walked taken index buckets s r q)
 
-pub found-below : (taken : ℕ → Bool) (index : List ℕ) (buckets h s : ℕ) → h < 2 ^ 64 → slotFor taken index buckets h ≡ Empty s → s < 8 * buckets
+found-below : (taken : ℕ → Bool) (index : List ℕ) (buckets h s : ℕ) → h < 2 ^ 64 → slotFor taken index buckets h ≡ Empty s → s < 8 * buckets
 unfolding slotFor
 found-below taken index buckets h s bound e = go (leb (8 * buckets) (length index)) e
   where
     go : (b : Bool) → cond b (searchedAll (λ c. looks taken (8 * c) (take 8 (drop (8 * c) index))) (bucketWalk h buckets)) Full ≡ Empty s → s < 8 * buckets
     go true q = walked taken index buckets s (walk-below buckets (firstBucket h buckets) (first-bucket-below h buckets bound)) q
     go false q = absurd (let z : _≡_ {A = ℕ} 0 1 = cc in omega arith)
+
+pub found-inside : (taken : ℕ → Bool) (index : List ℕ) (buckets h s : ℕ) → h < 2 ^ 64 → 8 * buckets ≤ length index → slotFor taken index buckets h ≡ Empty s → s < length index
+found-inside taken index buckets h s bound long e = omega (arith, found-below taken index buckets h s bound e)

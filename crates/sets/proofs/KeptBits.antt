@@ -59,7 +59,8 @@ chosen-length (f ∷ flags) (w ∷ words) h = go (eqb f 0) (chosen-length flags 
     go true e = e
     go false e = ap suc e
 
-pub chosen-at : (flags words : List ℕ) (g : ℕ) → length flags ≤ length words → not (eqb (getD flags g 0) 0) ≡ true → getD (chosen flags words) (keptCount (take g flags)) 0 ≡ getD words g 0
+pub chosen-at : (flags words : List ℕ) (g : ℕ) → length flags ≤ length words
+    → not (eqb (getD flags g 0) 0) ≡ true → getD (chosen flags words) (keptCount (take g flags)) 0 ≡ getD words g 0
 unfolding chosen keptCount
 chosen-at [] words g h e = absurd (true≢false (sym e))
 chosen-at (f ∷ flags) [] g h e = absurd (omega (arith, h))

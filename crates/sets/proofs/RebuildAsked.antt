@@ -22,7 +22,7 @@ use Rattle.sets.specs.declared.cache.FrozenSegmentCache.{FrozenSegmentCa
 use Rattle.sets.specs.declared.rebuild.SegmentRecordLocation.{SegmentRecordLocation}
 use Rattle.sets.specs.declared.rebuild.SharedSegmentCacheBuilder.{SharedSegmentCacheBuilder}
 use Rattle.sets.proofs.Asked.{then, then-own}
-use Rattle.sets.proofs.Counts.{both, counts-setting, set-counts}
+use Rattle.sets.proofs.Counts.{both, counts-setting, set-counts, set-segments}
 
 -- ---- segments in the filled arena
 
@@ -136,14 +136,6 @@ pub record SourceHolds (s : FrozenSegmentCache) (starts lengths : List ℕ) (are
   pub inside : (g : ℕ) → g < s .segments → getD starts g 0 + getD lengths g 0 ≤ s .filled
 
 module _ (s : FrozenSegmentCache) (starts lengths : List ℕ) (arena : ℕ) where
-  source-segments : setFits s ≡ true → (1 ≤ s .segments) × (s .segments ≤ 256)
-  unfolding setFits
-  source-segments e =
-      let t = both (countsFit (s .config) (s .entries) (s .buckets) (s .«filter_words»)) _ e in
-      let u = both (leb 1 (s .segments)) _ (t .1) in
-      let v = both (leb (s .segments) 256) _ (u .1) in
-      (leb-true _ _ (u .0), leb-true _ _ (v .0))
-
   pub source-areas-asked : areasHoldSource s starts lengths arena ≡ true → SourceHolds s starts lengths arena
   unfolding areasHoldSource segmentAreasHold arenaHolds
   source-areas-asked e =
@@ -154,8 +146,8 @@ module _ (s : FrozenSegmentCache) (starts lengths : List ℕ) (arena : ℕ) wher
       let bytes = both (leb (s .filled) arena) _ (a₃ .0) in
       record {
         numbers = a₁ .0;
-        some = source-segments (a₁ .0) .0;
-        few = source-segments (a₁ .0) .1;
+        some = set-segments s (a₁ .0) .0;
+        few = set-segments s (a₁ .0) .1;
         starts-hold = leb-true _ _ (segments .0);
         lengths-hold = leb-true _ _ (segments .1);
         filled-held = leb-true _ _ (bytes .0);

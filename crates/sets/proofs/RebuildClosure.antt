@@ -346,13 +346,14 @@ module _ (r : SharedSegmentCacheBuilder) (index starts lengths scratch arena : L
           → all (areasHoldSet (b .cache) (length index) (length starts) (length lengths) (length arena) ∷ leb (b .cache .«filter_words») filter ∷ []) ≡ true
       go (refinish-refused n) e = cc
       go (refinish-made a) e =
-          let f = a .areas .numbers in
+          let h = a .areas in
+          let f = h .numbers in
           let made : buildOf r lengths ≡ b = cc in
           let same : rebuiltSet r lengths ≡ b .cache = ap (λ (q : SharedSegmentCacheBuild). q .cache) made in
           let few = rebuilt-segments r (f .few) in
           rw (← same)
-          (rw
-          (f .counts, le-leb _ _ (few .0), le-leb _ _ (few .1), ← a .complete, le-leb _ _ (f .key-bytes), le-leb _ _ (f .value-bytes), le-leb _ _ (f .header-bytes), le-leb _ _ (a .areas .index-holds), le-leb _ _ (a .areas .starts-hold), le-leb _ _ (a .areas .lengths-hold), le-leb _ _ (a .areas .filled-held), le-leb _ _ (a .areas .arena-short), le-leb _ _ held))
+          (rw (f .counts, le-leb _ _ (few .0), le-leb _ _ (few .1), ← a .complete, le-leb _ _ (f .key-bytes), le-leb _ _ (f .value-bytes), le-leb _ _ (f .header-bytes))
+          (rw (le-leb _ _ (h .index-holds), le-leb _ _ (h .starts-hold), le-leb _ _ (h .lengths-hold), le-leb _ _ (h .filled-held), le-leb _ _ (h .arena-short), le-leb _ _ held)))
 
   -- and each segment of the set lies in its filled arena, so it may be a source again
   pub refinish-inside : (b : SharedSegmentCacheBuild) → refinished .answer ≡ accept b

@@ -28,7 +28,6 @@ use Rattle.sets.specs.declared.rebuild.SegmentRecordLocation.{SegmentRec
 use Rattle.sets.specs.declared.rebuild.SharedSegmentCacheBuild.{SharedSegmentCacheBuild}
 use Rattle.sets.specs.declared.rebuild.SharedSegmentCacheBuilder.{SharedSegmentCacheBuilder}
 use Rattle.sets.proofs.Counts.{both}
-use Rattle.sets.proofs.Decides.{planned-yes, planned-no}
 use Rattle.sets.proofs.RebuildAsked.{segments-each}
 
 -- ---- segments
@@ -100,32 +99,6 @@ over-cleared s area zeroed few long e =
     rw (take-all 256 s few, k, append-assoc s (replicate (256 - length s) 0) (drop 256 area))
     (ap (λ (t : List ℕ). s ++ drop (length s) t) z ∙ ap (λ (t : List ℕ). s ++ t) (drop-zeros (length s) 256 (drop 256 area) few))
 
--- ---- plans
-
-module _ (r : SharedSegmentCacheBuilder) (h : ℕ) (key value : List ℕ) (source : SegmentRecordLocation) (index : List ℕ) (filter : ℕ) (starts lengths arena : List ℕ) where
-  pub reused-placed : (s : ℕ) → planReused r h key value source index filter starts lengths arena ≡ accept s
-      → (firstNo (askReused r h key value source index filter starts lengths arena) ≡ 0) × (emptySlot index (r .«bucket_count») h .value ≡ s)
-  unfolding planReused
-  reused-placed s e = planned-yes (firstNo (askReused r h key value source index filter starts lengths arena)) _ s e
-
-  pub reused-refused : (n : ℕ) → planReused r h key value source index filter starts lengths arena ≡ refuse n tt
-      → firstNo (askReused r h key value source index filter starts lengths arena) ≡ n
-  unfolding planReused
-  reused-refused n e = planned-no (firstNo (askReused r h key value source index filter starts lengths arena)) n _ e
-
-module _ (r : SharedSegmentCacheBuilder) (h key value : ℕ) (ttl : Lifetime) (index : List ℕ) (filter : ℕ) (starts lengths : List ℕ) (arena : ℕ) where
-  pub copied-placed : (s d : ℕ) → planCopied r h key value ttl index filter starts lengths arena ≡ accept (s, d)
-      → (firstNo (askCopied r h key value ttl index filter starts lengths arena) ≡ 0) × (emptySlot index (r .«bucket_count») h .value ≡ s) × (copiedDeadline r ttl .value ≡ d)
-  unfolding planCopied
-  copied-placed s d e =
-      let p = planned-yes (firstNo (askCopied r h key value ttl index filter starts lengths arena)) _ (s, d) e in
-      (p .0, ap (λ (x : ℕ × ℕ). x .0) (p .1), ap (λ (x : ℕ × ℕ). x .1) (p .1))
-
-  pub copied-refused : (n : ℕ) → planCopied r h key value ttl index filter starts lengths arena ≡ refuse n tt
-      → firstNo (askCopied r h key value ttl index filter starts lengths arena) ≡ n
-  unfolding planCopied
-  copied-refused n e = planned-no (firstNo (askCopied r h key value ttl index filter starts lengths arena)) n _ e
-
 -- ---- numbers
 
 pub segment-most : (bytes : ℕ) → segmentFor bytes ≤ 1
@@ -155,13 +128,6 @@ unfolding arenaHolds
 arena-held filled arena e =
     let t = both (leb filled arena) _ e in
     (leb-true _ _ (t .0), leb-true _ _ (t .1))
-
-pub set-few : (s : FrozenSegmentCache) → setFits s ≡ true → s .segments ≤ 256
-unfolding setFits
-set-few s e =
-    let t = both (countsFit (s .config) (s .entries) (s .buckets) (s .«filter_words»)) _ e in
-    let u = both (leb 1 (s .segments)) _ (t .1) in
-    leb-true _ _ (both (leb (s .segments) 256) _ (u .1) .0)
 
 -- ---- what a push leaves
 
@@ -195,7 +161,8 @@ module _ (slot deadline : ℕ) (r : SharedSegmentCacheBuilder) (h : ℕ) (key va
 -- ---- what rebuild open and finish leave
 
 pub reopen-left : (s : FrozenSegmentCache) (records : ℕ) (flags : List ℕ) (tick : ℕ) (index filter zeroed blank starts lengths starts′ lengths′ : List ℕ) (r : SharedSegmentCacheBuilder)
-    → r ≡ rebuildOpened s records flags tick → zeroed ≡ cleared index (r .«bucket_count» * 8) → blank ≡ cleared filter (r .«filter_words») → starts′ ≡ starts → lengths′ ≡ lengths
+    → r ≡ rebuildOpened s records flags tick → zeroed ≡ cleared index (r .«bucket_count» * 8)
+    → blank ≡ cleared filter (r .«filter_words») → starts′ ≡ starts → lengths′ ≡ lengths
     → _≡_ {A = RebuildOpened} (record { answer = accept r; index = zeroed; filter = blank; starts = starts′; lengths = lengths′ })
     (record {
       answer = accept (rebuildOpened s records flags tick);

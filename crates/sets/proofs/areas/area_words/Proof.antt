@@ -1,13 +1,35 @@
 -- `area_words` meets its contract. Assumes nothing.
+use mathlib.Core.Path.{sym, _∙_}
+use Prim.Native.Nat.{ℕ}
 use lib.Dec.{leb}
 use borrow.Author.Tests.{le-leb, leb-true, lt-leb}
-use Rattle.sets.proofs.Said.{said-no, said-yes}
-use borrow.Author.Needs.{needs}
-use Rattle.sets.specs.Areas.{askCounts, areaWordsFor}
+use Rattle.sets.specs.Areas.{areaWordsFor, askCounts, wordsNeeded}
 use Rattle.sets.specs.Questions.{occupancyFits}
+use Rattle.sets.proofs.Said.{Past, said-no, said-yes}
+use Rattle.sets.proofs.Decides.{plan}
 use Rattle.sets.proofs.Counts.{both}
+use borrow.Author.Needs.{needs}
 use Rattle.sets.proofs.areas.area_words.Statement.{statement}
 use Rattle.sets.proofs.areas.area_words.Tie as tie
+
+-- the first n questions are answered yes
+abbrev Yes : ℕ → tie.Start → Type 0
+Yes n s = let a = s .args in Past (plan (wordsNeeded (a .config) (a .entry-count))) n (askCounts (a .config) (a .entry-count))
+
+abbrev from : tie.Else2 → tie.Start
+from c = c .before .before .before .before
+
+yes1 : (c : tie.Else1) → Yes 1 (c .before .before)
+unfolding askCounts
+yes1 c = rw (said-yes (c .before .nanoseconds-fit .ensures) (c .if1 .left))
+
+yes2 : (c : tie.Else2) → Yes 2 (from c)
+unfolding askCounts
+yes2 c = yes1 (c .before .before) ∙ rw (said-yes (c .before .occupancy-fits .ensures) (c .if2 .left))
+
+yes3 : (c : tie.Else3) → Yes 3 (from (c .before .before))
+unfolding askCounts
+yes3 c = yes2 (c .before .before) ∙ rw (said-yes (c .before .tick-runs .ensures) (c .if3 .left))
 
 nanoseconds-fit-requires : tie.Need-nanoseconds-fit-requires
 nanoseconds-fit-requires c κs = search needs
@@ -21,48 +43,31 @@ occupancy-fits-requires c κs = search needs
 
 returns-2 : tie.Need-returns-2
 unfolding areaWordsFor askCounts
-returns-2 c = rw (said-yes (c .before .before .before .nanoseconds-fit .ensures) (c .before .before .if1 .left), said-no (c .before .occupancy-fits .ensures) (c .if2 .taken))
+returns-2 c = sym (yes1 (c .before .before) ∙ rw (said-no (c .before .occupancy-fits .ensures) (c .if2 .taken)))
 
 tick-runs-requires : tie.Need-tick-runs-requires
 tick-runs-requires c κs = search needs
 
 returns-3 : tie.Need-returns-3
 unfolding areaWordsFor askCounts
-returns-3 c =
-    let nanoseconds-fit = c .before .before .before .before .before .nanoseconds-fit in
-    let if1 = c .before .before .before .before .if1 in
-    let occupancy-fits = c .before .before .before .occupancy-fits in
-    let if2 = c .before .before .if2 in
-    rw (said-yes (nanoseconds-fit .ensures) (if1 .left), said-yes (occupancy-fits .ensures) (if2 .left), said-no (c .before .tick-runs .ensures) (c .if3 .taken))
+returns-3 c = sym (yes2 (c .before .before) ∙ rw (said-no (c .before .tick-runs .ensures) (c .if3 .taken)))
 
 returns-4 : tie.Need-returns-4
 unfolding areaWordsFor askCounts
-returns-4 c =
-    let nanoseconds-fit = c .before .before .before .before .before .before .nanoseconds-fit in
-    let if1 = c .before .before .before .before .before .if1 in
-    let occupancy-fits = c .before .before .before .before .occupancy-fits in
-    let if2 = c .before .before .before .if2 in
-    let tick-runs = c .before .before .tick-runs in
-    rw (said-yes (nanoseconds-fit .ensures) (if1 .left), said-yes (occupancy-fits .ensures) (if2 .left), said-yes (tick-runs .ensures) (c .before .if3 .left), lt-leb _ _ (c .if4 .taken))
+returns-4 c = sym (yes3 (c .before) ∙ rw (lt-leb _ _ (c .if4 .taken)))
 
 words-needed-requires : tie.Need-words-needed-requires
 unfolding occupancyFits
 words-needed-requires c κs =
-    let occupancy-fits = c .before .before .before .before .occupancy-fits in
-    let if2 = c .before .before .before .if2 in
-    let fits = said-yes (occupancy-fits .ensures) (if2 .left) in
-    (c .if4 .left, leb-true _ _ (both (leb 1 (c .before .before .before .before .before .before .before .args .config .«target_occupied_slots»)) _ fits .1))
+    let b = c .before .before .before in
+    let fits = said-yes (b .before .occupancy-fits .ensures) (b .if2 .left) in
+    (c .if4 .left, leb-true _ _ (both (leb 1 (from b .args .config .«target_occupied_slots»)) _ fits .1))
 
 returns-5 : tie.Need-returns-5
 unfolding areaWordsFor askCounts
 returns-5 c =
-    let nanoseconds-fit = c .before .before .before .before .before .before .before .nanoseconds-fit in
-    let if1 = c .before .before .before .before .before .before .if1 in
-    let occupancy-fits = c .before .before .before .before .before .occupancy-fits in
-    let if2 = c .before .before .before .before .if2 in
-    let tick-runs = c .before .before .before .tick-runs in
-    let if3 = c .before .before .if3 in
-    rw (said-yes (nanoseconds-fit .ensures) (if1 .left), said-yes (occupancy-fits .ensures) (if2 .left), said-yes (tick-runs .ensures) (if3 .left), le-leb _ _ (c .before .if4 .left), c .words-needed .ensures)
+    let b = c .before in
+    sym (yes3 (b .before) ∙ rw (le-leb _ _ (b .if4 .left), ← c .words-needed .ensures))
 
 pub area-words-spec : {M : Type 1} → statement M
 area-words-spec =

@@ -1,11 +1,12 @@
 -- `next_entry` meets its contract: what the slots from the next one on say is what was asked. Assumes nothing.
 use mathlib.Core.Path.{_≡_, refl, sym, _∙_}
-use Prim.Native.Nat.{_-_, _*_}
+use Prim.Native.Nat.{ℕ, _-_, _*_}
 use native.Mathlib.Omega.{arith}
-use borrow.Author.Needs.{needs}
+use Rattle.records.specs.declared.record.RecordAnswer.{RecordAnswer}
 use Rattle.index.specs.View.{recordIn}
 use Rattle.sets.specs.Lookup.{entryAt, firstEntry, nextEntry}
 use Rattle.sets.proofs.WalkSteps.{entry-hit, entry-miss, entry-none}
+use borrow.Author.Needs.{needs}
 use Rattle.sets.proofs.lookup.next_entry.Statement.{statement}
 use Rattle.sets.proofs.lookup.next_entry.Tie as tie
 
@@ -16,6 +17,12 @@ Inv-loop view packed buckets from index starts lengths arena slots slot₀ slot 
 
 abbrev μ-loop : tie.MeasureT-loop
 μ-loop view packed buckets from index starts lengths arena slots slot₀ slot = slots - slot
+
+-- what stands in each slot
+abbrev reads : tie.At-loop Inv-loop μ-loop → ℕ → RecordAnswer
+reads l =
+    let a = l .before .before .before .before .before .args in
+    entryAt (recordIn (a .view) (a .arena .now) (a .starts .now) (a .lengths .now)) (a .packed) (a .buckets) (a .index .now)
 
 mul-slots : tie.Need-mul-slots Inv-loop μ-loop
 mul-slots c = search needs
@@ -32,11 +39,10 @@ enum-known-read c = search needs
 
 returns : tie.Need-returns Inv-loop μ-loop
 returns c =
-    let a = c .before .before .before .before .before .before .before .before .before .before .args in
-    let loop = c .before .before .before .before .before .loop in
-    let loop-test = c .before .before .before .before .loop-test in
-    let entry-at = c .before .before .before .entry-at in
-    sym (entry-hit (entryAt (recordIn (a .view) (a .arena .now) (a .starts .now) (a .lengths .now)) (a .packed) (a .buckets) (a .index .now)) (8 * a .buckets) (loop .slot) (c .before .read .given .0 .0) (omega (arith, loop-test .taken)) (sym (entry-at .ensures) ∙ c .before .read .given .1)) ∙ loop .inv
+    let e = c .before .before .before in
+    let l = e .before .before in
+    let told = c .before .read .given in
+    sym (entry-hit (reads l) _ (l .loop .slot) (told .0 .0) (omega (arith, e .before .loop-test .taken)) (sym (e .entry-at .ensures) ∙ told .1)) ∙ l .loop .inv
 
 enum-told : tie.Need-enum-told Inv-loop μ-loop
 enum-told c = search needs
@@ -49,16 +55,12 @@ loop-less c = omega (arith, c .before .before .before .loop-test .taken)
 
 loop-again : tie.Need-loop-again Inv-loop μ-loop
 loop-again c =
-    let a = c .before .before .before .before .before .before .before .before .before .args in
-    let loop = c .before .before .before .before .loop in
-    let loop-test = c .before .before .before .loop-test in
-    let entry-at = c .before .before .entry-at in
-    entry-miss (entryAt (recordIn (a .view) (a .arena .now) (a .starts .now) (a .lengths .now)) (a .packed) (a .buckets) (a .index .now)) (8 * a .buckets) (loop .slot) (omega (arith, loop-test .taken)) (sym (entry-at .ensures) ∙ c .enum-told .given .1) ∙ loop .inv
+    let e = c .before .before in
+    let l = e .before .before in
+    entry-miss (reads l) _ (l .loop .slot) (omega (arith, e .before .loop-test .taken)) (sym (e .entry-at .ensures) ∙ c .enum-told .given .1) ∙ l .loop .inv
 
 returns-2 : tie.Need-returns-2 Inv-loop μ-loop
-returns-2 c =
-    let a = c .before .before .before .before .before .before .args in
-    sym (entry-none (entryAt (recordIn (a .view) (a .arena .now) (a .starts .now) (a .lengths .now)) (a .packed) (a .buckets) (a .index .now)) (8 * a .buckets) (c .before .loop .slot) (omega (arith, c .loop-test .left))) ∙ c .before .loop .inv
+returns-2 c = sym (entry-none (reads (c .before)) _ (c .before .loop .slot) (omega (arith, c .loop-test .left))) ∙ c .before .loop .inv
 
 pub next-entry-spec : {M : Type 1} → statement M
 next-entry-spec =

@@ -1,9 +1,9 @@
 -- `record_fits` meets its contract. Assumes nothing.
 use mathlib.Core.Path.{sym, ap, _∙_}
-use borrow.Author.Tests.{lt-leb}
 use Prim.Native.Nat.{ℕ, _<_}
 use native.Mathlib.Omega.{arith}
 use lib.Dec.{leb}
+use borrow.Author.Tests.{lt-leb}
 use Rattle.records.specs.Record.{recordSize, sizeOutcome}
 use Rattle.sets.proofs.Appends.{size-large, size-told}
 use borrow.Author.Needs.{needs}
@@ -29,9 +29,10 @@ returns c =
 
 returns-2 : tie.Need-returns-2
 returns-2 c =
-    let a = c .before .before .before .before .args in
-    let encoded-record-bytes = c .before .before .before .encoded-record-bytes in
-    ap (λ (n : ℕ). leb n (a .rest)) (size-told (a .expiry) (a .key-bytes) (a .value-bytes) (c .before .size .given .0 .0) (ap sizeOutcome (sym (c .before .size .given .1)) ∙ encoded-record-bytes .ensures))
+    let b = c .before .before .before in
+    let a = b .before .args in
+    let told = c .before .size .given in
+    ap (λ (n : ℕ). leb n (a .rest)) (size-told (a .expiry) (a .key-bytes) (a .value-bytes) (told .0 .0) (ap sizeOutcome (sym (told .1)) ∙ b .encoded-record-bytes .ensures))
 
 pub record-fits-spec : {M : Type 1} → statement M
 record-fits-spec =

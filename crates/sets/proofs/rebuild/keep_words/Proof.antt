@@ -23,12 +23,12 @@ same-length c = search needs
 
 returns : tie.Need-returns
 returns c =
-    let a = c .before .before .before .before .before .before .before .before .before .before .before .args in
-    let clear-words = c .before .before .before .before .before .before .clear-words in
-    let copy-kept = c .before .before .copy-kept in
-    let s = chosen (a .flags .now) (a .words .now) in
-    let few : length s ≤ 256 = omega (arith, chosen-length (a .flags .now) (a .words .now) (c .before .before .before .before .before .before .before .before .before .before .before .pre .0), kept-most (a .flags .now), c .before .before .before .before .before .before .before .before .before .before .before .pre .1) in
-    copy-kept .ensures ∙ over-cleared s (a .area .now) _ few (c .before .before .before .before .before .before .before .before .before .before .before .pre .2) (clear-words .ensures)
+    let k = c .before .before in
+    let w = k .before .before .before .before in
+    let s = w .before .before .before .before .before in
+    let a = s .args in
+    let few : length (chosen (a .flags .now) (a .words .now)) ≤ 256 = omega (arith, chosen-length (a .flags .now) (a .words .now) (s .pre .0), kept-most (a .flags .now), s .pre .1) in
+    k .copy-kept .ensures ∙ over-cleared _ (a .area .now) _ few (s .pre .2) (w .clear-words .ensures)
 
 pub keep-words-spec : {M : Type 1} → statement M
 keep-words-spec = tie.close (tie.spec clear-words-requires copy-kept-requires same-length returns)

@@ -1,12 +1,32 @@
 -- `source_holds` meets its contract. Assumes nothing.
-use Rattle.sets.proofs.Said.{said-no, said-yes}
+use mathlib.Core.Path.{_≡_, sym, _∙_}
+use mathlib.Core.Bool.{true}
+use mathlib.Core.List.{[], _∷_}
 use native.Mathlib.Omega.{arith}
 use lib.ListN.{length}
-use Rattle.sets.specs.Rebuild.{areasHoldSource}
-use Rattle.sets.proofs.RebuildSteps.{areas-256, set-few}
+use Rattle.sets.specs.Questions.{all, arenaHolds, segmentAreasHold}
+use Rattle.sets.specs.Rebuild.{areasHoldSource, segmentsInside}
+use Rattle.sets.proofs.Said.{said-no, said-yes}
+use Rattle.sets.proofs.RebuildSteps.{areas-256}
+use Rattle.sets.proofs.Counts.{set-segments}
 use borrow.Author.Needs.{needs}
 use Rattle.sets.proofs.rebuild_questions.source_holds.Statement.{statement}
 use Rattle.sets.proofs.rebuild_questions.source_holds.Tie as tie
+
+abbrev from : tie.Else2 → tie.Start
+from c = c .before .before .before .before .before .before
+
+segments : (c : tie.Else2) → let a = from c .args in segmentAreasHold (length (a .starts .now)) (length (a .lengths .now)) ≡ true
+segments c = said-yes (c .before .segment-areas-hold .ensures) (c .if2 .left)
+
+-- what is left to ask after the second question
+yes2 : (c : tie.Else2) → let a = from c .args in
+    areasHoldSource (a .source) (a .starts .now) (a .lengths .now) (a .arena-len)
+    ≡ all (arenaHolds (a .source .filled) (a .arena-len) ∷ segmentsInside (a .source .segments) (a .source .filled) (a .starts .now) (a .lengths .now) ∷ [])
+unfolding areasHoldSource
+yes2 c =
+    let b = c .before .before in
+    rw (said-yes (b .before .fits2 .ensures) (b .if1 .left), segments c)
 
 fits-requires : tie.Need-fits-requires
 fits-requires c κs = search needs
@@ -21,42 +41,28 @@ segment-areas-hold-requires c κs = search needs
 returns-2 : tie.Need-returns-2
 unfolding areasHoldSource
 returns-2 c =
-    let fits2 = c .before .before .before .fits2 in
-    let if1 = c .before .before .if1 in
-    rw (said-yes (fits2 .ensures) (if1 .left), said-no (c .before .segment-areas-hold .ensures) (c .if2 .taken))
+    let b = c .before .before in
+    rw (said-yes (b .before .fits2 .ensures) (b .if1 .left), said-no (c .before .segment-areas-hold .ensures) (c .if2 .taken))
 
 arena-holds-requires : tie.Need-arena-holds-requires
 arena-holds-requires c κs = search needs
 
 returns-3 : tie.Need-returns-3
-unfolding areasHoldSource
-returns-3 c =
-    let fits2 = c .before .before .before .before .before .fits2 in
-    let if1 = c .before .before .before .before .if1 in
-    let segment-areas-hold = c .before .before .before .segment-areas-hold in
-    let if2 = c .before .before .if2 in
-    rw (said-yes (fits2 .ensures) (if1 .left), said-yes (segment-areas-hold .ensures) (if2 .left), said-no (c .before .arena-holds .ensures) (c .if3 .taken))
+returns-3 c = sym (yes2 (c .before .before) ∙ rw (said-no (c .before .arena-holds .ensures) (c .if3 .taken)))
 
 segments-inside-requires : tie.Need-segments-inside-requires
 segments-inside-requires c κs =
-    let a = c .before .before .before .before .before .before .before .before .args in
-    let fits2 = c .before .before .before .before .before .fits2 in
-    let if1 = c .before .before .before .before .if1 in
-    let segment-areas-hold = c .before .before .before .segment-areas-hold in
-    let if2 = c .before .before .if2 in
-    let held = areas-256 (length (a .starts .now)) (length (a .lengths .now)) (said-yes (segment-areas-hold .ensures) (if2 .left)) in
-    let few = set-few (a .source) (said-yes (fits2 .ensures) (if1 .left)) in
+    let b = c .before .before in
+    let d = b .before .before in
+    let a = from b .args in
+    let held = areas-256 (length (a .starts .now)) (length (a .lengths .now)) (segments b) in
+    let few = set-segments (a .source) (said-yes (d .before .fits2 .ensures) (d .if1 .left)) .1 in
     (omega (arith, held .0, few), omega (arith, held .1, few))
 
 returns-4 : tie.Need-returns-4
-unfolding areasHoldSource
 returns-4 c =
-    let fits2 = c .before .before .before .before .before .before .fits2 in
-    let if1 = c .before .before .before .before .before .if1 in
-    let segment-areas-hold = c .before .before .before .before .segment-areas-hold in
-    let if2 = c .before .before .before .if2 in
-    let arena-holds = c .before .before .arena-holds in
-    rw (said-yes (fits2 .ensures) (if1 .left), said-yes (segment-areas-hold .ensures) (if2 .left), said-yes (arena-holds .ensures) (c .before .if3 .left)) (c .segments-inside .ensures)
+    let b = c .before in
+    c .segments-inside .ensures ∙ sym (yes2 (b .before .before) ∙ rw (said-yes (b .before .arena-holds .ensures) (b .if3 .left)))
 
 pub source-holds-spec : {M : Type 1} → statement M
 source-holds-spec =

@@ -1,16 +1,57 @@
--- `plan_push` meets its contract. Assumes nothing.
-use Rattle.index.specs.Build.{slotOutcome}
-use Rattle.sets.specs.Build.{askPush}
-use Rattle.sets.specs.BuildPlans.{askRecord, planPush, planRecord}
+-- `plan_push` meets its contract: after each question that is answered yes those after it are left. Assumes nothing.
+use mathlib.Core.Path.{_≡_, sym, ap, _∙_}
+use mathlib.Core.Bool.{true}
+use Prim.Native.Nat.{ℕ, _≤_}
 use lib.Seq.{length-take-le}
 use lib.ListN.{length}
-use mathlib.Core.Path.{sym, ap, _∙_}
 use borrow.Author.Tests.{lt-ltb, le-ltb, le-leb, lt-leb}
-use Rattle.sets.proofs.Said.{said-no, said-yes}
+use Rattle.index.specs.Build.{slotOutcome}
+use Rattle.sets.specs.Build.{areasHoldBuilder, askPush, deadlineFor, pushSlot}
+use Rattle.sets.specs.BuildPlans.{askRecord, planPush, planRecord}
 use Rattle.sets.proofs.Counts.{builder-areas-asked}
+use Rattle.sets.proofs.Decides.{plan}
+use Rattle.sets.proofs.Said.{Past, said-no, said-yes}
 use borrow.Author.Needs.{needs}
 use Rattle.sets.proofs.builder.SegmentCacheBuilder.plan_push.Statement.{statement}
 use Rattle.sets.proofs.builder.SegmentCacheBuilder.plan_push.Tie as tie
+
+-- the first n questions are answered yes
+abbrev Yes : ℕ → tie.Start → Type 0
+Yes n s =
+    let a = s .args in
+    Past (plan {A = ℕ × ℕ} (pushSlot (a .self) (a .hash) (a .key .now) (a .index .now) (a .arena .now) .value, deadlineFor (a .self .config) (a .ttl) .value)) n
+    (askPush (a .self) (a .hash) (a .key .now) (a .value-bytes) (a .ttl) (a .index .now) (a .filter-len) (a .arena .now))
+
+-- from after the fourth question to after the first, and from there to the start
+abbrev first : tie.Else4 → tie.Else1
+first c = c .before .before .before .before .before .before
+
+abbrev from : tie.Else1 → tie.Start
+from c = c .before .before .before .before .before
+
+held : (c : tie.Else1) → let a = from c .args in areasHoldBuilder (a .self) (length (a .index .now)) (length (a .arena .now)) ≡ true
+held c = said-yes (c .before .areas-hold .ensures) (c .if1 .left)
+
+filled : (c : tie.Else4) → let a = from (first c) .args in a .self .filled ≤ length (a .arena .now)
+filled c =
+    let a = from (first c) .args in
+    builder-areas-asked (a .self) (length (a .index .now)) (length (a .arena .now)) (held (first c)) .filled-held
+
+yes1 : (c : tie.Else1) → Yes 1 (from c)
+unfolding askPush
+yes1 c = rw (held c)
+
+yes2 : (c : tie.Else2) → Yes 2 (from (c .before .before))
+unfolding askPush
+yes2 c = yes1 (c .before .before) ∙ rw (le-leb _ _ (c .if2 .left))
+
+yes3 : (c : tie.Else3) → Yes 3 (from (c .before .before .before .before))
+unfolding askPush
+yes3 c = yes2 (c .before .before) ∙ rw (said-yes (c .before .lifetime-fits .ensures) (c .if3 .left))
+
+yes4 : (c : tie.Else4) → Yes 4 (from (first c))
+unfolding askPush
+yes4 c = yes3 (c .before .before) ∙ rw (lt-ltb _ _ (c .if4 .left))
 
 areas-hold-requires : tie.Need-areas-hold-requires
 areas-hold-requires c κs = search needs
@@ -21,38 +62,26 @@ returns c = rw (said-no (c .before .areas-hold .ensures) (c .if1 .taken))
 
 returns-2 : tie.Need-returns-2
 unfolding planPush askPush planRecord askRecord
-returns-2 c = rw (said-yes (c .before .before .before .areas-hold .ensures) (c .before .before .if1 .left), lt-leb _ _ (c .if2 .taken))
+returns-2 c = sym (yes1 (c .before .before) ∙ rw (lt-leb _ _ (c .if2 .taken)))
 
 lifetime-fits-requires : tie.Need-lifetime-fits-requires
 lifetime-fits-requires c κs = search needs
 
 returns-3 : tie.Need-returns-3
 unfolding planPush askPush planRecord askRecord
-returns-3 c =
-    let areas-hold = c .before .before .before .before .before .areas-hold in
-    let if1 = c .before .before .before .before .if1 in
-    let if2 = c .before .before .if2 in
-    rw (said-yes (areas-hold .ensures) (if1 .left), le-leb _ _ (if2 .left), said-no (c .before .lifetime-fits .ensures) (c .if3 .taken))
+returns-3 c = sym (yes2 (c .before .before) ∙ rw (said-no (c .before .lifetime-fits .ensures) (c .if3 .taken)))
 
 returns-4 : tie.Need-returns-4
 unfolding planPush askPush planRecord askRecord
 returns-4 c =
-    let areas-hold = c .before .before .before .before .before .before .before .areas-hold in
-    let if1 = c .before .before .before .before .before .before .if1 in
-    let if2 = c .before .before .before .before .if2 in
-    let lifetime-fits = c .before .before .before .lifetime-fits in
-    let if3 = c .before .before .if3 in
-    let self = c .before .before .before .before .before .before .before .before .before .before .before .args .self in
-    let full = le-ltb (self .«inserted_entries») (self .«expected_entries») (c .if4 .taken) in
-    rw (said-yes (areas-hold .ensures) (if1 .left), le-leb _ _ (if2 .left), said-yes (lifetime-fits .ensures) (if3 .left), full)
+    let self = from (c .before .before .before .before .before .before) .args .self in
+    sym (yes3 (c .before .before) ∙ rw (le-ltb (self .«inserted_entries») (self .«expected_entries») (c .if4 .taken)))
 
 slice-aggregate-find-build-slot : tie.Need-slice-aggregate-find-build-slot
 slice-aggregate-find-build-slot c =
-    let a = c .before .before .before .before .before .before .before .before .before .before .before .before .before .args in
-    let areas-hold = c .before .before .before .before .before .before .before .before .before .areas-hold in
-    let if1 = c .before .before .before .before .before .before .before .before .if1 in
-    let holds = said-yes (areas-hold .ensures) (if1 .left) in
-    sym (length-take-le (a .self .filled) (a .arena .now) (builder-areas-asked (a .self) (length (a .index .now)) (length (a .arena .now)) holds .filled-held))
+    let b = c .before .before in
+    let a = from (first b) .args in
+    sym (length-take-le (a .self .filled) (a .arena .now) (filled b))
 
 find-build-slot-requires : tie.Need-find-build-slot-requires
 find-build-slot-requires c κs = search needs
@@ -67,53 +96,26 @@ enum-known-slot : tie.Need-enum-known-slot
 enum-known-slot c = search needs
 
 plan-record-requires : tie.Need-plan-record-requires
-plan-record-requires c κs =
-    let a = c .before .before .before .before .before .before .before .before .before .before .before .before .before .before .before .before .before .args in
-    let areas-hold = c .before .before .before .before .before .before .before .before .before .before .before .before .before .areas-hold in
-    let if1 = c .before .before .before .before .before .before .before .before .before .before .before .before .if1 in
-    let holds = said-yes (areas-hold .ensures) (if1 .left) in
-    builder-areas-asked (a .self) (length (a .index .now)) (length (a .arena .now)) holds .filled-held
+plan-record-requires c κs = filled (c .before .before .before .before .before .before)
 
 returns-5 : tie.Need-returns-5
 unfolding planPush askPush planRecord askRecord
 returns-5 c =
-    let areas-hold = c .before .before .before .before .before .before .before .before .before .before .before .before .areas-hold in
-    let if1 = c .before .before .before .before .before .before .before .before .before .before .before .if1 in
-    let if2 = c .before .before .before .before .before .before .before .before .before .if2 in
-    let lifetime-fits = c .before .before .before .before .before .before .before .before .lifetime-fits in
-    let if3 = c .before .before .before .before .before .before .before .if3 in
-    let if4 = c .before .before .before .before .before .if4 in
-    let find-build-slot = c .before .before .find-build-slot in
-    let found = sym (find-build-slot .ensures) ∙ ap slotOutcome (c .enum-told .given .1) in
-    rw (said-yes (areas-hold .ensures) (if1 .left), le-leb _ _ (if2 .left), said-yes (lifetime-fits .ensures) (if3 .left), lt-ltb _ _ (if4 .left), found)
+    let b = c .before .before in
+    sym (yes4 (b .before .before .before) ∙ rw (sym (b .find-build-slot .ensures) ∙ ap slotOutcome (c .enum-told .given .1)))
 
 returns-6 : tie.Need-returns-6
 unfolding planPush askPush planRecord askRecord
 returns-6 c =
-    let areas-hold = c .before .before .before .before .before .before .before .before .before .before .before .before .areas-hold in
-    let if1 = c .before .before .before .before .before .before .before .before .before .before .before .if1 in
-    let if2 = c .before .before .before .before .before .before .before .before .before .if2 in
-    let lifetime-fits = c .before .before .before .before .before .before .before .before .lifetime-fits in
-    let if3 = c .before .before .before .before .before .before .before .if3 in
-    let if4 = c .before .before .before .before .before .if4 in
-    let find-build-slot = c .before .before .find-build-slot in
-    let found = sym (find-build-slot .ensures) ∙ ap slotOutcome (c .enum-told2 .given .1) in
-    rw (said-yes (areas-hold .ensures) (if1 .left), le-leb _ _ (if2 .left), said-yes (lifetime-fits .ensures) (if3 .left), lt-ltb _ _ (if4 .left), found)
+    let b = c .before .before in
+    sym (yes4 (b .before .before .before) ∙ rw (sym (b .find-build-slot .ensures) ∙ ap slotOutcome (c .enum-told2 .given .1)))
 
 returns-7 : tie.Need-returns-7
 unfolding planPush askPush planRecord askRecord
 returns-7 c =
-    let a = c .before .before .before .before .before .before .before .before .before .before .before .before .before .before .before .before .before .before .args in
-    let areas-hold = c .before .before .before .before .before .before .before .before .before .before .before .before .before .before .areas-hold in
-    let if1 = c .before .before .before .before .before .before .before .before .before .before .before .before .before .if1 in
-    let if2 = c .before .before .before .before .before .before .before .before .before .before .before .if2 in
-    let lifetime-fits = c .before .before .before .before .before .before .before .before .before .before .lifetime-fits in
-    let if3 = c .before .before .before .before .before .before .before .before .before .if3 in
-    let if4 = c .before .before .before .before .before .before .before .if4 in
-    let find-build-slot = c .before .before .before .before .find-build-slot in
-    let slot = c .before .before .slot in
-    let found = sym (find-build-slot .ensures) ∙ ap slotOutcome (slot .given .1) in
-    rw (said-yes (areas-hold .ensures) (if1 .left), le-leb _ _ (if2 .left), said-yes (lifetime-fits .ensures) (if3 .left), lt-ltb _ _ (if4 .left), found) (c .plan-record .ensures)
+    let b = c .before .before .before .before in
+    let found = sym (b .find-build-slot .ensures) ∙ ap slotOutcome (c .before .before .slot .given .1) in
+    sym (yes4 (b .before .before .before) ∙ rw found (sym (c .plan-record .ensures)))
 
 pub plan-push-spec : {M : Type 1} → statement M
 plan-push-spec =

@@ -1,20 +1,16 @@
 -- `plan_record` meets its contract. Assumes nothing.
 use mathlib.Core.Path.{_≡_, sym, ap, _∙_}
 use Prim.Native.Nat.{_-_}
-use native.Mathlib.Omega.{arith}
 use lib.Dec.{leb}
-use borrow.Author.Needs.{needs}
-use borrow.Author.Tests.{ne-eqb}
 use Rattle.hash_parts.specs.Duration.{expiryOutcome}
-use Rattle.hash_parts.specs.Error.{errorNumber}
-use Rattle.hash_parts.proofs.Refusals.{refusal-pos}
 use Rattle.records.specs.Record.{recordSize}
 use Rattle.sets.specs.Build.{pushEnd}
 use Rattle.sets.specs.BuildPlans.{askRecord, planRecord}
 use Rattle.sets.specs.Questions.{deadlineRefusal}
 use Rattle.sets.proofs.Appends.{room}
-use Rattle.sets.proofs.Decides.{decided-refused}
+use Rattle.sets.proofs.Decides.{own-refused}
 use Rattle.sets.proofs.Said.{said-no, said-yes}
+use borrow.Author.Needs.{needs}
 use Rattle.sets.proofs.builder.SegmentCacheBuilder.plan_record.Statement.{statement}
 use Rattle.sets.proofs.builder.SegmentCacheBuilder.plan_record.Tie as tie
 
@@ -34,10 +30,9 @@ returns : tie.Need-returns
 unfolding planRecord askRecord
 returns c =
     let told = c .before .enum-told in
-    let e = told .given .0 .0 in
     let why = c .deadline-refusal .ensures ∙ ap deadlineRefusal (told .given .1) in
     let none = sym (c .before .before .before .encode-expiry-at-tick .ensures) ∙ ap expiryOutcome (told .given .1) in
-    rw (why, none, ne-eqb (errorNumber e) 0 (λ (z : errorNumber e ≡ 0). omega (arith, refusal-pos e))) (sym (decided-refused e _ _))
+    rw (why, none) (sym (own-refused (told .given .0 .0) _ _ _))
 
 sub-record-fits : tie.Need-sub-record-fits
 sub-record-fits c = search needs

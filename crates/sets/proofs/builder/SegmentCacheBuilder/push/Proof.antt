@@ -1,19 +1,38 @@
 -- `push` meets its contract. Assumes nothing.
-use mathlib.Core.Path.{sym, ap, _∙_}
-use Prim.Native.Nat.{_-_}
+use mathlib.Core.Path.{_≡_, sym, ap, _∙_}
+use Prim.Native.Nat.{ℕ, _≤_}
 use native.Mathlib.Omega.{arith}
 use lib.ListN.{length}
 use Rattle.hash_parts.specs.Error.{errorNumber}
 use Rattle.index.specs.declared.build.BuildSlot.the-variants.{Empty}
-use Rattle.sets.specs.Build.{afterPush}
-use Rattle.sets.specs.BuildPlans.{planned}
-use Rattle.sets.proofs.Decides.{decided-refused, plan-placed, plan-refused}
+use Rattle.sets.specs.Build.{afterPush, askPush, deadlineFor, pushSlot}
+use Rattle.sets.specs.BuildPlans.{planned, planPush}
+use Rattle.sets.specs.Questions.{firstNo}
 use Rattle.sets.proofs.Counts.{counts-records}
-use Rattle.sets.proofs.EmptySlots.{found-below}
 use Rattle.sets.proofs.Asked.{push-asked}
+use Rattle.sets.proofs.EmptySlots.{found-inside}
+use Rattle.sets.proofs.Decides.{decided-refused, planned-no, planned-two}
 use borrow.Author.Needs.{needs}
 use Rattle.sets.proofs.builder.SegmentCacheBuilder.push.Statement.{statement}
 use Rattle.sets.proofs.builder.SegmentCacheBuilder.push.Tie as tie
+
+abbrev from : tie.After-plan-push → tie.Start
+from c = c .before .before .before .before .before .before .before .before
+
+-- what its questions come to
+abbrev asks : tie.Start → ℕ
+asks s =
+    let a = s .args in
+    firstNo
+    (askPush (a .self) (a .hash) (a .key .now) (length (a .value .now)) (a .ttl) (a .index .now) (length (a .filter .now)) (a .arena .now))
+
+-- its plan has a place for the record
+placed : (c : tie.After-slot) → let s = from (c .before .before) in let a = s .args in
+    (asks s ≡ 0)
+    × (pushSlot (a .self) (a .hash) (a .key .now) (a .index .now) (a .arena .now) .value ≡ c .slot .given .0 .0)
+    × (deadlineFor (a .self .config) (a .ttl) .value ≡ c .slot .given .0 .1 .0)
+unfolding planPush
+placed c = planned-two _ _ _ _ _ (sym (c .before .before .plan-push .ensures) ∙ ap planned (c .slot .given .1))
 
 plan-push-requires : tie.Need-plan-push-requires
 plan-push-requires c κs = search needs
@@ -26,15 +45,15 @@ enum-known-slot c = search needs
 
 push-at-requires : tie.Need-push-at-requires
 push-at-requires c κs =
-    let a = c .before .before .before .before .before .before .before .before .before .before .before .before .before .before .args in
-    let plan = c .before .before .before .before .before .before .plan-push in
-    let told = c .before .before .before .before .slot .given in
-    let p = plan-placed (a .self) (a .hash) (a .key .now) (length (a .value .now)) (a .ttl) (a .index .now) (length (a .filter .now)) (a .arena .now) (told .0 .0) (told .0 .1 .0) (sym (plan .ensures) ∙ ap planned (told .1)) in
+    let b = c .before .before .before .before in
+    let s = from (b .before .before) in
+    let a = s .args in
+    let p = placed b in
     let q = push-asked (a .self) (a .hash) (a .key .now) (length (a .value .now)) (a .ttl) (a .index .now) (length (a .filter .now)) (a .arena .now) (p .0) in
     let n = q .areas .numbers in
-    let r = counts-records _ _ _ _ (n .counts) in
-    let s = found-below _ (a .index .now) (a .self .«bucket_count») (a .hash) (told .0 .0) (c .before .before .before .before .before .before .before .before .before .before .before .before .before .before .fits .hash .fits) (q .place ∙ ap Empty (p .1)) in
-    (q .fits, q .areas .arena-short, omega (arith, q .areas .index-holds, s), q .announced, omega (arith, n .key-bytes, n .announced, r), omega (arith, n .value-bytes, n .announced, r))
+    let few : a .self .«inserted_entries» ≤ 1_048_576 = omega (arith, n .announced, counts-records _ _ _ _ (n .counts)) in
+    let at = found-inside _ (a .index .now) (a .self .«bucket_count») (a .hash) _ (s .fits .hash .fits) (q .areas .index-holds) (q .place ∙ ap Empty (p .1)) in
+    (q .fits, q .areas .arena-short, at, q .announced, omega (arith, n .key-bytes), omega (arith, n .value-bytes))
 
 same-length : tie.Need-same-length
 same-length c = search needs
@@ -43,13 +62,11 @@ same-length-2 : tie.Need-same-length-2
 same-length-2 c = search needs
 
 returns : tie.Need-returns
-unfolding afterPush
+unfolding afterPush planPush
 returns c =
-    let a = c .before .before .before .before .before .before .before .before .before .before .before .args in
-    let plan = c .before .before .before .plan-push in
+    let b = c .before .before .before in
     let told = c .before .refusal .given in
-    let p = plan-refused (a .self) (a .hash) (a .key .now) (length (a .value .now)) (a .ttl) (a .index .now) (length (a .filter .now)) (a .arena .now) (errorNumber (told .0 .0)) (sym (plan .ensures) ∙ ap planned (told .1)) in
-    rw p (sym (decided-refused (told .0 .0) _ _))
+    rw (planned-no (asks (from b)) (errorNumber (told .0 .0)) _ (sym (b .plan-push .ensures) ∙ ap planned (told .1))) (sym (decided-refused (told .0 .0) _ _))
 
 same-length-3 : tie.Need-same-length-3
 same-length-3 c = search needs
@@ -63,11 +80,9 @@ same-length-5 c = search needs
 returns-2 : tie.Need-returns-2
 unfolding afterPush
 returns-2 c =
-    let a = c .before .before .before .before .before .before .before .before .before .before .before .before .before .before .before .before .before .before .before .before .before .args in
-    let plan = c .before .before .before .before .before .before .before .before .before .before .before .before .before .plan-push in
-    let told = c .before .before .before .before .before .before .before .before .before .before .before .slot .given in
-    let p = plan-placed (a .self) (a .hash) (a .key .now) (length (a .value .now)) (a .ttl) (a .index .now) (length (a .filter .now)) (a .arena .now) (told .0 .0) (told .0 .1 .0) (sym (plan .ensures) ∙ ap planned (told .1)) in
-    rw (p .0, p .1, p .2) (c .before .before .before .before .before .before .push-at .ensures)
+    let b = c .before .before .before .before .before .before in
+    let p = placed (b .before .before .before .before .before) in
+    rw (p .0, p .1, p .2) (b .push-at .ensures)
 
 pub push-spec : {M : Type 1} → statement M
 push-spec =

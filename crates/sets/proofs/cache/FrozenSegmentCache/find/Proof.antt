@@ -1,7 +1,5 @@
 -- `find` meets its contract. Assumes nothing.
-use mathlib.Core.Path.{ap, _∙_}
-use Rattle.index.specs.Find.{findIn}
-use Rattle.index.specs.declared.view.SegmentView.{SegmentView}
+use mathlib.Core.Path.{_∙_}
 use borrow.Author.Needs.{needs}
 use Rattle.sets.proofs.cache.FrozenSegmentCache.find.Statement.{statement}
 use Rattle.sets.proofs.cache.FrozenSegmentCache.find.Tie as tie
@@ -13,10 +11,7 @@ find-record-requires : tie.Need-find-record-requires
 find-record-requires c κs = search needs
 
 returns : tie.Need-returns
-returns c =
-    let a = c .before .before .before .before .before .before .before .before .args in
-    let r = ap (λ (v : SegmentView). findIn v (a .self .config .«packed_bucket_index») (a .index .now) (a .self .buckets) (a .filter .now) (a .self .«filter_words») (a .starts .now) (a .lengths .now) (a .arena .now) (a .key .now) (a .hash)) (c .before .view .ensures) in
-    c .find-record .ensures ∙ r
+returns c = c .find-record .ensures ∙ rw (c .before .view .ensures)
 
 pub find-spec : {M : Type 1} → statement M
 find-spec = tie.close (tie.spec view-requires find-record-requires returns)

@@ -1,7 +1,7 @@
 -- `get_at_tick` meets its contract. Assumes nothing.
 use mathlib.Core.Path.{sym, _∙_}
-use Rattle.sets.proofs.Said.{said-no, said-yes}
 use Rattle.sets.specs.Lookup.{afterGet, askLookup}
+use Rattle.sets.proofs.Said.{said-no, said-yes}
 use Rattle.sets.proofs.Finding.{got, lookup-slot}
 use borrow.Author.Needs.{needs}
 use Rattle.sets.proofs.cache.FrozenSegmentCache.get_at_tick.Statement.{statement}
@@ -28,15 +28,20 @@ same-length c = search needs
 
 returns-2 : tie.Need-returns-2
 unfolding afterGet askLookup
-returns-2 c = rw (said-yes (c .before .before .before .before .before .lookup-areas-hold .ensures) (c .before .before .before .before .if1 .left), sym (c .before .before .find .ensures) ∙ c .enum-told .given .1)
+returns-2 c =
+    let f = c .before .before in
+    let b = f .before .before in
+    rw (said-yes (b .before .lookup-areas-hold .ensures) (b .if1 .left), sym (f .find .ensures) ∙ c .enum-told .given .1)
 
 mark-live-requires : tie.Need-mark-live-requires
 mark-live-requires c κs =
-    let a = c .before .before .before .before .before .before .before .before .before .before .before .before .before .before .args in
-    let fits = c .before .before .before .before .before .before .before .before .before .before .before .before .before .before .fits in
-    let answer = c .before .before .answer in
-    let held = said-yes (c .before .before .before .before .before .before .before .lookup-areas-hold .ensures) (c .before .before .before .before .before .before .if1 .left) in
-    lookup-slot (a .self) (a .hash) (a .key .now) (a .index .now) (a .filter .now) (a .starts .now) (a .lengths .now) (a .arena .now) (answer .given .0 .0) (fits .hash .fits) held (sym (c .before .before .before .before .find .ensures) ∙ answer .given .1)
+    let y = c .before .before in
+    let f = y .before .before in
+    let b = f .before .before in
+    let s = b .before .before .before .before .before .before .before .before in
+    let a = s .args in
+    lookup-slot (a .self) (a .hash) (a .key .now) (a .index .now) (a .filter .now) (a .starts .now) (a .lengths .now) (a .arena .now) (y .answer .given .0 .0)
+    (s .fits .hash .fits) (said-yes (b .before .lookup-areas-hold .ensures) (b .if1 .left)) (sym (f .find .ensures) ∙ y .answer .given .1)
 
 live-value-requires : tie.Need-live-value-requires
 live-value-requires c κs = search needs
@@ -46,7 +51,12 @@ same-length-2 c = search needs
 
 returns-3 : tie.Need-returns-3
 unfolding afterGet askLookup
-returns-3 c = rw (said-yes (c .before .before .before .before .before .before .before .before .before .before .before .lookup-areas-hold .ensures) (c .before .before .before .before .before .before .before .before .before .before .if1 .left), sym (c .before .before .before .before .before .before .before .before .find .ensures) ∙ c .before .before .before .before .before .before .answer .given .1) (got (c .live-value .ensures) (c .before .before .before .mark-live .ensures))
+returns-3 c =
+    let m = c .before .before .before in
+    let y = m .before .before .before in
+    let f = y .before .before in
+    let b = f .before .before in
+    rw (said-yes (b .before .lookup-areas-hold .ensures) (b .if1 .left), sym (f .find .ensures) ∙ y .answer .given .1) (got (c .live-value .ensures) (m .mark-live .ensures))
 
 pub get-at-tick-spec : {M : Type 1} → statement M
 get-at-tick-spec =

@@ -1,7 +1,7 @@
 -- `probe_hashed_at_tick` meets its contract. Assumes nothing.
 use mathlib.Core.Path.{refl, sym, _∙_}
-use Rattle.sets.proofs.Said.{said-no, said-yes}
 use Rattle.sets.specs.Lookup.{askLookup, probeAnswer}
+use Rattle.sets.proofs.Said.{said-no, said-yes}
 use borrow.Author.Needs.{needs}
 use Rattle.sets.proofs.cache.FrozenSegmentCache.probe_hashed_at_tick.Statement.{statement}
 use Rattle.sets.proofs.cache.FrozenSegmentCache.probe_hashed_at_tick.Tie as tie
@@ -24,14 +24,19 @@ enum-told c = search needs
 
 returns-2 : tie.Need-returns-2
 unfolding probeAnswer askLookup
-returns-2 c = (rw (said-yes (c .before .before .before .before .lookup-areas-hold .ensures) (c .before .before .before .if1 .left), sym (c .before .before .find .ensures) ∙ c .enum-told .given .1), refl)
+returns-2 c =
+    let f = c .before .before in
+    (rw (said-yes (f .before .before .lookup-areas-hold .ensures) (f .before .if1 .left), sym (f .find .ensures) ∙ c .enum-told .given .1), refl)
 
 base-record-requires : tie.Need-base-record-requires
 base-record-requires c κs = search needs
 
 returns-3 : tie.Need-returns-3
 unfolding probeAnswer askLookup
-returns-3 c = (rw (said-yes (c .before .before .before .before .before .before .lookup-areas-hold .ensures) (c .before .before .before .before .before .if1 .left), sym (c .before .before .before .before .find .ensures) ∙ c .before .before .answer .given .1, c .base-record .ensures), refl)
+returns-3 c =
+    let y = c .before .before in
+    let f = y .before .before in
+    (rw (said-yes (f .before .before .lookup-areas-hold .ensures) (f .before .if1 .left), sym (f .find .ensures) ∙ y .answer .given .1, c .base-record .ensures), refl)
 
 pub probe-hashed-at-tick-spec : {M : Type 1} → statement M
 probe-hashed-at-tick-spec =

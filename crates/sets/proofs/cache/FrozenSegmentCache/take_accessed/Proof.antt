@@ -1,10 +1,10 @@
 -- `take_accessed` meets its contract. Assumes nothing.
 use mathlib.Core.Path.{sym, ap, _∙_}
-use Rattle.sets.proofs.Said.{said-no, said-yes}
-use Rattle.sets.specs.Lookup.{afterTake, askLookup}
-use Rattle.sets.proofs.Finding.{lookup-slot, taken}
 use mathlib.Core.Bool.{Bool}
 use Rattle.sets.specs.Answers.{accept}
+use Rattle.sets.specs.Lookup.{afterTake, askLookup}
+use Rattle.sets.proofs.Said.{said-no, said-yes}
+use Rattle.sets.proofs.Finding.{lookup-slot, taken}
 use borrow.Author.Needs.{needs}
 use Rattle.sets.proofs.cache.FrozenSegmentCache.take_accessed.Statement.{statement}
 use Rattle.sets.proofs.cache.FrozenSegmentCache.take_accessed.Tie as tie
@@ -30,15 +30,20 @@ same-length c = search needs
 
 returns-2 : tie.Need-returns-2
 unfolding afterTake askLookup
-returns-2 c = rw (said-yes (c .before .before .before .before .before .lookup-areas-hold .ensures) (c .before .before .before .before .if1 .left), sym (c .before .before .find .ensures) ∙ c .enum-told .given .1)
+returns-2 c =
+    let f = c .before .before in
+    let b = f .before .before in
+    rw (said-yes (b .before .lookup-areas-hold .ensures) (b .if1 .left), sym (f .find .ensures) ∙ c .enum-told .given .1)
 
 clear-accessed-requires : tie.Need-clear-accessed-requires
 clear-accessed-requires c κs =
-    let a = c .before .before .before .before .before .before .before .before .before .before .before .before .before .before .args in
-    let fits = c .before .before .before .before .before .before .before .before .before .before .before .before .before .before .fits in
-    let answer = c .before .before .answer in
-    let held = said-yes (c .before .before .before .before .before .before .before .lookup-areas-hold .ensures) (c .before .before .before .before .before .before .if1 .left) in
-    lookup-slot (a .self) (a .hash) (a .key .now) (a .index .now) (a .filter .now) (a .starts .now) (a .lengths .now) (a .arena .now) (answer .given .0 .0) (fits .hash .fits) held (sym (c .before .before .before .before .find .ensures) ∙ answer .given .1)
+    let y = c .before .before in
+    let f = y .before .before in
+    let b = f .before .before in
+    let s = b .before .before .before .before .before .before .before .before in
+    let a = s .args in
+    lookup-slot (a .self) (a .hash) (a .key .now) (a .index .now) (a .filter .now) (a .starts .now) (a .lengths .now) (a .arena .now) (y .answer .given .0 .0)
+    (s .fits .hash .fits) (said-yes (b .before .lookup-areas-hold .ensures) (b .if1 .left)) (sym (f .find .ensures) ∙ y .answer .given .1)
 
 same-length-2 : tie.Need-same-length-2
 same-length-2 c = search needs
@@ -46,8 +51,12 @@ same-length-2 c = search needs
 returns-3 : tie.Need-returns-3
 unfolding afterTake askLookup
 returns-3 c =
-    let clear-accessed = c .before .before .clear-accessed in
-    rw (said-yes (c .before .before .before .before .before .before .before .before .before .before .lookup-areas-hold .ensures) (c .before .before .before .before .before .before .before .before .before .if1 .left), sym (c .before .before .before .before .before .before .before .find .ensures) ∙ c .before .before .before .before .before .answer .given .1) (taken (ap (λ (x : Bool). accept x) (clear-accessed .ensures .0)) (clear-accessed .ensures .1))
+    let m = c .before .before in
+    let y = m .before .before .before in
+    let f = y .before .before in
+    let b = f .before .before in
+    rw (said-yes (b .before .lookup-areas-hold .ensures) (b .if1 .left), sym (f .find .ensures) ∙ y .answer .given .1)
+    (taken (ap (λ (x : Bool). accept x) (m .clear-accessed .ensures .0)) (m .clear-accessed .ensures .1))
 
 pub take-accessed-spec : {M : Type 1} → statement M
 take-accessed-spec =

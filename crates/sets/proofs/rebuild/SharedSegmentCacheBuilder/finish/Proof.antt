@@ -8,11 +8,22 @@ use Rattle.sets.specs.Questions.{checkNumber}
 use Rattle.sets.specs.Rebuild.{afterRebuildFinish, rebuildFilled}
 use Rattle.sets.proofs.Decides.{decided-refused}
 use Rattle.sets.proofs.KeptBits.{retained-256}
-use Rattle.sets.proofs.RebuildAsked.{refinish-asked}
 use Rattle.sets.proofs.RebuildSteps.{adds-few, refinish-left, sum-inside}
+use Rattle.sets.proofs.RebuildAsked.{RefinishAsked, refinish-asked}
 use borrow.Author.Needs.{needs}
 use Rattle.sets.proofs.rebuild.SharedSegmentCacheBuilder.finish.Statement.{statement}
 use Rattle.sets.proofs.rebuild.SharedSegmentCacheBuilder.finish.Tie as tie
+
+abbrev from : tie.After-enum-told → tie.Start
+from c = c .before .before .before .before .before .before .before .before .before .before
+
+-- where no question is answered no, what they tell
+asked : (c : tie.After-enum-told) → let a = from c .args in
+    RefinishAsked (a .self) (length (a .index .now)) (a .starts .now) (a .lengths .now) (length (a .scratch .now)) (length (a .arena .now))
+asked c =
+    let a = from c .args in
+    refinish-asked (a .self) (length (a .index .now)) (a .starts .now) (a .lengths .now) (length (a .scratch .now)) (length (a .arena .now))
+    (sym (c .before .before .check-finish .ensures) ∙ ap checkNumber (c .enum-told .given .1))
 
 check-finish-requires : tie.Need-check-finish-requires
 check-finish-requires c κs = search needs
@@ -29,31 +40,26 @@ same-length-2 c = search needs
 returns : tie.Need-returns
 unfolding afterRebuildFinish
 returns c =
-    let check-finish = c .before .before .before .check-finish in
-    rw (sym (check-finish .ensures) ∙ ap checkNumber (c .before .refusal .given .1)) (sym (decided-refused (c .before .refusal .given .0 .0) _ _))
+    let told = c .before .refusal .given in
+    rw (sym (c .before .before .before .check-finish .ensures) ∙ ap checkNumber (told .1)) (sym (decided-refused (told .0 .0) _ _))
 
 enum-told : tie.Need-enum-told
 enum-told c = search needs
 
 into-build-requires : tie.Need-into-build-requires
 into-build-requires c κs =
-    let a = c .before .before .before .before .before .before .before .before .before .before .before .args in
-    let check-finish = c .before .before .before .check-finish in
-    let q = refinish-asked (a .self) (length (a .index .now)) (a .starts .now) (a .lengths .now) (length (a .scratch .now)) (length (a .arena .now)) (sym (check-finish .ensures) ∙ ap checkNumber (c .before .enum-told .given .1)) in
-    let n = q .areas .numbers in
+    let a = from (c .before) .args in
+    let q = asked (c .before) .areas in
     let few = retained-256 (a .self .kept) in
-    let short : rebuildFilled (a .self) ≤ 2 ^ 30 = omega (arith, q .areas .filled-held, q .areas .arena-short) in
-    let sum = sum-inside (rebuildFilled (a .self)) (a .starts .now) (a .lengths .now) (retained (a .self .kept)) short (q .areas .inside) in
-    (omega (arith, few, q .areas .lengths-hold), omega (arith, few, sum), short, n .counts)
+    let short : rebuildFilled (a .self) ≤ 2 ^ 30 = omega (arith, q .filled-held, q .arena-short) in
+    let sum = sum-inside (rebuildFilled (a .self)) (a .starts .now) (a .lengths .now) (retained (a .self .kept)) short (q .inside) in
+    (omega (arith, few, q .lengths-hold), omega (arith, few, sum), short, q .numbers .counts)
 
 add-segment-requires : tie.Need-add-segment-requires
 add-segment-requires c κs =
-    let a = c .before .before .before .before .before .before .before .before .before .before .before .before .before .before .args in
-    let check-finish = c .before .before .before .before .before .before .check-finish in
-    let enum-told = c .before .before .before .before .enum-told in
-    let q = refinish-asked (a .self) (length (a .index .now)) (a .starts .now) (a .lengths .now) (length (a .scratch .now)) (length (a .arena .now)) (sym (check-finish .ensures) ∙ ap checkNumber (enum-told .given .1)) in
-    let n = q .areas .numbers in
-    (q .areas .starts-hold, q .areas .lengths-hold, adds-few (a .self) (n .few))
+    let b = c .before .before .before .before in
+    let q = asked b .areas in
+    (q .starts-hold, q .lengths-hold, adds-few (from b .args .self) (q .numbers .few))
 
 pack-index-requires : tie.Need-pack-index-requires
 pack-index-requires c κs = search needs
@@ -73,14 +79,14 @@ same-length-6 c = search needs
 returns-2 : tie.Need-returns-2
 unfolding afterRebuildFinish
 returns-2 c =
-    let a = c .before .before .before .before .before .before .before .before .before .before .before .before .before .before .before .before .before .before .before .before .before .before .before .before .before .before .args in
-    let check-finish = c .before .before .before .before .before .before .before .before .before .before .before .before .before .before .before .before .before .before .check-finish in
-    let enum-told = c .before .before .before .before .before .before .before .before .before .before .before .before .before .before .before .before .enum-told in
-    let into-build = c .before .before .before .before .before .before .before .before .before .before .before .before .before .before .into-build in
-    let add-segment = c .before .before .before .before .before .before .before .before .before .before .before .add-segment in
-    let pack-index = c .before .before .before .before .pack-index in
-    rw (sym (check-finish .ensures) ∙ ap checkNumber (enum-told .given .1))
-    (refinish-left (a .self) (a .index .now) (a .starts .now) (a .lengths .now) (a .scratch .now) _ _ _ _ (into-build .result) (into-build .ensures) (add-segment .ensures .0) (add-segment .ensures .1) (pack-index .ensures .0) (pack-index .ensures .1))
+    let v = c .before .before .before .before in
+    let d = v .before .before .before .before .before .before .before in
+    let i = d .before .before .before in
+    let b = i .before .before in
+    let a = from b .args in
+    rw (sym (b .before .before .check-finish .ensures) ∙ ap checkNumber (b .enum-told .given .1))
+    (refinish-left (a .self) (a .index .now) (a .starts .now) (a .lengths .now) (a .scratch .now) _ _ _ _ (i .into-build .result)
+    (i .into-build .ensures) (d .add-segment .ensures .0) (d .add-segment .ensures .1) (v .pack-index .ensures .0) (v .pack-index .ensures .1))
 
 pub finish-spec : {M : Type 1} → statement M
 finish-spec =

@@ -1,16 +1,52 @@
 -- `fits` meets its contract. Assumes nothing.
-use borrow.Author.Tests.{le-leb, lt-leb}
-use Rattle.sets.proofs.Said.{said-no, said-yes}
-use Prim.Native.Nat.{_+_, _≤_, _<_}
+use mathlib.Core.Path.{_≡_, sym, _∙_}
+use mathlib.Core.List.{[], _∷_}
+use Prim.Native.Nat.{_+_, _≤_}
 use native.Mathlib.Omega.{arith}
+use borrow.Author.Tests.{le-leb, lt-leb}
 use Rattle.sets.specs.Kept.{retained}
 use Rattle.sets.specs.Rebuild.{rebuildFits, segmentFor}
+use Rattle.sets.specs.Questions.{all, bytesFit}
+use Rattle.sets.specs.declared.rebuild.SharedSegmentCacheBuilder.{SharedSegmentCacheBuilder}
+use Rattle.sets.proofs.Said.{said-no, said-yes}
 use Rattle.sets.proofs.Counts.{counts-records}
 use Rattle.sets.proofs.KeptBits.{retained-256}
 use Rattle.sets.proofs.RebuildSteps.{segment-most}
 use borrow.Author.Needs.{needs}
 use Rattle.sets.proofs.rebuild.SharedSegmentCacheBuilder.fits.Statement.{statement}
 use Rattle.sets.proofs.rebuild.SharedSegmentCacheBuilder.fits.Tie as tie
+
+abbrev from : tie.Else2 → tie.Start
+from c = c .before .before .before .before
+
+few : (c : tie.Else2) → from c .args .self .«inserted_entries» ≤ 1_048_576
+few c = omega (arith, c .if2 .left, counts-records _ _ _ _ (said-yes (c .before .before .before .counts-fit .ensures) (c .before .before .if1 .left)))
+
+-- the segments that it asks for
+segments : (c : tie.After-segment-for) → let r = from (c .before .before .before) .args .self in
+    c .before .retained .result + c .segment-for .result ≡ retained (r .kept) + segmentFor (r .«copied_bytes»)
+segments c = omega (arith, c .before .retained .ensures, c .segment-for .ensures)
+
+-- what is left to ask after the third question, and after those that follow
+abbrev self : tie.Else3 → SharedSegmentCacheBuilder
+self c = from (c .before .before .before .before) .args .self
+
+yes3 : (c : tie.Else3) → let r = self c in
+    rebuildFits r
+    ≡ all
+    (bytesFit (r .«inserted_entries») (r .«logical_key_bytes»)
+    ∷ bytesFit (r .«inserted_entries») (r .«logical_value_bytes»)
+    ∷ bytesFit (r .«inserted_entries») (r .«record_header_bytes»)
+    ∷ [])
+unfolding rebuildFits
+yes3 c =
+    let b = c .before .before .before .before in
+    let d = b .before .before in
+    rw (said-yes (d .before .counts-fit .ensures) (d .if1 .left), le-leb _ _ (b .if2 .left), ← segments (c .before), le-leb _ _ (c .if3 .left))
+
+yes4 : (c : tie.Else4) → let r = self (c .before .before) in
+    rebuildFits r ≡ all (bytesFit (r .«inserted_entries») (r .«logical_value_bytes») ∷ bytesFit (r .«inserted_entries») (r .«record_header_bytes») ∷ [])
+yes4 c = yes3 (c .before .before) ∙ rw (said-yes (c .before .bytes-fit .ensures) (c .if4 .left))
 
 counts-fit-requires : tie.Need-counts-fit-requires
 counts-fit-requires c κs = search needs
@@ -22,9 +58,8 @@ returns c = rw (said-no (c .before .counts-fit .ensures) (c .if1 .taken))
 returns-2 : tie.Need-returns-2
 unfolding rebuildFits
 returns-2 c =
-    let counts-fit = c .before .before .before .counts-fit in
-    let if1 = c .before .before .if1 in
-    rw (said-yes (counts-fit .ensures) (if1 .left), lt-leb _ _ (c .if2 .taken))
+    let b = c .before .before in
+    rw (said-yes (b .before .counts-fit .ensures) (b .if1 .left), lt-leb _ _ (c .if2 .taken))
 
 retained-requires : tie.Need-retained-requires
 retained-requires c κs = search needs
@@ -40,78 +75,29 @@ add-if3 c =
 returns-3 : tie.Need-returns-3
 unfolding rebuildFits
 returns-3 c =
-    let a = c .before .before .before .before .before .before .before .before .args in
-    let counts-fit = c .before .before .before .before .before .before .before .counts-fit in
-    let if1 = c .before .before .before .before .before .before .if1 in
-    let if2 = c .before .before .before .before .if2 in
-    let counted = c .before .before .retained in
-    let n : 256 < retained (a .self .kept) + segmentFor (a .self .«copied_bytes») = omega (arith, c .if3 .taken, counted .ensures, c .before .segment-for .ensures) in
-    rw (said-yes (counts-fit .ensures) (if1 .left), le-leb _ _ (if2 .left), lt-leb _ _ n)
+    let b = c .before .before .before .before in
+    let d = b .before .before in
+    rw (said-yes (d .before .counts-fit .ensures) (d .if1 .left), le-leb _ _ (b .if2 .left), ← segments (c .before), lt-leb _ _ (c .if3 .taken))
 
 bytes-fit-requires : tie.Need-bytes-fit-requires
-bytes-fit-requires c κs =
-    let counts-fit = c .before .before .before .before .before .before .before .counts-fit in
-    let if1 = c .before .before .before .before .before .before .if1 in
-    let if2 = c .before .before .before .before .if2 in
-    omega (arith, if2 .left, counts-records _ _ _ _ (said-yes (counts-fit .ensures) (if1 .left)))
+bytes-fit-requires c κs = few (c .before .before .before .before)
 
 returns-4 : tie.Need-returns-4
-unfolding rebuildFits
-returns-4 c =
-    let a = c .before .before .before .before .before .before .before .before .before .before .args in
-    let counts-fit = c .before .before .before .before .before .before .before .before .before .counts-fit in
-    let if1 = c .before .before .before .before .before .before .before .before .if1 in
-    let if2 = c .before .before .before .before .before .before .if2 in
-    let counted = c .before .before .before .before .retained in
-    let segment-for = c .before .before .before .segment-for in
-    let if3 = c .before .before .if3 in
-    let n : retained (a .self .kept) + segmentFor (a .self .«copied_bytes») ≤ 256 = omega (arith, if3 .left, counted .ensures, segment-for .ensures) in
-    rw (said-yes (counts-fit .ensures) (if1 .left), le-leb _ _ (if2 .left), le-leb _ _ n, said-no (c .before .bytes-fit .ensures) (c .if4 .taken))
+returns-4 c = sym (yes3 (c .before .before) ∙ rw (said-no (c .before .bytes-fit .ensures) (c .if4 .taken)))
 
 bytes-fit-requires-2 : tie.Need-bytes-fit-requires-2
-bytes-fit-requires-2 c κs =
-    let counts-fit = c .before .before .before .before .before .before .before .before .before .counts-fit in
-    let if1 = c .before .before .before .before .before .before .before .before .if1 in
-    let if2 = c .before .before .before .before .before .before .if2 in
-    omega (arith, if2 .left, counts-records _ _ _ _ (said-yes (counts-fit .ensures) (if1 .left)))
+bytes-fit-requires-2 c κs = few (c .before .before .before .before .before .before)
 
 returns-5 : tie.Need-returns-5
-unfolding rebuildFits
-returns-5 c =
-    let a = c .before .before .before .before .before .before .before .before .before .before .before .before .args in
-    let counts-fit = c .before .before .before .before .before .before .before .before .before .before .before .counts-fit in
-    let if1 = c .before .before .before .before .before .before .before .before .before .before .if1 in
-    let if2 = c .before .before .before .before .before .before .before .before .if2 in
-    let counted = c .before .before .before .before .before .before .retained in
-    let segment-for = c .before .before .before .before .before .segment-for in
-    let if3 = c .before .before .before .before .if3 in
-    let bytes-fit = c .before .before .before .bytes-fit in
-    let if4 = c .before .before .if4 in
-    let n : retained (a .self .kept) + segmentFor (a .self .«copied_bytes») ≤ 256 = omega (arith, if3 .left, counted .ensures, segment-for .ensures) in
-    rw (said-yes (counts-fit .ensures) (if1 .left), le-leb _ _ (if2 .left), le-leb _ _ n, said-yes (bytes-fit .ensures) (if4 .left), said-no (c .before .bytes-fit2 .ensures) (c .if5 .taken))
+returns-5 c = sym (yes4 (c .before .before) ∙ rw (said-no (c .before .bytes-fit2 .ensures) (c .if5 .taken)))
 
 bytes-fit-requires-3 : tie.Need-bytes-fit-requires-3
-bytes-fit-requires-3 c κs =
-    let counts-fit = c .before .before .before .before .before .before .before .before .before .before .before .counts-fit in
-    let if1 = c .before .before .before .before .before .before .before .before .before .before .if1 in
-    let if2 = c .before .before .before .before .before .before .before .before .if2 in
-    omega (arith, if2 .left, counts-records _ _ _ _ (said-yes (counts-fit .ensures) (if1 .left)))
+bytes-fit-requires-3 c κs = few (c .before .before .before .before .before .before .before .before)
 
 returns-6 : tie.Need-returns-6
-unfolding rebuildFits
 returns-6 c =
-    let a = c .before .before .before .before .before .before .before .before .before .before .before .before .before .args in
-    let counts-fit = c .before .before .before .before .before .before .before .before .before .before .before .before .counts-fit in
-    let if1 = c .before .before .before .before .before .before .before .before .before .before .before .if1 in
-    let if2 = c .before .before .before .before .before .before .before .before .before .if2 in
-    let counted = c .before .before .before .before .before .before .before .retained in
-    let segment-for = c .before .before .before .before .before .before .segment-for in
-    let if3 = c .before .before .before .before .before .if3 in
-    let bytes-fit = c .before .before .before .before .bytes-fit in
-    let if4 = c .before .before .before .if4 in
-    let bytes-fit2 = c .before .before .bytes-fit2 in
-    let n : retained (a .self .kept) + segmentFor (a .self .«copied_bytes») ≤ 256 = omega (arith, if3 .left, counted .ensures, segment-for .ensures) in
-    rw (said-yes (counts-fit .ensures) (if1 .left), le-leb _ _ (if2 .left), le-leb _ _ n, said-yes (bytes-fit .ensures) (if4 .left), said-yes (bytes-fit2 .ensures) (c .before .if5 .left)) (c .bytes-fit3 .ensures)
+    let b = c .before in
+    c .bytes-fit3 .ensures ∙ sym (yes4 (b .before .before) ∙ rw (said-yes (b .before .bytes-fit2 .ensures) (b .if5 .left)))
 
 pub fits-spec : {M : Type 1} → statement M
 fits-spec =

@@ -1,14 +1,18 @@
 -- `holds_record` meets its contract. Assumes nothing.
-use mathlib.Core.Path.{sym, ap, ap₂, _∙_}
-use Prim.Native.Nat.{ℕ, _+_, _/_, _^_}
+use mathlib.Core.Path.{_≡_, sym, _∙_}
+use Prim.Native.Nat.{_+_, _/_, _^_}
 use native.Mathlib.Omega.{arith}
 use Rattle.index.specs.View.{recordIn}
-use Rattle.index.specs.declared.view.SegmentView.{SegmentView}
-use Rattle.sets.specs.Rebuild.{holdsRecord}
+use Rattle.sets.specs.Rebuild.{holdsRecord, keptView, movedLocation}
 use Rattle.sets.proofs.KeptBits.{number-below, retained-256}
 use borrow.Author.Needs.{needs}
 use Rattle.sets.proofs.rebuild.SharedSegmentCacheBuilder.holds_record.Statement.{statement}
 use Rattle.sets.proofs.rebuild.SharedSegmentCacheBuilder.holds_record.Tie as tie
+
+-- the record under the new number of its segment
+shown : (c : tie.After-record-at-location) → let a = c .before .before .before .before .before .before .before .before .args in
+    recordIn (keptView (a .self)) (a .arena .now) (a .starts .now) (a .lengths .now) (movedLocation (a .self) (a .source .location) + 1) ≡ c .record-at-location .result
+shown c = sym (c .record-at-location .ensures ∙ rw (c .before .view .ensures, c .before .before .moved-location .ensures))
 
 moved-location-requires : tie.Need-moved-location-requires
 moved-location-requires c κs = c .before .before .before .before .before .pre .0
@@ -32,13 +36,7 @@ enum-told c = search needs
 
 returns : tie.Need-returns
 unfolding holdsRecord
-returns c =
-    let a = c .before .before .before .before .before .before .before .before .before .before .args in
-    let moved-location = c .before .before .before .before .moved-location in
-    let view = c .before .before .before .view in
-    let record-at-location = c .before .before .record-at-location in
-    let same = ap₂ (λ (v : SegmentView) (n : ℕ). recordIn v (a .arena .now) (a .starts .now) (a .lengths .now) (n + 1)) (view .ensures) (moved-location .ensures) in
-    sym (ap (holdsRecord (a .key .now) (a .value .now) (a .source .«header_bytes») (a .arena .now)) (sym (record-at-location .ensures ∙ same) ∙ c .enum-told .given .1))
+returns c = rw (shown (c .before .before) ∙ c .enum-told .given .1)
 
 same-record-requires : tie.Need-same-record-requires
 same-record-requires c κs = search needs
@@ -46,13 +44,8 @@ same-record-requires c κs = search needs
 returns-2 : tie.Need-returns-2
 unfolding holdsRecord
 returns-2 c =
-    let a = c .before .before .before .before .before .before .before .before .before .before .before .before .args in
-    let moved-location = c .before .before .before .before .before .before .moved-location in
-    let view = c .before .before .before .before .before .view in
-    let record-at-location = c .before .before .before .before .record-at-location in
-    let read = c .before .before .read in
-    let same = ap₂ (λ (v : SegmentView) (n : ℕ). recordIn v (a .arena .now) (a .starts .now) (a .lengths .now) (n + 1)) (view .ensures) (moved-location .ensures) in
-    c .same-record .ensures ∙ sym (ap (holdsRecord (a .key .now) (a .value .now) (a .source .«header_bytes») (a .arena .now)) (sym (record-at-location .ensures ∙ same) ∙ read .given .1))
+    let y = c .before .before in
+    rw (shown (y .before .before) ∙ y .read .given .1) (c .same-record .ensures)
 
 pub holds-record-spec : {M : Type 1} → statement M
 holds-record-spec =

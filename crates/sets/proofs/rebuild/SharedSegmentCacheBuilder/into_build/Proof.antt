@@ -1,38 +1,35 @@
 -- `into_build` meets its contract. Assumes nothing.
 use mathlib.Core.Path.{_≡_}
-use Prim.Native.Nat.{_+_, _*_, _<_}
+use Prim.Native.Nat.{_+_, _*_, _≤_, _<_}
 use native.Mathlib.Omega.{arith}
 use Rattle.sets.proofs.Finding.{few-buckets, few-words}
 use borrow.Author.Needs.{needs}
 use Rattle.sets.proofs.rebuild.SharedSegmentCacheBuilder.into_build.Statement.{statement}
 use Rattle.sets.proofs.rebuild.SharedSegmentCacheBuilder.into_build.Tie as tie
 
+-- buckets and filter words are few
+few : (c : tie.After-struct-known) → let b = c .before .before .args .self in (b .«bucket_count» ≤ 1048582) × (b .«filter_words» ≤ 4194304)
+few c =
+    let s = c .before .before in
+    let bits : s .args .self .config .«negative_filter_bits_per_entry» < 256 = omega (arith, c .struct-known .given) in
+    (few-buckets _ _ _ _ (s .pre .3), few-words _ _ _ _ (s .pre .3) bits)
+
 mul-index-bytes : tie.Need-mul-index-bytes
-mul-index-bytes c =
-    let a = c .before .before .args in
-    omega (arith, few-buckets (a .self .config) (a .self .«expected_entries») (a .self .«bucket_count») (a .self .«filter_words») (c .before .before .pre .3))
+mul-index-bytes c = omega (arith, few c .0)
 
 mul-index-bytes-2 : tie.Need-mul-index-bytes-2
-mul-index-bytes-2 c =
-    let a = c .before .before .before .args in
-    let bits : a .self .config .«negative_filter_bits_per_entry» < 256 = omega (arith, c .before .struct-known .given) in
-    omega (arith, few-words (a .self .config) (a .self .«expected_entries») (a .self .«bucket_count») (a .self .«filter_words») (c .before .before .before .pre .3) bits)
+mul-index-bytes-2 c = omega (arith, few (c .before) .1)
 
 add-index-bytes : tie.Need-add-index-bytes
-add-index-bytes c =
-    let a = c .before .before .before .args in
-    let bits : a .self .config .«negative_filter_bits_per_entry» < 256 = omega (arith, c .before .struct-known .given) in
-    omega (arith, few-buckets (a .self .config) (a .self .«expected_entries») (a .self .«bucket_count») (a .self .«filter_words») (c .before .before .before .pre .3), few-words (a .self .config) (a .self .«expected_entries») (a .self .«bucket_count») (a .self .«filter_words») (c .before .before .before .pre .3) bits)
+add-index-bytes c = omega (arith, few (c .before))
 
 into-cache-requires : tie.Need-into-cache-requires
 into-cache-requires c κs = search needs
 
 add-t4 : tie.Need-add-t4
 add-t4 c =
-    let a = c .before .before .before .before .before .args in
-    let struct-known = c .before .before .before .struct-known in
-    let bits : a .self .config .«negative_filter_bits_per_entry» < 256 = omega (arith, struct-known .given) in
-    omega (arith, few-buckets (a .self .config) (a .self .«expected_entries») (a .self .«bucket_count») (a .self .«filter_words») (c .before .before .before .before .before .pre .3), few-words (a .self .config) (a .self .«expected_entries») (a .self .«bucket_count») (a .self .«filter_words») (c .before .before .before .before .before .pre .3) bits, c .before .before .before .before .before .pre .2)
+    let b = c .before .before .before in
+    omega (arith, few b, b .before .before .pre .2)
 
 returns : tie.Need-returns
 returns c =

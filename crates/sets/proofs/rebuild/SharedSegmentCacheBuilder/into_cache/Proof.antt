@@ -21,9 +21,9 @@ sum-of-requires c κs = rw (c .retained .ensures) (c .before .before .before .be
 
 add-t9 : tie.Need-add-t9
 add-t9 c =
-    let a = c .before .before .before .before .before .before .before .before .args in
-    let counted = c .before .before .retained in
-    omega (arith, c .before .sum-of .ensures, ap (λ (n : ℕ). sumOf n (a .lengths .now)) (counted .ensures), c .before .before .before .before .before .before .before .before .pre .1, c .before .before .before .before .before .before .before .before .pre .2)
+    let s = c .before .before .before .before .before .before .before .before in
+    let same = ap (λ (n : ℕ). sumOf n (s .args .lengths .now)) (c .before .before .retained .ensures) in
+    omega (arith, c .before .sum-of .ensures, same, s .pre .1, s .pre .2)
 
 returns : tie.Need-returns
 returns c =

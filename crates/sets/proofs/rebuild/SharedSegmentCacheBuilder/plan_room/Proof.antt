@@ -1,17 +1,41 @@
--- `plan_room` meets its contract. Assumes nothing.
-use mathlib.Core.Path.{sym, ap, _∙_}
+-- `plan_room` meets its contract: after each question that is answered yes those after it are left. Assumes nothing.
+use mathlib.Core.Path.{_≡_, sym, ap, _∙_}
+use Prim.Native.Nat.{ℕ, _+_, _-_}
+use lib.Dec.{leb}
 use borrow.Author.Tests.{lt-ltb, le-ltb}
-use Rattle.sets.proofs.Said.{said-no, said-yes}
-use Prim.Native.Nat.{_≤_, _<_}
-use native.Mathlib.Omega.{arith}
-use Rattle.sets.specs.Kept.{retained}
-use Rattle.sets.specs.Rebuild.{copiedSize, rebuildFilled}
+use Rattle.index.specs.Build.{emptySlot, slotOutcome}
 use Rattle.sets.specs.RebuildPlans.{askRoom, planRoom}
-use Rattle.index.specs.Build.{slotOutcome}
+use Rattle.sets.specs.Rebuild.{copiedSize, rebuildFilled}
 use Rattle.sets.proofs.Appends.{room}
+use Rattle.sets.proofs.Decides.{plan}
+use Rattle.sets.proofs.Said.{Past, said-no, said-yes}
 use borrow.Author.Needs.{needs}
 use Rattle.sets.proofs.rebuild.SharedSegmentCacheBuilder.plan_room.Statement.{statement}
 use Rattle.sets.proofs.rebuild.SharedSegmentCacheBuilder.plan_room.Tie as tie
+
+-- the room, as the plan asks for it and as the definition does
+asks : (s : tie.Start) → let a = s .args in
+    leb (rebuildFilled (a .self) + copiedSize (a .self) (a .key-bytes) (a .value-bytes)) (a .arena-len)
+    ≡ leb (copiedSize (a .self) (a .key-bytes) (a .value-bytes)) (a .arena-len - rebuildFilled (a .self))
+asks s = let a = s .args in room (rebuildFilled (a .self)) (copiedSize (a .self) (a .key-bytes) (a .value-bytes)) (a .arena-len) (s .pre)
+
+-- the first n questions are answered yes
+abbrev Yes : ℕ → tie.Start → Type 0
+Yes n s =
+    let a = s .args in
+    Past (plan {A = ℕ × ℕ} (emptySlot (a .index .now) (a .self .«bucket_count») (a .hash) .value, a .expires-at)) n
+    (askRoom (a .self) (a .hash) (a .key-bytes) (a .value-bytes) (a .index .now) (a .arena-len))
+
+abbrev from : tie.Else1 → tie.Start
+from c = c .before .before .before .before .before
+
+yes1 : (c : tie.Else1) → Yes 1 (from c)
+unfolding askRoom
+yes1 c = rw (asks (from c) ∙ said-yes (c .before .record-fits .ensures) (c .if1 .left))
+
+yes2 : (c : tie.Else2) → Yes 2 (from (c .before .before .before))
+unfolding askRoom
+yes2 c = yes1 (c .before .before .before) ∙ rw (← c .before .retained .ensures, lt-ltb _ _ (c .if2 .left))
 
 add-rest : tie.Need-add-rest
 add-rest c = search needs
@@ -24,21 +48,14 @@ record-fits-requires c κs = search needs
 
 returns : tie.Need-returns
 unfolding planRoom askRoom
-returns c =
-    let a = c .before .before .before .before .before .args in
-    rw (room (rebuildFilled (a .self)) (copiedSize (a .self) (a .key-bytes) (a .value-bytes)) (a .arena-len) (c .before .before .before .before .before .pre) ∙ said-no (c .before .record-fits .ensures) (c .if1 .taken))
+returns c = rw (asks (c .before .before .before .before .before) ∙ said-no (c .before .record-fits .ensures) (c .if1 .taken))
 
 retained-requires : tie.Need-retained-requires
 retained-requires c κs = search needs
 
 returns-2 : tie.Need-returns-2
 unfolding planRoom askRoom
-returns-2 c =
-    let a = c .before .before .before .before .before .before .before .before .args in
-    let record-fits = c .before .before .before .before .record-fits in
-    let if1 = c .before .before .before .if1 in
-    let n : 256 ≤ retained (a .self .kept) = omega (arith, c .if2 .taken, c .before .retained .ensures) in
-    rw (room (rebuildFilled (a .self)) (copiedSize (a .self) (a .key-bytes) (a .value-bytes)) (a .arena-len) (c .before .before .before .before .before .before .before .before .pre) ∙ said-yes (record-fits .ensures) (if1 .left), le-ltb _ _ n)
+returns-2 c = sym (yes1 (c .before .before .before) ∙ rw (← c .before .retained .ensures, le-ltb _ _ (c .if2 .taken)))
 
 find-empty-build-slot-requires : tie.Need-find-empty-build-slot-requires
 find-empty-build-slot-requires c κs = search needs
@@ -55,38 +72,20 @@ enum-known-slot c = search needs
 returns-3 : tie.Need-returns-3
 unfolding planRoom askRoom
 returns-3 c =
-    let a = c .before .before .before .before .before .before .before .before .before .before .before .args in
-    let record-fits = c .before .before .before .before .before .before .before .record-fits in
-    let if1 = c .before .before .before .before .before .before .if1 in
-    let counted = c .before .before .before .before .retained in
-    let if2 = c .before .before .before .if2 in
-    let find-empty-build-slot = c .before .before .find-empty-build-slot in
-    let n : retained (a .self .kept) < 256 = omega (arith, if2 .left, counted .ensures) in
-    rw (room (rebuildFilled (a .self)) (copiedSize (a .self) (a .key-bytes) (a .value-bytes)) (a .arena-len) (c .before .before .before .before .before .before .before .before .before .before .before .pre) ∙ said-yes (record-fits .ensures) (if1 .left), lt-ltb _ _ n, sym (find-empty-build-slot .ensures) ∙ ap slotOutcome (c .enum-told .given .1))
+    let b = c .before .before in
+    sym (yes2 (b .before) ∙ rw (sym (b .find-empty-build-slot .ensures) ∙ ap slotOutcome (c .enum-told .given .1)))
 
 returns-4 : tie.Need-returns-4
 unfolding planRoom askRoom
 returns-4 c =
-    let a = c .before .before .before .before .before .before .before .before .before .before .before .args in
-    let record-fits = c .before .before .before .before .before .before .before .record-fits in
-    let if1 = c .before .before .before .before .before .before .if1 in
-    let counted = c .before .before .before .before .retained in
-    let if2 = c .before .before .before .if2 in
-    let find-empty-build-slot = c .before .before .find-empty-build-slot in
-    let n : retained (a .self .kept) < 256 = omega (arith, if2 .left, counted .ensures) in
-    rw (room (rebuildFilled (a .self)) (copiedSize (a .self) (a .key-bytes) (a .value-bytes)) (a .arena-len) (c .before .before .before .before .before .before .before .before .before .before .before .pre) ∙ said-yes (record-fits .ensures) (if1 .left), lt-ltb _ _ n, sym (find-empty-build-slot .ensures) ∙ ap slotOutcome (c .enum-told2 .given .1))
+    let b = c .before .before in
+    sym (yes2 (b .before) ∙ rw (sym (b .find-empty-build-slot .ensures) ∙ ap slotOutcome (c .enum-told2 .given .1)))
 
 returns-5 : tie.Need-returns-5
 unfolding planRoom askRoom
 returns-5 c =
-    let a = c .before .before .before .before .before .before .before .before .before .before .before .before .args in
-    let record-fits = c .before .before .before .before .before .before .before .before .record-fits in
-    let if1 = c .before .before .before .before .before .before .before .if1 in
-    let counted = c .before .before .before .before .before .retained in
-    let if2 = c .before .before .before .before .if2 in
-    let find-empty-build-slot = c .before .before .before .find-empty-build-slot in
-    let n : retained (a .self .kept) < 256 = omega (arith, if2 .left, counted .ensures) in
-    rw (room (rebuildFilled (a .self)) (copiedSize (a .self) (a .key-bytes) (a .value-bytes)) (a .arena-len) (c .before .before .before .before .before .before .before .before .before .before .before .before .pre) ∙ said-yes (record-fits .ensures) (if1 .left), lt-ltb _ _ n, sym (find-empty-build-slot .ensures) ∙ ap slotOutcome (c .before .slot .given .1))
+    let b = c .before .before .before in
+    sym (yes2 (b .before) ∙ rw (sym (b .find-empty-build-slot .ensures) ∙ ap slotOutcome (c .before .slot .given .1)))
 
 pub plan-room-spec : {M : Type 1} → statement M
 plan-room-spec =

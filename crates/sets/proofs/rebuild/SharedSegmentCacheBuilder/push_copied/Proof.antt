@@ -1,19 +1,41 @@
 -- `push_copied` meets its contract. Assumes nothing.
-use mathlib.Core.Path.{sym, ap, _∙_}
+use mathlib.Core.Path.{_≡_, sym, ap, _∙_}
+use Prim.Native.Nat.{ℕ, _≤_}
 use native.Mathlib.Omega.{arith}
 use lib.ListN.{length}
 use Rattle.hash_parts.specs.Error.{errorNumber}
 use Rattle.index.specs.declared.build.BuildSlot.the-variants.{Empty}
+use Rattle.index.specs.Build.{emptySlot}
 use Rattle.sets.specs.BuildPlans.{planned}
-use Rattle.sets.specs.Rebuild.{afterCopied}
+use Rattle.sets.specs.Questions.{firstNo}
+use Rattle.sets.specs.Rebuild.{afterCopied, askCopied, copiedDeadline}
+use Rattle.sets.specs.RebuildPlans.{planCopied}
 use Rattle.sets.proofs.Counts.{counts-records}
-use Rattle.sets.proofs.Decides.{decided-refused}
-use Rattle.sets.proofs.EmptySlots.{found-below}
 use Rattle.sets.proofs.RebuildAsked.{copied-asked}
-use Rattle.sets.proofs.RebuildSteps.{copied-placed, copied-refused}
+use Rattle.sets.proofs.EmptySlots.{found-inside}
+use Rattle.sets.proofs.Decides.{decided-refused, planned-no, planned-two}
 use borrow.Author.Needs.{needs}
 use Rattle.sets.proofs.rebuild.SharedSegmentCacheBuilder.push_copied.Statement.{statement}
 use Rattle.sets.proofs.rebuild.SharedSegmentCacheBuilder.push_copied.Tie as tie
+
+abbrev from : tie.After-plan-copied → tie.Start
+from c = c .before .before .before .before .before .before .before .before .before
+
+-- what its questions come to
+abbrev asks : tie.Start → ℕ
+asks s =
+    let a = s .args in
+    firstNo
+    (askCopied (a .self) (a .hash) (length (a .key .now)) (length (a .value .now)) (a .ttl) (a .index .now) (length (a .filter .now)) (a .starts .now) (a .lengths .now)
+    (length (a .arena .now)))
+
+-- its plan has a place for the record
+placed : (c : tie.After-slot) → let s = from (c .before .before) in let a = s .args in
+    (asks s ≡ 0)
+    × (emptySlot (a .index .now) (a .self .«bucket_count») (a .hash) .value ≡ c .slot .given .0 .0)
+    × (copiedDeadline (a .self) (a .ttl) .value ≡ c .slot .given .0 .1 .0)
+unfolding planCopied
+placed c = planned-two _ _ _ _ _ (sym (c .before .before .plan-copied .ensures) ∙ ap planned (c .slot .given .1))
 
 plan-copied-requires : tie.Need-plan-copied-requires
 plan-copied-requires c κs = search needs
@@ -26,26 +48,27 @@ enum-known-slot c = search needs
 
 copied-at-requires : tie.Need-copied-at-requires
 copied-at-requires c κs =
-    let a = c .before .before .before .before .before .before .before .before .before .before .before .before .before .before .before .args in
-    let plan-copied = c .before .before .before .before .before .before .plan-copied in
-    let slot = c .before .before .before .before .slot in
-    let p = copied-placed (a .self) (a .hash) (length (a .key .now)) (length (a .value .now)) (a .ttl) (a .index .now) (length (a .filter .now)) (a .starts .now) (a .lengths .now) (length (a .arena .now)) (slot .given .0 .0) (slot .given .0 .1 .0) (sym (plan-copied .ensures) ∙ ap planned (slot .given .1)) in
-    let q = copied-asked (a .self) (a .hash) (length (a .key .now)) (length (a .value .now)) (a .ttl) (a .index .now) (length (a .filter .now)) (a .starts .now) (a .lengths .now) (length (a .arena .now)) (p .0) in
+    let b = c .before .before .before .before in
+    let s = from (b .before .before) in
+    let a = s .args in
+    let p = placed b in
+    let q =
+    copied-asked (a .self) (a .hash) (length (a .key .now)) (length (a .value .now)) (a .ttl) (a .index .now) (length (a .filter .now)) (a .starts .now) (a .lengths .now)
+    (length (a .arena .now)) (p .0) in
     let n = q .areas .numbers in
-    let r = counts-records _ _ _ _ (n .counts) in
-    let s = found-below _ (a .index .now) (a .self .«bucket_count») (a .hash) (slot .given .0 .0) (c .before .before .before .before .before .before .before .before .before .before .before .before .before .before .before .fits .hash .fits) (q .place ∙ ap Empty (p .1)) in
-    (q .fits, q .areas .arena-short, q .room, omega (arith, q .areas .index-holds, s), q .announced, omega (arith, n .key-bytes, n .announced, r), omega (arith, n .value-bytes, n .announced, r), omega (arith, n .header-bytes, n .announced, r))
+    let few : a .self .«inserted_entries» ≤ 1_048_576 = omega (arith, n .announced, counts-records _ _ _ _ (n .counts)) in
+    let at = found-inside _ (a .index .now) (a .self .«bucket_count») (a .hash) _ (s .fits .hash .fits) (q .areas .index-holds) (q .place ∙ ap Empty (p .1)) in
+    (q .fits, q .areas .arena-short, q .room, at, q .announced, omega (arith, n .key-bytes), omega (arith, n .value-bytes), omega (arith, n .header-bytes))
 
 same-length : tie.Need-same-length
 same-length c = search needs
 
 returns : tie.Need-returns
-unfolding afterCopied
+unfolding afterCopied planCopied
 returns c =
-    let a = c .before .before .before .before .before .before .before .before .before .before .before .before .args in
-    let plan-copied = c .before .before .before .plan-copied in
-    let p = copied-refused (a .self) (a .hash) (length (a .key .now)) (length (a .value .now)) (a .ttl) (a .index .now) (length (a .filter .now)) (a .starts .now) (a .lengths .now) (length (a .arena .now)) (errorNumber (c .before .refusal .given .0 .0)) (sym (plan-copied .ensures) ∙ ap planned (c .before .refusal .given .1)) in
-    rw p (sym (decided-refused (c .before .refusal .given .0 .0) _ _))
+    let b = c .before .before .before in
+    let told = c .before .refusal .given in
+    rw (planned-no (asks (from b)) (errorNumber (told .0 .0)) _ (sym (b .plan-copied .ensures) ∙ ap planned (told .1))) (sym (decided-refused (told .0 .0) _ _))
 
 same-length-2 : tie.Need-same-length-2
 same-length-2 c = search needs
@@ -59,12 +82,9 @@ same-length-4 c = search needs
 returns-2 : tie.Need-returns-2
 unfolding afterCopied
 returns-2 c =
-    let a = c .before .before .before .before .before .before .before .before .before .before .before .before .before .before .before .before .before .before .before .before .before .before .args in
-    let plan-copied = c .before .before .before .before .before .before .before .before .before .before .before .before .before .plan-copied in
-    let slot = c .before .before .before .before .before .before .before .before .before .before .before .slot in
-    let copied-at = c .before .before .before .before .before .before .copied-at in
-    let p = copied-placed (a .self) (a .hash) (length (a .key .now)) (length (a .value .now)) (a .ttl) (a .index .now) (length (a .filter .now)) (a .starts .now) (a .lengths .now) (length (a .arena .now)) (slot .given .0 .0) (slot .given .0 .1 .0) (sym (plan-copied .ensures) ∙ ap planned (slot .given .1)) in
-    rw (p .0, p .1, p .2) (copied-at .ensures)
+    let b = c .before .before .before .before .before .before in
+    let p = placed (b .before .before .before .before .before) in
+    rw (p .0, p .1, p .2) (b .copied-at .ensures)
 
 pub push-copied-spec : {M : Type 1} → statement M
 push-copied-spec =

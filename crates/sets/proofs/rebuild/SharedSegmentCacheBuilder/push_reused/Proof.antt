@@ -1,21 +1,39 @@
 -- `push_reused` meets its contract. Assumes nothing.
-use mathlib.Core.Path.{sym, ap, _∙_}
-use Prim.Native.Nat.{_+_}
+use mathlib.Core.Path.{_≡_, sym, ap, _∙_}
+use Prim.Native.Nat.{_+_, ℕ, _≤_}
 use native.Mathlib.Omega.{arith}
 use lib.ListN.{length}
 use Rattle.hash_parts.specs.Error.{errorNumber}
 use Rattle.index.specs.declared.build.BuildSlot.the-variants.{Empty}
-use Rattle.sets.specs.Rebuild.{afterReused, keptView, movedLocation}
-use Rattle.sets.specs.RebuildPlans.{slotPlanned}
+use Rattle.index.specs.Build.{emptySlot}
+use Rattle.sets.specs.Questions.{firstNo}
+use Rattle.sets.specs.Rebuild.{afterReused, askReused, keptView, movedLocation}
+use Rattle.sets.specs.RebuildPlans.{planReused, slotPlanned}
 use Rattle.sets.proofs.Counts.{counts-records}
-use Rattle.sets.proofs.Decides.{decided-refused}
-use Rattle.sets.proofs.EmptySlots.{found-below}
 use Rattle.sets.proofs.ReadInside.{reused-record}
 use Rattle.sets.proofs.RebuildAsked.{reused-asked}
-use Rattle.sets.proofs.RebuildSteps.{reused-placed, reused-refused}
+use Rattle.sets.proofs.EmptySlots.{found-inside}
+use Rattle.sets.proofs.Decides.{decided-refused, planned-no, planned-yes}
 use borrow.Author.Needs.{needs}
 use Rattle.sets.proofs.rebuild.SharedSegmentCacheBuilder.push_reused.Statement.{statement}
 use Rattle.sets.proofs.rebuild.SharedSegmentCacheBuilder.push_reused.Tie as tie
+
+abbrev from : tie.After-plan-reused → tie.Start
+from c = c .before .before .before .before .before .before .before .before .before
+
+-- what its questions come to
+abbrev asks : tie.Start → ℕ
+asks s =
+    let a = s .args in
+    firstNo
+    (askReused (a .self) (a .hash) (a .key .now) (a .value .now) (a .source) (a .index .now) (length (a .filter .now)) (a .starts .now) (a .lengths .now) (a .arena .now))
+
+-- its plan has a place for the record
+placed : (c : tie.After-slot) → let s = from (c .before .before) in let a = s .args in
+    (asks s ≡ 0)
+    × (emptySlot (a .index .now) (a .self .«bucket_count») (a .hash) .value ≡ c .slot .given .0 .0)
+unfolding planReused
+placed c = planned-yes _ _ _ (sym (c .before .before .plan-reused .ensures) ∙ ap slotPlanned (c .slot .given .1))
 
 plan-reused-requires : tie.Need-plan-reused-requires
 plan-reused-requires c κs = search needs
@@ -28,28 +46,31 @@ enum-known-slot c = search needs
 
 reused-at-requires : tie.Need-reused-at-requires
 reused-at-requires c κs =
-    let a = c .before .before .before .before .before .before .before .before .before .before .before .before .before .before .args in
-    let plan-reused = c .before .before .before .before .before .plan-reused in
-    let slot = c .before .before .before .slot in
-    let p = reused-placed (a .self) (a .hash) (a .key .now) (a .value .now) (a .source) (a .index .now) (length (a .filter .now)) (a .starts .now) (a .lengths .now) (a .arena .now) (slot .given .0 .0) (sym (plan-reused .ensures) ∙ ap slotPlanned (slot .given .1)) in
-    let q = reused-asked (a .self) (a .hash) (a .key .now) (a .value .now) (a .source) (a .index .now) (length (a .filter .now)) (a .starts .now) (a .lengths .now) (a .arena .now) (p .0) in
+    let b = c .before .before .before in
+    let s = from (b .before .before) in
+    let a = s .args in
+    let p = placed b in
+    let q =
+    reused-asked (a .self) (a .hash) (a .key .now) (a .value .now) (a .source) (a .index .now) (length (a .filter .now)) (a .starts .now) (a .lengths .now) (a .arena .now)
+    (p .0) in
     let n = q .areas .numbers in
-    let r = counts-records _ _ _ _ (n .counts) in
-    let s = found-below _ (a .index .now) (a .self .«bucket_count») (a .hash) (slot .given .0 .0) (c .before .before .before .before .before .before .before .before .before .before .before .before .before .before .fits .hash .fits) (q .place ∙ ap Empty (p .1)) in
-    let shown = reused-record (a .key .now) (a .value .now) (a .source .«header_bytes») (a .arena .now) (keptView (a .self)) (a .starts .now) (a .lengths .now) (movedLocation (a .self) (a .source .location) + 1) (q .holds) .3 in
+    let few : a .self .«inserted_entries» ≤ 1_048_576 = omega (arith, n .announced, counts-records _ _ _ _ (n .counts)) in
+    let at = found-inside _ (a .index .now) (a .self .«bucket_count») (a .hash) _ (s .fits .hash .fits) (q .areas .index-holds) (q .place ∙ ap Empty (p .1)) in
+    let shown =
+    reused-record (a .key .now) (a .value .now) (a .source .«header_bytes») (a .arena .now) (keptView (a .self)) (a .starts .now) (a .lengths .now)
+    (movedLocation (a .self) (a .source .location) + 1) (q .holds) .3 in
     let short = q .areas .arena-short in
-    (q .kept, omega (arith, q .areas .index-holds, s), q .announced, omega (arith, n .key-bytes, n .announced, r, shown, short), omega (arith, n .value-bytes, n .announced, r, shown, short), omega (arith, n .header-bytes, n .announced, r, shown, short))
+    (q .kept, at, q .announced, omega (arith, n .key-bytes), omega (arith, n .value-bytes), omega (arith, n .header-bytes))
 
 same-length : tie.Need-same-length
 same-length c = search needs
 
 returns : tie.Need-returns
-unfolding afterReused
+unfolding afterReused planReused
 returns c =
-    let a = c .before .before .before .before .before .before .before .before .before .before .before .before .args in
-    let plan-reused = c .before .before .before .plan-reused in
-    let p = reused-refused (a .self) (a .hash) (a .key .now) (a .value .now) (a .source) (a .index .now) (length (a .filter .now)) (a .starts .now) (a .lengths .now) (a .arena .now) (errorNumber (c .before .refusal .given .0 .0)) (sym (plan-reused .ensures) ∙ ap slotPlanned (c .before .refusal .given .1)) in
-    rw p (sym (decided-refused (c .before .refusal .given .0 .0) _ _))
+    let b = c .before .before .before in
+    let told = c .before .refusal .given in
+    rw (planned-no (asks (from b)) (errorNumber (told .0 .0)) _ (sym (b .plan-reused .ensures) ∙ ap slotPlanned (told .1))) (sym (decided-refused (told .0 .0) _ _))
 
 same-length-2 : tie.Need-same-length-2
 same-length-2 c = search needs
@@ -60,12 +81,9 @@ same-length-3 c = search needs
 returns-2 : tie.Need-returns-2
 unfolding afterReused
 returns-2 c =
-    let a = c .before .before .before .before .before .before .before .before .before .before .before .before .before .before .before .before .before .before .before .args in
-    let plan-reused = c .before .before .before .before .before .before .before .before .before .before .plan-reused in
-    let slot = c .before .before .before .before .before .before .before .before .slot in
-    let reused-at = c .before .before .before .before .reused-at in
-    let p = reused-placed (a .self) (a .hash) (a .key .now) (a .value .now) (a .source) (a .index .now) (length (a .filter .now)) (a .starts .now) (a .lengths .now) (a .arena .now) (slot .given .0 .0) (sym (plan-reused .ensures) ∙ ap slotPlanned (slot .given .1)) in
-    rw (p .0, p .1) (reused-at .ensures)
+    let b = c .before .before .before .before in
+    let p = placed (b .before .before .before .before) in
+    rw (p .0, p .1) (b .reused-at .ensures)
 
 pub push-reused-spec : {M : Type 1} → statement M
 push-reused-spec =

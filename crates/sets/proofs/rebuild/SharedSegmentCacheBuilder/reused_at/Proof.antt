@@ -22,10 +22,11 @@ same-length-2 c = search needs
 
 returns : tie.Need-returns
 returns c =
-    let a = c .before .before .before .before .before .before .before .before .before .before .before .args in
-    let moved-location = c .before .before .before .before .before .before .before .before .moved-location in
-    let push-index = c .before .before .before .before .before .push-index in
-    reused-left (a .slot) (a .self) (a .hash) (a .key-bytes) (a .value-bytes) (a .source) (a .index .now) (a .filter .now) (c .reused-grown .result) (moved-location .result) _ _ (c .reused-grown .ensures) (moved-location .ensures) (push-index .ensures .0) (push-index .ensures .1)
+    let p = c .before .before .before .before .before in
+    let m = p .before .before .before in
+    let a = m .before .before .before .args in
+    reused-left (a .slot) (a .self) (a .hash) (a .key-bytes) (a .value-bytes) (a .source) (a .index .now) (a .filter .now) (c .reused-grown .result) (m .moved-location .result) _ _
+    (c .reused-grown .ensures) (m .moved-location .ensures) (p .push-index .ensures .0) (p .push-index .ensures .1)
 
 pub reused-at-spec : {M : Type 1} → statement M
 reused-at-spec =

@@ -10,11 +10,27 @@ use Rattle.sets.specs.Rebuild.{afterRebuildOpen}
 use Rattle.sets.specs.declared.rebuild.SharedSegmentCacheBuilder.{SharedSegmentCacheBuilder}
 use Rattle.sets.proofs.Counts.{counts-records}
 use Rattle.sets.proofs.Decides.{decided-refused}
-use Rattle.sets.proofs.RebuildAsked.{reopen-asked}
 use Rattle.sets.proofs.RebuildSteps.{reopen-left}
+use Rattle.sets.proofs.RebuildAsked.{ReopenAsked, reopen-asked}
 use borrow.Author.Needs.{needs}
 use Rattle.sets.proofs.rebuild.SharedSegmentCacheBuilder.try_new.Statement.{statement}
 use Rattle.sets.proofs.rebuild.SharedSegmentCacheBuilder.try_new.Tie as tie
+
+abbrev from : tie.After-enum-told → tie.Start
+from c = c .before .before .before .before .before .before .before .before .before .before .before
+
+abbrev told : tie.After-keep-words-arg → tie.After-enum-told
+told c = c .before .before .before .before .before .before .before .before .before .before .before
+
+-- where no question is answered no, what they tell
+asked : (c : tie.After-enum-told) → let a = from c .args in
+    ReopenAsked (a .source) (a .source-starts .now) (a .source-lengths .now) (length (a .arena .now)) (a .entry-count) (a .copied-record-capacity) (a .used-source-segments .now)
+    (length (a .index .now)) (length (a .filter .now)) (length (a .starts .now)) (length (a .lengths .now))
+asked c =
+    let a = from c .args in
+    reopen-asked (a .source) (a .source-starts .now) (a .source-lengths .now) (length (a .arena .now)) (a .entry-count) (a .copied-record-capacity) (a .used-source-segments .now)
+    (length (a .index .now)) (length (a .filter .now)) (length (a .starts .now)) (length (a .lengths .now))
+    (sym (c .before .before .check-rebuild-open .ensures) ∙ ap checkNumber (c .enum-told .given .1))
 
 check-rebuild-open-requires : tie.Need-check-rebuild-open-requires
 check-rebuild-open-requires c κs = search needs
@@ -25,28 +41,23 @@ enum-known-refusal c = search needs
 returns : tie.Need-returns
 unfolding afterRebuildOpen
 returns c =
-    let check-rebuild-open = c .before .before .before .check-rebuild-open in
-    rw (sym (check-rebuild-open .ensures) ∙ ap checkNumber (c .before .refusal .given .1)) (sym (decided-refused (c .before .refusal .given .0 .0) _ _))
+    let told = c .before .refusal .given in
+    rw (sym (c .before .before .before .check-rebuild-open .ensures) ∙ ap checkNumber (told .1)) (sym (decided-refused (told .0 .0) _ _))
 
 enum-told : tie.Need-enum-told
 enum-told c = search needs
 
 opened-rebuild-requires : tie.Need-opened-rebuild-requires
-opened-rebuild-requires c κs =
-    let a = c .before .before .before .before .before .before .before .before .before .before .before .args in
-    let check-rebuild-open = c .before .before .check-rebuild-open in
-    let q = reopen-asked (a .source) (a .source-starts .now) (a .source-lengths .now) (length (a .arena .now)) (a .entry-count) (a .copied-record-capacity) (a .used-source-segments .now) (length (a .index .now)) (length (a .filter .now)) (length (a .starts .now)) (length (a .lengths .now)) (sym (check-rebuild-open .ensures) ∙ ap checkNumber (c .enum-told .given .1)) in
-    counts-records _ _ _ _ (q .counts)
+opened-rebuild-requires c κs = counts-records _ _ _ _ (asked c .counts)
 
 mul-clear-words : tie.Need-mul-clear-words
 mul-clear-words c =
-    let a = c .before .before .before .before .before .before .before .before .before .before .before .before .before .before .args in
-    let check-rebuild-open = c .before .before .before .before .before .check-rebuild-open in
-    let enum-told = c .before .before .before .enum-told in
-    let opened-rebuild = c .before .before .opened-rebuild in
-    let q = reopen-asked (a .source) (a .source-starts .now) (a .source-lengths .now) (length (a .arena .now)) (a .entry-count) (a .copied-record-capacity) (a .used-source-segments .now) (length (a .index .now)) (length (a .filter .now)) (length (a .starts .now)) (length (a .lengths .now)) (sym (check-rebuild-open .ensures) ∙ ap checkNumber (enum-told .given .1)) in
-    let n : opened-rebuild .result .«bucket_count» ≡ bucketsIn (a .source .config) (a .entry-count) = ap (λ (b : SharedSegmentCacheBuilder). b .«bucket_count») (opened-rebuild .ensures) in
-    omega (arith, n, q .index-holds, c .before .before .before .before .before .before .before .before .before .before .before .before .before .before .good .1 .1 .1 .1 .1 .1 .1 .1 .0 .1)
+    let o = c .before .before in
+    let s = from (o .before) in
+    let a = s .args in
+    let n : o .opened-rebuild .result .«bucket_count» ≡ bucketsIn (a .source .config) (a .entry-count) =
+    ap (λ (b : SharedSegmentCacheBuilder). b .«bucket_count») (o .opened-rebuild .ensures) in
+    omega (arith, n, asked (o .before) .index-holds, s .good .1 .1 .1 .1 .1 .1 .1 .1 .0 .1)
 
 clear-words-requires : tie.Need-clear-words-requires
 clear-words-requires c κs = search needs
@@ -56,18 +67,12 @@ clear-words-requires-2 c κs = search needs
 
 keep-words-requires : tie.Need-keep-words-requires
 keep-words-requires c κs =
-    let a = c .before .before .before .before .before .before .before .before .before .before .before .before .before .before .before .before .before .before .before .before .before .before .args in
-    let check-rebuild-open = c .before .before .before .before .before .before .before .before .before .before .before .before .before .check-rebuild-open in
-    let enum-told = c .before .before .before .before .before .before .before .before .before .before .before .enum-told in
-    let q = reopen-asked (a .source) (a .source-starts .now) (a .source-lengths .now) (length (a .arena .now)) (a .entry-count) (a .copied-record-capacity) (a .used-source-segments .now) (length (a .index .now)) (length (a .filter .now)) (length (a .starts .now)) (length (a .lengths .now)) (sym (check-rebuild-open .ensures) ∙ ap checkNumber (enum-told .given .1)) in
+    let q = asked (told c) in
     (omega (arith, q .same-count, q .areas .few, q .areas .starts-hold), omega (arith, q .same-count, q .areas .few), q .starts-hold)
 
 keep-words-requires-2 : tie.Need-keep-words-requires-2
 keep-words-requires-2 c κs =
-    let a = c .before .before .before .before .before .before .before .before .before .before .before .before .before .before .before .before .before .before .before .before .before .before .before .before .before .before .args in
-    let check-rebuild-open = c .before .before .before .before .before .before .before .before .before .before .before .before .before .before .before .before .before .check-rebuild-open in
-    let enum-told = c .before .before .before .before .before .before .before .before .before .before .before .before .before .before .before .enum-told in
-    let q = reopen-asked (a .source) (a .source-starts .now) (a .source-lengths .now) (length (a .arena .now)) (a .entry-count) (a .copied-record-capacity) (a .used-source-segments .now) (length (a .index .now)) (length (a .filter .now)) (length (a .starts .now)) (length (a .lengths .now)) (sym (check-rebuild-open .ensures) ∙ ap checkNumber (enum-told .given .1)) in
+    let q = asked (told (c .before .before .before .before)) in
     (omega (arith, q .same-count, q .areas .few, q .areas .lengths-hold), omega (arith, q .same-count, q .areas .few), q .lengths-hold)
 
 same-length : tie.Need-same-length
@@ -85,18 +90,18 @@ same-length-4 c = search needs
 returns-2 : tie.Need-returns-2
 unfolding afterRebuildOpen
 returns-2 c =
-    let a = c .before .before .before .before .before .before .before .before .before .before .before .before .before .before .before .before .before .before .before .before .before .before .before .before .before .before .before .before .before .args in
-    let check-rebuild-open = c .before .before .before .before .before .before .before .before .before .before .before .before .before .before .before .before .before .before .before .before .check-rebuild-open in
-    let enum-told = c .before .before .before .before .before .before .before .before .before .before .before .before .before .before .before .before .before .before .enum-told in
-    let opened-rebuild = c .before .before .before .before .before .before .before .before .before .before .before .before .before .before .before .before .before .opened-rebuild in
-    let clear-words = c .before .before .before .before .before .before .before .before .before .before .before .before .before .before .clear-words in
-    let clear-words2 = c .before .before .before .before .before .before .before .before .before .before .clear-words2 in
-    let keep-words = c .before .before .before .before .before .before .keep-words in
-    let keep-words2 = c .before .before .keep-words2 in
-    rw (sym (check-rebuild-open .ensures) ∙ ap checkNumber (enum-told .given .1))
+    let y = c .before .before in
+    let x = y .before .before .before .before in
+    let w = x .before .before .before .before in
+    let v = w .before .before .before .before in
+    let o = v .before .before .before in
+    let b = o .before in
+    let a = from b .args in
+    rw (sym (b .before .before .check-rebuild-open .ensures) ∙ ap checkNumber (b .enum-told .given .1))
     (reopen-left (a .source) (a .entry-count) (a .used-source-segments .now) (a .source-now-tick) (a .index .now) (a .filter .now) _ _
-    (over (padded (chosen (a .used-source-segments .now) (a .source-starts .now))) (a .starts .now)) (over (padded (chosen (a .used-source-segments .now) (a .source-lengths .now))) (a .lengths .now)) _ _ _
-    (opened-rebuild .ensures) (clear-words .ensures) (clear-words2 .ensures) (keep-words .ensures) (keep-words2 .ensures))
+    (over (padded (chosen (a .used-source-segments .now) (a .source-starts .now))) (a .starts .now))
+    (over (padded (chosen (a .used-source-segments .now) (a .source-lengths .now))) (a .lengths .now)) _ _ _
+    (o .opened-rebuild .ensures) (v .clear-words .ensures) (w .clear-words2 .ensures) (x .keep-words .ensures) (y .keep-words2 .ensures))
 
 pub try-new-spec : {M : Type 1} → statement M
 try-new-spec =
