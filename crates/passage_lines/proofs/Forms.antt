@@ -46,9 +46,9 @@ module _ {A : Type 0} (kind : Field → Option A) (line : List ℕ) (at : ℕ) w
       go [] q = refl
       go (f ∷ fs) q = at-first f fs (kind f) q
 
-  pub next-some : (v : A) (n : ℕ) → fieldAt kind line at ≡ got v n → (form : A → List Field → Command) → next kind form (fieldsAt line at) ≡ form v (fieldsAt line n)
+  pub next-some : {v : A} {n : ℕ} → fieldAt kind line at ≡ got v n → (form : A → List Field → Command) → next kind form (fieldsAt line at) ≡ form v (fieldsAt line n)
   unfolding next
-  next-some v n e form = go (decLe at (length line))
+  next-some {v} {n} e form = go (decLe at (length line))
     where
       at-first : (o : Option A) → gotBefore (firstFrom 32 line at + 1) o ≡ got v n → given o (λ v. form v (fieldsAt line (firstFrom 32 line at + 1))) ≡ form v (fieldsAt line n)
       at-first none q = absurd (let z : _≡_ {A = ℕ} 0 1 = cc in omega arith)
@@ -73,9 +73,9 @@ module _ (line : List ℕ) (at : ℕ) (c : Command) where
   done-more h = rw (fields-at line at h)
 
 -- a number that is read is at most the limit
-pub field-limit : (base max : ℕ) (line : List ℕ) (at v n : ℕ) → fieldAt (number base max) line at ≡ got v n → v ≤ max
+pub field-limit : (base max : ℕ) (line : List ℕ) (at : ℕ) {v n : ℕ} → fieldAt (number base max) line at ≡ got v n → v ≤ max
 unfolding fieldAt
-field-limit base max line at v n e = go (fieldsAt line at) e
+field-limit base max line at {v} {n} e = go (fieldsAt line at) e
   where
     at-first : (text : List ℕ) (m : ℕ) (o : Option ℕ) → numberIn base max text ≡ o → gotBefore m o ≡ got v n → v ≤ max
     at-first text m none q r = absurd (let z : _≡_ {A = ℕ} 0 1 = cc in omega arith)
