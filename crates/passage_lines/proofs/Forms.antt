@@ -1,5 +1,5 @@
 -- Laws of the forms of a line: a field at a position, and what the form says of the fields after it. Assumes nothing.
-use mathlib.Core.Path.{_≡_, refl, sym, ap₂, _∙_}
+use mathlib.Core.Path.{_≡_, refl, sym, ap, ap₂, _∙_}
 use mathlib.Core.List.{List, [], _∷_}
 use mathlib.Core.Option.{Option, none, some}
 use Prim.Native.Nat.{ℕ, _+_, _-_, _≤_, _<_}
@@ -31,6 +31,9 @@ module _ {A : Type 0} (kind : Field → Option A) (line : List ℕ) (at : ℕ) w
       let n : e - at ≤ length (drop at line) = omega (arith, length-drop at line) in
       let l : at + length (take (e - at) (drop at line)) + 1 ≡ e + 1 = omega (arith, length-take-le (e - at) (drop at line) n) in
       rw (fields-at line at h, ← q, l)
+
+  pub field-got : {o : Option A} (e : ℕ) → at ≤ length line → e ≡ firstFrom 32 line at → kind (field at (take (e - at) (drop at line))) ≡ o → gotBefore (e + 1) o ≡ fieldAt kind line at
+  field-got e h q g = sym (field-is e h q ∙ ap (gotBefore (e + 1)) g)
 
   -- ---- the form of the fields from a position on
 
