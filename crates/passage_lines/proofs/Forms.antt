@@ -32,7 +32,8 @@ module _ {A : Type 0} (kind : Field → Option A) (line : List ℕ) (at : ℕ) w
       let l : at + length (take (e - at) (drop at line)) + 1 ≡ e + 1 = omega (arith, length-take-le (e - at) (drop at line) n) in
       rw (fields-at line at h, ← q, l)
 
-  pub field-got : {o : Option A} (e : ℕ) → at ≤ length line → e ≡ firstFrom 32 line at → kind (field at (take (e - at) (drop at line))) ≡ o → gotBefore (e + 1) o ≡ fieldAt kind line at
+  pub field-got : {o : Option A} (e : ℕ) → at ≤ length line → e ≡ firstFrom 32 line at
+      → kind (field at (take (e - at) (drop at line))) ≡ o → gotBefore (e + 1) o ≡ fieldAt kind line at
   field-got e h q g = sym (field-is e h q ∙ ap (gotBefore (e + 1)) g)
 
   -- ---- the form of the fields from a position on

@@ -25,7 +25,8 @@ appended-parts at s area out n e h =
     (ap (λ (o : Output). o .at) q, ap (λ (o : Output). o .area) q)
 
 -- a text more
-pub next-text : {whole rest area out out′ : List ℕ} {at n : ℕ} (s : List ℕ) → Writing whole (s ++ rest) area out at → output n out′ ≡ appended at s out → Writing whole rest area out′ n
+pub next-text : {whole rest area out out′ : List ℕ} {at n : ℕ} (s : List ℕ) → Writing whole (s ++ rest) area out at
+    → output n out′ ≡ appended at s out → Writing whole rest area out′ n
 next-text {rest = rest} {out = out} {out′ = out′} {at = at} {n = n} s w q =
     let p = appended-parts at s out out′ n q (fits s rest w refl) in
     next s rest out′ n w refl (p .0) (p .1)

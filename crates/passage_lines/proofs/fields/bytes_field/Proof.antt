@@ -33,14 +33,14 @@ enum-told c = search needs
 
 returns-2 : tie.Need-returns-2
 returns-2 c = let e = c .before .before .before .before in
-    field-got bytes _ _ (e .find-byte .result) (e .before .if1 .left) (e .find-byte .ensures .0) (ap (spanOf _) (sym (c .before .before .hex-length .ensures) ∙ ap numberGiven (c .enum-told .given .1)))
+    field-got bytes _ _ _ (e .before .if1 .left) (e .find-byte .ensures .0) (ap (spanOf _) (sym (c .before .before .hex-length .ensures) ∙ ap numberGiven (c .enum-told .given .1)))
 
 add-t12 : tie.Need-add-t12
 add-t12 c = search needs
 
 returns-3 : tie.Need-returns-3
 returns-3 c = let e = c .before .before .before .before .before in
-    field-got bytes _ _ (e .find-byte .result) (e .before .if1 .left) (e .find-byte .ensures .0) (ap (spanOf _) (sym (c .before .before .before .hex-length .ensures) ∙ ap numberGiven (c .before .len .given .1)))
+    field-got bytes _ _ _ (e .before .if1 .left) (e .find-byte .ensures .0) (ap (spanOf _) (sym (c .before .before .before .hex-length .ensures) ∙ ap numberGiven (c .before .len .given .1)))
 
 pub bytes-field-spec : {M : Type 1} → statement M
 bytes-field-spec =

@@ -33,14 +33,14 @@ enum-told c = search needs
 
 returns-2 : tie.Need-returns-2
 returns-2 c = let e = c .before .before .before .before in
-    field-got (number _ _) _ _ (e .find-byte .result) (e .before .if1 .left) (e .find-byte .ensures .0) (sym (c .before .before .parse-number .ensures) ∙ ap numberGiven (c .enum-told .given .1))
+    field-got (number _ _) _ _ _ (e .before .if1 .left) (e .find-byte .ensures .0) (sym (c .before .before .parse-number .ensures) ∙ ap numberGiven (c .enum-told .given .1))
 
 add-t7 : tie.Need-add-t7
 add-t7 c = search needs
 
 returns-3 : tie.Need-returns-3
 returns-3 c = let e = c .before .before .before .before .before in
-    field-got (number _ _) _ _ (e .find-byte .result) (e .before .if1 .left) (e .find-byte .ensures .0) (sym (c .before .before .before .parse-number .ensures) ∙ ap numberGiven (c .before .value .given .1))
+    field-got (number _ _) _ _ _ (e .before .if1 .left) (e .find-byte .ensures .0) (sym (c .before .before .before .parse-number .ensures) ∙ ap numberGiven (c .before .value .given .1))
 
 pub number-field-spec : {M : Type 1} → statement M
 number-field-spec =

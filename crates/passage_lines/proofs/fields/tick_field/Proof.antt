@@ -33,14 +33,14 @@ enum-told c = search needs
 
 returns-2 : tie.Need-returns-2
 returns-2 c = let e = c .before .before .before .before in
-    field-got tickLength _ _ (e .find-byte .result) (e .before .if1 .left) (e .find-byte .ensures .0) (sym (c .before .before .parse-tick-length .ensures) ∙ ap tickLengthGiven (c .enum-told .given .1))
+    field-got tickLength _ _ _ (e .before .if1 .left) (e .find-byte .ensures .0) (sym (c .before .before .parse-tick-length .ensures) ∙ ap tickLengthGiven (c .enum-told .given .1))
 
 add-t5 : tie.Need-add-t5
 add-t5 c = search needs
 
 returns-3 : tie.Need-returns-3
 returns-3 c = let e = c .before .before .before .before .before in
-    field-got tickLength _ _ (e .find-byte .result) (e .before .if1 .left) (e .find-byte .ensures .0) (sym (c .before .before .before .parse-tick-length .ensures) ∙ ap tickLengthGiven (c .before .expiry .given .1))
+    field-got tickLength _ _ _ (e .before .if1 .left) (e .find-byte .ensures .0) (sym (c .before .before .before .parse-tick-length .ensures) ∙ ap tickLengthGiven (c .before .expiry .given .1))
 
 pub tick-field-spec : {M : Type 1} → statement M
 tick-field-spec =

@@ -1,6 +1,5 @@
 -- `write_value` meets its contract: the pieces are written one after the other. Assumes nothing.
 use mathlib.Core.Path.{refl}
-use mathlib.Core.List.{[], _++_}
 use Rattle.records.proofs.Area.{begin, complete}
 use Rattle.passage_lines.specs.Ascii.{ascii}
 use Rattle.passage_lines.specs.Output.{bytesText}
