@@ -41,9 +41,10 @@ module _ (text : List ℕ) (i h : ℕ) (r : i + 2 ≤ length text) (e : h ≡ di
     unfolding bytesOfHex
     pair-next q = rw (two-more text i r, ← e, ← f, lt-ltb h 16 p, lt-ltb l 16 q)
 
-    pub hex-next : l < 16 → isHex (drop i text) ≡ isHex (drop (i + 2) text)
+    -- two digits are taken off the front
+    pub is-hex-next : l < 16 → isHex (drop i text) ≡ isHex (drop (i + 2) text)
     unfolding isHex
-    hex-next q = ap spells (pair-next q) ∙ hex-more (h * 16 + l) (bytesOfHex (drop (i + 2) text))
+    is-hex-next q = ap spells (pair-next q) ∙ hex-more (h * 16 + l) (bytesOfHex (drop (i + 2) text))
 
 -- fewer than two characters left
 pub hex-end : (text : List ℕ) (i : ℕ) → i ≤ length text → length text - i < 2 → isHex (drop i text) ≡ eqb i (length text)
@@ -86,7 +87,7 @@ module _ (text : List ℕ) (i h l : ℕ) (r : i + 2 ≤ length text) (e : h ≡ 
       go (no n) = false-true (sym (ap spells (low-bad text i h r e l f high-digit (omega arith))) ∙ q)
 
   pub rest-hex : isHex (drop (i + 2) text) ≡ true
-  rest-hex = sym (hex-next text i h r e l f high-digit low-digit) ∙ q
+  rest-hex = sym (is-hex-next text i h r e l f high-digit low-digit) ∙ q
 
   -- the byte that two digits spell, and the bytes after it
   pub bytes-next : hexBytes (drop i text) ≡ (h * 16 + l) ∷ hexBytes (drop (i + 2) text)

@@ -4,7 +4,7 @@ use Prim.Native.Nat.{_-_, _≤_}
 use native.Mathlib.Omega.{arith}
 use lib.ListN.{length, drop}
 use Rattle.passage_lines.specs.Hex.{spells, isHex}
-use Rattle.passage_lines.proofs.Digits.{high-bad, low-bad, hex-next, hex-end}
+use Rattle.passage_lines.proofs.Digits.{high-bad, low-bad, is-hex-next, hex-end}
 use Rattle.passage_lines.proofs.hex.is_hex.Statement.{statement}
 use Rattle.passage_lines.proofs.hex.is_hex.Tie as tie
 
@@ -55,7 +55,7 @@ loop-less c = omega arith
 loop-again : tie.Need-loop-again Inv-loop μ-loop
 loop-again c = let l = c .before .before .before .before .before .before .before .loop in
     let h = c .before .before .before in
-    (sym (hex-next _ (l .i) _ (omega arith) (h .before .digit .ensures .0) _ (c .before .digit2 .ensures .0) (h .if1 .left) (c .if2 .left)) ∙ l .inv .0, omega arith)
+    (sym (is-hex-next _ (l .i) _ (omega arith) (h .before .digit .ensures .0) _ (c .before .digit2 .ensures .0) (h .if1 .left) (c .if2 .left)) ∙ l .inv .0, omega arith)
 
 returns-3 : tie.Need-returns-3 Inv-loop μ-loop
 returns-3 c = let l = c .before .loop in sym (sym (l .inv .0) ∙ hex-end _ (l .i) (l .inv .1) (c .loop-test .left))
