@@ -23,23 +23,28 @@ two-more text i h =
     let b : suc i < length text = omega arith in
     rw (drop-cons text i 0 a, drop-cons text (suc i) 0 b, add-one i, add-two i)
 
-module _ (text : List ℕ) (i h l : ℕ) (r : i + 2 ≤ length text) (e : h ≡ digitOf (getD text i 0)) where
+hex-more : (b : ℕ) (o : Option (List ℕ)) → spells (inFront b o) ≡ spells o
+hex-more b none = refl
+hex-more b (some s) = refl
+
+module _ (text : List ℕ) (i h : ℕ) (r : i + 2 ≤ length text) (e : h ≡ digitOf (getD text i 0)) where
   pub high-bad : 16 ≤ h → bytesOfHex (drop i text) ≡ none
   unfolding bytesOfHex
   high-bad p = rw (two-more text i r, ← e, le-ltb h 16 p)
 
-  module _ (f : l ≡ digitOf (getD text (i + 1) 0)) (p : h < 16) where
+  module _ (l : ℕ) (f : l ≡ digitOf (getD text (i + 1) 0)) (p : h < 16) where
     pub low-bad : 16 ≤ l → bytesOfHex (drop i text) ≡ none
     unfolding bytesOfHex
     low-bad q = rw (two-more text i r, ← e, ← f, lt-ltb h 16 p, le-ltb l 16 q)
 
-    pub pair-next : l < 16 → bytesOfHex (drop i text) ≡ inFront (h * 16 + l) (bytesOfHex (drop (i + 2) text))
+    pair-next : l < 16 → bytesOfHex (drop i text) ≡ inFront (h * 16 + l) (bytesOfHex (drop (i + 2) text))
     unfolding bytesOfHex
     pair-next q = rw (two-more text i r, ← e, ← f, lt-ltb h 16 p, lt-ltb l 16 q)
 
-pub hex-more : (b : ℕ) (o : Option (List ℕ)) → spells (inFront b o) ≡ spells o
-hex-more b none = refl
-hex-more b (some s) = refl
+    -- two digits are taken off the front
+    pub is-hex-next : l < 16 → isHex (drop i text) ≡ isHex (drop (i + 2) text)
+    unfolding isHex
+    is-hex-next q = ap spells (pair-next q) ∙ hex-more (h * 16 + l) (bytesOfHex (drop (i + 2) text))
 
 -- fewer than two characters left
 pub hex-end : (text : List ℕ) (i : ℕ) → i ≤ length text → length text - i < 2 → isHex (drop i text) ≡ eqb i (length text)
@@ -71,7 +76,7 @@ module _ (text : List ℕ) (i h l : ℕ) (r : i + 2 ≤ length text) (e : h ≡ 
     where
       go : Dec (h < 16) → h < 16
       go (yes p) = p
-      go (no n) = false-true (sym (ap spells (high-bad text i h l r e (omega arith))) ∙ q)
+      go (no n) = false-true (sym (ap spells (high-bad text i h r e (omega arith))) ∙ q)
 
   pub low-digit : l < 16
   unfolding isHex
@@ -79,16 +84,15 @@ module _ (text : List ℕ) (i h l : ℕ) (r : i + 2 ≤ length text) (e : h ≡ 
     where
       go : Dec (l < 16) → l < 16
       go (yes p) = p
-      go (no n) = false-true (sym (ap spells (low-bad text i h l r e f high-digit (omega arith))) ∙ q)
+      go (no n) = false-true (sym (ap spells (low-bad text i h r e l f high-digit (omega arith))) ∙ q)
 
   pub rest-hex : isHex (drop (i + 2) text) ≡ true
-  unfolding isHex
-  rest-hex = sym (ap spells (pair-next text i h l r e f high-digit low-digit) ∙ hex-more (h * 16 + l) (bytesOfHex (drop (i + 2) text))) ∙ q
+  rest-hex = sym (is-hex-next text i h r e l f high-digit low-digit) ∙ q
 
   -- the byte that two digits spell, and the bytes after it
   pub bytes-next : hexBytes (drop i text) ≡ (h * 16 + l) ∷ hexBytes (drop (i + 2) text)
   unfolding hexBytes isHex
-  bytes-next = ap bytesIn (pair-next text i h l r e f high-digit low-digit) ∙ go (bytesOfHex (drop (i + 2) text)) rest-hex
+  bytes-next = ap bytesIn (pair-next text i h r e l f high-digit low-digit) ∙ go (bytesOfHex (drop (i + 2) text)) rest-hex
     where
       go : (o : Option (List ℕ)) → spells o ≡ true → bytesIn (inFront (h * 16 + l) o) ≡ (h * 16 + l) ∷ bytesIn o
       go none p = false-true p

@@ -94,5 +94,6 @@ other-forms : allBad
     ∷ ascii "close\t1"
     ∷ [])
     ≡ true
-unfolding commandOf fieldsOf split wordForm openForm settingForm putForm closeForm getForm next done digitOf spelled numberIn durationOf layoutOf tickLengthOf lifetimeOf sameBytes bytesOfHex isHex hexLength allBad
+unfolding commandOf fieldsOf split wordForm openForm settingForm putForm closeForm getForm next done digitOf spelled numberIn durationOf
+    layoutOf tickLengthOf lifetimeOf sameBytes bytesOfHex isHex hexLength allBad
 other-forms = refl

@@ -1,5 +1,5 @@
 -- Laws of the forms of a line: a field at a position, and what the form says of the fields after it. Assumes nothing.
-use mathlib.Core.Path.{_≡_, refl, sym, ap₂, _∙_}
+use mathlib.Core.Path.{_≡_, refl, sym, ap, ap₂, _∙_}
 use mathlib.Core.List.{List, [], _∷_}
 use mathlib.Core.Option.{Option, none, some}
 use Prim.Native.Nat.{ℕ, _+_, _-_, _≤_, _<_}
@@ -32,6 +32,10 @@ module _ {A : Type 0} (kind : Field → Option A) (line : List ℕ) (at : ℕ) w
       let l : at + length (take (e - at) (drop at line)) + 1 ≡ e + 1 = omega (arith, length-take-le (e - at) (drop at line) n) in
       rw (fields-at line at h, ← q, l)
 
+  pub field-got : {o : Option A} (e : ℕ) → at ≤ length line → e ≡ firstFrom 32 line at
+      → kind (field at (take (e - at) (drop at line))) ≡ o → gotBefore (e + 1) o ≡ fieldAt kind line at
+  field-got e h q g = sym (field-is e h q ∙ ap (gotBefore (e + 1)) g)
+
   -- ---- the form of the fields from a position on
 
   pub next-none : fieldAt kind line at ≡ nothing → (form : A → List Field → Command) → next kind form (fieldsAt line at) ≡ Bad
@@ -46,9 +50,9 @@ module _ {A : Type 0} (kind : Field → Option A) (line : List ℕ) (at : ℕ) w
       go [] q = refl
       go (f ∷ fs) q = at-first f fs (kind f) q
 
-  pub next-some : (v : A) (n : ℕ) → fieldAt kind line at ≡ got v n → (form : A → List Field → Command) → next kind form (fieldsAt line at) ≡ form v (fieldsAt line n)
+  pub next-some : {v : A} {n : ℕ} → fieldAt kind line at ≡ got v n → (form : A → List Field → Command) → next kind form (fieldsAt line at) ≡ form v (fieldsAt line n)
   unfolding next
-  next-some v n e form = go (decLe at (length line))
+  next-some {v} {n} e form = go (decLe at (length line))
     where
       at-first : (o : Option A) → gotBefore (firstFrom 32 line at + 1) o ≡ got v n → given o (λ v. form v (fieldsAt line (firstFrom 32 line at + 1))) ≡ form v (fieldsAt line n)
       at-first none q = absurd (let z : _≡_ {A = ℕ} 0 1 = cc in omega arith)
@@ -73,9 +77,9 @@ module _ (line : List ℕ) (at : ℕ) (c : Command) where
   done-more h = rw (fields-at line at h)
 
 -- a number that is read is at most the limit
-pub field-limit : (base max : ℕ) (line : List ℕ) (at v n : ℕ) → fieldAt (number base max) line at ≡ got v n → v ≤ max
+pub field-limit : (base max : ℕ) (line : List ℕ) (at : ℕ) {v n : ℕ} → fieldAt (number base max) line at ≡ got v n → v ≤ max
 unfolding fieldAt
-field-limit base max line at v n e = go (fieldsAt line at) e
+field-limit base max line at {v} {n} e = go (fieldsAt line at) e
   where
     at-first : (text : List ℕ) (m : ℕ) (o : Option ℕ) → numberIn base max text ≡ o → gotBefore m o ≡ got v n → v ≤ max
     at-first text m none q r = absurd (let z : _≡_ {A = ℕ} 0 1 = cc in omega arith)

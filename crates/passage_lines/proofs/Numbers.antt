@@ -1,5 +1,5 @@
 -- Laws of numbers as text. Assumes nothing.
-use mathlib.Core.Path.{_≡_, refl}
+use mathlib.Core.Path.{_≡_, refl, sym, ap, _∙_}
 use mathlib.Core.Bool.{Bool, true, false, cond}
 use mathlib.Core.List.{List, [], _∷_}
 use mathlib.Core.Option.{Option, none, some}
@@ -96,13 +96,13 @@ module _ (text : List ℕ) where
     duration-no-point n = rw (le-ltb (length text) 11 h, ne-eqb (getD text (length text - 10) 0) 46 n)
 
     -- the characters after the point
-    pub after-point : take (length text - (length text - 10 + 1)) (drop (length text - 10 + 1) text) ≡ drop (length text - 9) text
+    after-point : take (length text - (length text - 10 + 1)) (drop (length text - 10 + 1) text) ≡ drop (length text - 9) text
     after-point =
         let e : length text - 10 + 1 ≡ length text - 9 = omega arith in
         rw e (take-all (length text - (length text - 9)) (drop (length text - 9) text) (omega (arith, length-drop (length text - 9) text)))
 
     -- what seconds and nanoseconds say
-    pub duration-is : getD text (length text - 10) 0 ≡ 46
-        → durationOf text ≡ timed (numberIn 10 (2 ^ 64 - 1) (take (length text - 10) text)) (numberIn 10 999_999_999 (drop (length text - 9) text))
+    pub duration-is : {secs nanos : Option ℕ} → getD text (length text - 10) 0 ≡ 46 → numberIn 10 (2 ^ 64 - 1) (take (length text - 10) text) ≡ secs
+        → numberIn 10 999_999_999 (take (length text - (length text - 10 + 1)) (drop (length text - 10 + 1) text)) ≡ nanos → durationOf text ≡ timed secs nanos
     unfolding durationOf
-    duration-is e = rw (le-ltb (length text) 11 h, eq-eqb (getD text (length text - 10) 0) 46 e)
+    duration-is e s n = rw (le-ltb (length text) 11 h, eq-eqb (getD text (length text - 10) 0) 46 e, s, ap (numberIn 10 999_999_999) (sym after-point) ∙ n)

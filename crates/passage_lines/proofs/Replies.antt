@@ -10,7 +10,7 @@ use lib.Seq.{length-take-le, take-at, drop-at, drop-drop}
 use Rattle.records.specs.Area.{over, pasted}
 use Rattle.records.proofs.Area.{Writing, fits, next}
 use Rattle.passage_lines.specs.Output.{bytesText, Output, output, appended}
-use Rattle.passage_lines.specs.Reply.{wordText, lineFeed, refusedText, acceptedText, valueText}
+use Rattle.passage_lines.specs.Reply.{wordText, lineFeed, numberField, refusedText, acceptedText, valueText}
 use Rattle.passage_lines.specs.declared.reply.Word.{Word}
 use Rattle.passage_lines.specs.declared.reply.Word.the-variants.{Open, Put, Close, Get}
 use Rattle.passage_lines.proofs.Spelling.{decimal-small, decimal-twenty, hex-length}
@@ -24,11 +24,20 @@ appended-parts at s area out n e h =
     let q : output n out ≡ output (at + length s) (pasted at s area) = rw (le-leb (at + length s) (length area) h) at e in
     (ap (λ (o : Output). o .at) q, ap (λ (o : Output). o .area) q)
 
-pub next-text : {whole left area out : List ℕ} {at : ℕ} (s rest out′ : List ℕ) (n : ℕ) → Writing whole left area out at → left ≡ s ++ rest
+-- a text more
+pub next-text : {whole rest area out out′ : List ℕ} {at n : ℕ} (s : List ℕ) → Writing whole (s ++ rest) area out at
     → output n out′ ≡ appended at s out → Writing whole rest area out′ n
-next-text {out = out} {at = at} s rest out′ n w e q =
-    let p = appended-parts at s out out′ n q (fits s rest w e) in
-    next s rest out′ n w e (p .0) (p .1)
+next-text {rest = rest} {out = out} {out′ = out′} {at = at} {n = n} s w q =
+    let p = appended-parts at s out out′ n q (fits s rest w refl) in
+    next s rest out′ n w refl (p .0) (p .1)
+
+-- there is room for a number, and a number more
+pub number-fits : {whole area out : List ℕ} {at : ℕ} (v : ℕ) (rest : List ℕ) → Writing whole (numberField v ++ rest) area out at → at + length (numberField v) ≤ length out
+number-fits v rest w = fits (numberField v) rest w refl
+
+pub next-number : {whole rest area out out′ : List ℕ} {at n : ℕ} (v : ℕ) → Writing whole (numberField v ++ rest) area out at
+    → (n ≡ at + length (numberField v)) × (out′ ≡ pasted at (numberField v) out) → Writing whole rest area out′ n
+next-number {rest = rest} {out′ = out′} {n = n} v w e = next (numberField v) rest out′ n w refl (e .0) (e .1)
 
 -- ---- lengths
 

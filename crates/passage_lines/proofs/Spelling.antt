@@ -8,10 +8,12 @@ use native.Mathlib.Nat.{pow-suc, div-lt-iff-lt-mul, not-suc-le-zero}
 use native.Mathlib.Numerals.{add-one}
 use native.Mathlib.Omega.{arith}
 use borrow.Author.Tests.{lt-ltb, le-ltb, le-leb, lt-leb}
+use borrow.Rule.Slice.PartMut.{putMid}
 use lib.Dec.{ltb, lit<}
 use lib.ListN.{length, getD, take, drop, set, length-append, length-set, drop-of-length-le}
 use lib.Seq.{drop-cons, drop-at, set-split, length-take-le}
-use Rattle.records.specs.Area.{pasted}
+use Rattle.records.specs.Area.{over}
+use Rattle.records.proofs.Area.{part-home}
 use Rattle.passage_lines.specs.Ascii.{ascii}
 use Rattle.passage_lines.specs.Output.{digitsIn, decimalText, hexDigit, hexText, bytesText, output, appended}
 
@@ -123,9 +125,11 @@ bytes-some (b ∷ s) h = refl
 -- ---- writing from a position on
 
 module _ (at : ℕ) (s area : List ℕ) where
-  pub appended-in : (n : ℕ) (out : List ℕ) → at + length s ≤ length area → n ≡ at + length s → out ≡ pasted at s area → output n out ≡ appended at s area
+  -- in the rest of the area, which was lent and comes home
+  pub appended-in : (n : ℕ) (home : List ℕ) → at + length s ≤ length area → n ≡ at + length s → home ≡ over s (take (length area - at) (drop at area))
+      → output n (putMid at (length area - at) area home) ≡ appended at s area
   unfolding appended
-  appended-in n out h e o = rw (e, o, le-leb (at + length s) (length area) h)
+  appended-in n home h e o = rw (e, part-home s area home at o, le-leb (at + length s) (length area) h)
 
   pub appended-out : length area < at + length s → output at area ≡ appended at s area
   unfolding appended

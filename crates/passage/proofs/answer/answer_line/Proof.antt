@@ -1,15 +1,11 @@
 -- `answer_line` meets its contract: each command is what its function does. Assumes nothing.
-use mathlib.Core.Path.{sym, ap, _∙_}
+use mathlib.Core.Path.{sym, _∙_}
 use Rattle.passage_lines.specs.Reply.{replyText}
-use Rattle.passage.specs.Answer.{Areas, areas, afterOpening, afterPutting, afterClosing, afterGetting, lineStep}
+use Rattle.passage.specs.Answer.{lineStep}
 use Rattle.passage.specs.Stage.{answerText}
 use borrow.Author.Needs.{needs}
 use Rattle.passage.proofs.answer.answer_line.Statement.{statement}
 use Rattle.passage.proofs.answer.answer_line.Tie as tie
-
--- the areas as they were lent
-abbrev areas-of : tie.Start → Areas
-areas-of s = let a = s .args in areas (a .index .now) (a .filter .now) (a .starts .now) (a .lengths .now) (a .scratch .now) (a .arena .now)
 
 parse-line-requires : tie.Need-parse-line-requires
 parse-line-requires c κs = search needs
@@ -67,7 +63,8 @@ same-length-5 c = search needs
 
 returns : tie.Need-returns
 unfolding lineStep
-returns c = rw (sym (c .before .before .before .before .before .before .before .before .before .before .before .before .before .parse-line .ensures) ∙ c .before .before .before .before .before .before .before .before .before .before .before .records .given .1) (ap (afterOpening (areas-of (c .before .before .before .before .before .before .before .before .before .before .before .before .before .before .before .before .before .before .before .before .before .before .before))) (c .before .before .before .before .open-set .ensures))
+returns c = let r = c .before .before .before .before .before .before .before .before .before .before .before in
+    rw (sym (r .before .before .parse-line .ensures) ∙ r .records .given .1, ← c .before .before .before .before .open-set .ensures)
 
 same-length-6 : tie.Need-same-length-6
 same-length-6 c = search needs
@@ -86,8 +83,10 @@ same-length-10 c = search needs
 
 returns-2 : tie.Need-returns-2
 unfolding lineStep
-returns-2 c = rw (sym (c .before .before .before .before .before .before .before .before .before .before .before .before .before .before .before .before .before .before .before .before .before .parse-line .ensures) ∙ c .before .before .before .before .before .before .before .before .before .before .before .before .before .before .before .before .before .before .before .hash .given .1)
-    (ap (afterPutting (areas-of (c .before .before .before .before .before .before .before .before .before .before .before .before .before .before .before .before .before .before .before .before .before .before .before .before .before .before .before .before .before .before .before))) (rw (c .before .before .before .before .before .before .before .before .before .before .before .before .before .before .before .before .before .value-slice .ensures, c .before .before .before .before .before .before .before .before .before .before .before .before .before .before .before .before .value-slice2 .ensures) at (c .before .before .before .before .before .before .before .before .before .before .put-line .ensures)))
+returns-2 c = let p = c .before .before .before .before .before .before .before .before .before .before in
+    let v = p .before .before .before .before .before .before in
+    let h = v .before .before .before in
+    rw (sym (h .before .before .parse-line .ensures) ∙ h .hash .given .1, ← v .before .value-slice .ensures, ← v .value-slice2 .ensures, ← p .put-line .ensures)
 
 same-length-11 : tie.Need-same-length-11
 same-length-11 c = search needs
@@ -106,7 +105,9 @@ same-length-15 c = search needs
 
 returns-3 : tie.Need-returns-3
 unfolding lineStep
-returns-3 c = rw (sym (c .before .before .before .before .before .before .before .before .before .before .before .before .before .before .before .before .before .parse-line .ensures) ∙ c .before .before .before .before .before .before .before .before .before .before .before .before .before .before .before .target .given .1) (ap (afterClosing (areas-of (c .before .before .before .before .before .before .before .before .before .before .before .before .before .before .before .before .before .before .before .before .before .before .before .before .before .before .before))) (c .before .before .before .before .before .before .before .before .close-set .ensures))
+returns-3 c = let e = c .before .before .before .before .before .before .before .before in
+    let t = e .before .before .before .before .before .before .before in
+    rw (sym (t .before .before .parse-line .ensures) ∙ t .target .given .1, ← e .close-set .ensures)
 
 same-length-16 : tie.Need-same-length-16
 same-length-16 c = search needs
@@ -128,8 +129,9 @@ same-length-21 c = search needs
 
 returns-4 : tie.Need-returns-4
 unfolding lineStep
-returns-4 c = rw (sym (c .before .before .before .before .before .before .before .before .before .before .before .before .before .before .before .parse-line .ensures) ∙ c .before .before .before .before .before .before .before .before .before .before .before .before .before .hash2 .given .1)
-    (ap (afterGetting (c .before .before .before .before .before .before .before .before .before .before .before .before .before .before .before .before .before .before .before .before .before .before .before .before .before .args .stage) (areas-of (c .before .before .before .before .before .before .before .before .before .before .before .before .before .before .before .before .before .before .before .before .before .before .before .before .before))) (rw (c .before .before .before .before .before .before .before .before .before .before .before .value-slice3 .ensures) at (c .before .before .before .before .get-line .ensures)))
+returns-4 c = let v = c .before .before .before .before .before .before .before .before .before .before .before in
+    let h = v .before .before in
+    rw (sym (h .before .before .parse-line .ensures) ∙ h .hash2 .given .1, ← v .value-slice3 .ensures, ← c .before .before .before .before .get-line .ensures)
 
 returns-5 : tie.Need-returns-5
 unfolding lineStep answerText replyText

@@ -8,10 +8,10 @@ use Rattle.passage.proofs.answer.get_line.Statement.{statement}
 use Rattle.passage.proofs.answer.get_line.Tie as tie
 
 -- the key in its area
-key-of : (c : tie.After-key-len) → let a = c .before .before .before .before .before .before .before .before .before .before .before .before .before .args in Decoding (a .key-text .now) (a .key .now) (c .before .before .before .before .decode-hex .last .1 .0) (c .key-len .given .0 .0)
-key-of c =
-    let a = c .before .before .before .before .before .before .before .before .before .before .before .before .before .args in
-    decode-some (a .key-text .now) (a .key .now) (c .before .before .before .before .decode-hex .last .1 .0) (c .key-len .given .0 .0) (rw (c .key-len .given .1) at (c .before .before .before .before .decode-hex .ensures))
+key-of : (c : tie.After-key-len) → let d = c .before .before .before .before in
+    let a = d .before .before .before .before .before .before .before .before .before .args in
+    Decoding (a .key-text .now) (a .key .now) (d .decode-hex .last .1 .0) (c .key-len .given .0 .0)
+key-of c = decode-some _ _ _ _ (rw (c .key-len .given .1) at (c .before .before .before .before .decode-hex .ensures))
 
 decode-hex-requires : tie.Need-decode-hex-requires
 decode-hex-requires c κs = search needs
@@ -27,8 +27,7 @@ same-length c = search needs
 
 returns : tie.Need-returns
 unfolding answerText replyText
-returns c = let a = c .before .before .before .before .before .before .before .before .before .before .before .before .before .args in
-    rw (decode-none (a .key-text .now) (a .key .now) (c .before .before .before .before .decode-hex .last .1 .0) (rw (c .enum-told .given .1) at (c .before .before .before .before .decode-hex .ensures)))
+returns c = rw (decode-none _ _ _ (rw (c .enum-told .given .1) at (c .before .before .before .before .decode-hex .ensures)))
 
 sub-get-value : tie.Need-sub-get-value
 sub-get-value c = search needs

@@ -8,15 +8,15 @@ use Rattle.passage.proofs.answer.put_line.Statement.{statement}
 use Rattle.passage.proofs.answer.put_line.Tie as tie
 
 -- key and value in their areas
-key-of : (c : tie.After-key-len) → let a = c .before .before .before .before .before .before .before .before .before .before .before .before .before .args in Decoding (a .key-text .now) (a .key .now) (c .before .before .before .before .decode-hex .last .1 .0) (c .key-len .given .0 .0)
-key-of c =
-    let a = c .before .before .before .before .before .before .before .before .before .before .before .before .before .args in
-    decode-some (a .key-text .now) (a .key .now) (c .before .before .before .before .decode-hex .last .1 .0) (c .key-len .given .0 .0) (rw (c .key-len .given .1) at (c .before .before .before .before .decode-hex .ensures))
+key-of : (c : tie.After-key-len) → let d = c .before .before .before .before in
+    let a = d .before .before .before .before .before .before .before .before .before .args in
+    Decoding (a .key-text .now) (a .key .now) (d .decode-hex .last .1 .0) (c .key-len .given .0 .0)
+key-of c = decode-some _ _ _ _ (rw (c .key-len .given .1) at (c .before .before .before .before .decode-hex .ensures))
 
-value-of : (c : tie.After-value-len) → let a = c .before .before .before .before .before .before .before .before .before .before .before .before .before .before .before .before .before .before .before .before .args in Decoding (a .value-text .now) (a .value .now) (c .before .before .before .before .decode-hex2 .last .1 .0) (c .value-len .given .0 .0)
-value-of c =
-    let a = c .before .before .before .before .before .before .before .before .before .before .before .before .before .before .before .before .before .before .before .before .args in
-    decode-some (a .value-text .now) (a .value .now) (c .before .before .before .before .decode-hex2 .last .1 .0) (c .value-len .given .0 .0) (rw (c .value-len .given .1) at (c .before .before .before .before .decode-hex2 .ensures))
+value-of : (c : tie.After-value-len) → let d = c .before .before .before .before in
+    let a = d .before .before .before .before .before .before .before .before .before .before .before .before .before .before .before .before .args in
+    Decoding (a .value-text .now) (a .value .now) (d .decode-hex2 .last .1 .0) (c .value-len .given .0 .0)
+value-of c = decode-some _ _ _ _ (rw (c .value-len .given .1) at (c .before .before .before .before .decode-hex2 .ensures))
 
 decode-hex-requires : tie.Need-decode-hex-requires
 decode-hex-requires c κs = search needs
@@ -32,8 +32,7 @@ same-length c = search needs
 
 returns : tie.Need-returns
 unfolding answerText replyText
-returns c = let a = c .before .before .before .before .before .before .before .before .before .before .before .before .before .args in
-    rw (decode-none (a .key-text .now) (a .key .now) (c .before .before .before .before .decode-hex .last .1 .0) (rw (c .enum-told .given .1) at (c .before .before .before .before .decode-hex .ensures)))
+returns c = rw (decode-none _ _ _ (rw (c .enum-told .given .1) at (c .before .before .before .before .decode-hex .ensures)))
 
 decode-hex-requires-2 : tie.Need-decode-hex-requires-2
 decode-hex-requires-2 c κs = search needs
@@ -52,9 +51,8 @@ same-length-3 c = search needs
 
 returns-2 : tie.Need-returns-2
 unfolding answerText replyText
-returns-2 c = let a = c .before .before .before .before .before .before .before .before .before .before .before .before .before .before .before .before .before .before .before .before .args in
-    rw
-    (key-of (c .before .before .before .before .before .before .before) .spelled, decode-none (a .value-text .now) (a .value .now) (c .before .before .before .before .decode-hex2 .last .1 .0) (rw (c .enum-told2 .given .1) at (c .before .before .before .before .decode-hex2 .ensures)))
+returns-2 c = let d = c .before .before .before .before in
+    rw (key-of (d .before .before .before) .spelled, decode-none _ _ _ (rw (c .enum-told2 .given .1) at (d .decode-hex2 .ensures)))
 
 sub-put-record : tie.Need-sub-put-record
 sub-put-record c = search needs
@@ -93,8 +91,9 @@ same-length-8 : tie.Need-same-length-8
 same-length-8 c = search needs
 
 returns-3 : tie.Need-returns-3
-returns-3 c = let k = key-of (c .before .before .before .before .before .before .before .before .before .before .before .before .before .before .before .before .before .before .before .before .before .before) in
-    let v = value-of (c .before .before .before .before .before .before .before .before .before .before .before .before .before .before .before) in
+returns-3 c = let s = c .before .before .before .before .before .before .before .before .before .before .before .before .before .before .before in
+    let k = key-of (s .before .before .before .before .before .before .before) in
+    let v = value-of s in
     rw (k .spelled, v .spelled, ← k .front, ← v .front) (c .before .before .before .before .before .before .put-record .ensures)
 
 pub put-line-spec : {M : Type 1} → statement M

@@ -16,7 +16,8 @@ enum-known-count : tie.Need-enum-known-count
 enum-known-count c = search needs
 
 answer-last-requires : tie.Need-answer-last-requires
-answer-last-requires c κs = omega (arith, ap endedWith (c .before .before .before .before .before .before .before .before .before .before .before .count .given .1), c .before .before .before .before .before .before .before .before .before .before .before .before .before .before .before .read-more .ensures)
+answer-last-requires c κs = let n = c .before .before .before .before .before .before .before .before .before .before .before in
+    omega (arith, ap endedWith (n .count .given .1), n .before .before .before .before .read-more .ensures)
 
 same-length : tie.Need-same-length
 same-length c = search needs

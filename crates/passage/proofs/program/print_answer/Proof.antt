@@ -1,6 +1,5 @@
 -- `print_answer` keeps the output's end inside. Assumes nothing.
 use native.Mathlib.Omega.{arith}
-use Rattle.passage.specs.Stage.{answerText}
 use Rattle.passage.proofs.Loop.{appended-within}
 use borrow.Author.Needs.{needs}
 use Rattle.passage.proofs.program.print_answer.Statement.{statement}
@@ -16,9 +15,8 @@ same-length : tie.Need-same-length
 same-length c = search needs
 
 returns : tie.Need-returns
-returns c = let a = c .before .before .before .before .before .before .before .before .args in
-    let p = c .before .before .put-answer in
-    appended-within (c .before .before .before .before .make-room .result) (p .result) (answerText (a .arena .now) (a .answer)) (a .out .now) (p .last .0) (p .ensures) (omega (arith, c .before .before .before .before .make-room .ensures))
+returns c = let m = c .before .before .before .before .make-room in
+    appended-within (m .result) _ _ _ _ (c .before .before .put-answer .ensures) (omega (arith, m .ensures))
 
 pub print-answer-spec : {M : Type 1} → statement M
 print-answer-spec = tie.close (tie.spec make-room-requires put-answer-requires same-length returns)

@@ -17,8 +17,8 @@ same-length : tie.Need-same-length
 same-length c = search needs
 
 returns : tie.Need-returns
-returns c = let p = c .before .before .put-reply in
-    appended-within (c .before .before .before .before .make-room .result) (p .result) (replyText Bad) (c .before .before .before .before .before .before .before .args .out .now) (p .last .0) (p .ensures) (omega (arith, c .before .before .before .before .make-room .ensures))
+returns c = let m = c .before .before .before .before .make-room in
+    appended-within (m .result) _ (replyText Bad) _ _ (c .before .before .put-reply .ensures) (omega (arith, m .ensures))
 
 pub respond-bad-spec : {M : Type 1} → statement M
 respond-bad-spec = tie.close (tie.spec make-room-requires put-reply-requires same-length returns)

@@ -8,7 +8,8 @@ use Rattle.passage.proofs.program.run.Statement.{statement}
 use Rattle.passage.proofs.program.run.Tie as tie
 
 abbrev Inv-loop : tie.InvT-loop
-Inv-loop block₀ out₀ key₀ value₀ arena₀ index₀ filter₀ scratch₀ starts₀ lengths₀ state₀ left₀ block out key value arena index filter scratch starts lengths state left = (state .waiting ≤ 65536)
+Inv-loop block₀ out₀ key₀ value₀ arena₀ index₀ filter₀ scratch₀ starts₀ lengths₀ state₀ left₀ block out key value arena index filter scratch starts lengths state left =
+    (state .waiting ≤ 65536)
     × (length block ≡ 65536)
     × (length out ≡ 65536)
     × (length key ≡ 4096)

@@ -9,11 +9,10 @@ use Rattle.passage.proofs.program.take_turn.Statement.{statement}
 use Rattle.passage.proofs.program.take_turn.Tie as tie
 
 -- where the line lies
-inside-of : (c : tie.After-from) → let g = c .from .given .0 in (g .0 ≤ g .1 .0) × (g .1 .0 ≤ length (c .before .before .before .before .before .before .before .before .before .before .before .before .before .before .before .args .block .now))
-inside-of c =
+inside-of : (c : tie.After-from) → let g = c .from .given .0 in
     let a = c .before .before .before .before .before .before .before .before .before .before .before .before .before .before .before .args in
-    let g = c .from .given .0 in
-    line-inside (a .block .now) (a .state .input) (g .1 .1 .0) (g .0) (g .1 .0) (sym (c .before .before .next-line .ensures) ∙ c .from .given .1)
+    (g .0 ≤ g .1 .0) × (g .1 .0 ≤ length (a .block .now))
+inside-of c = line-inside _ _ _ _ _ (sym (c .before .before .next-line .ensures) ∙ c .from .given .1)
 
 next-line-requires : tie.Need-next-line-requires
 next-line-requires c κs = search needs

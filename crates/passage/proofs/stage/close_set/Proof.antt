@@ -1,10 +1,10 @@
 -- `close_set` meets its contract: in turn it is the library's finish. Assumes nothing.
 use mathlib.Core.Logic.{⊎-elim}
-use mathlib.Core.Path.{_≡_, ap}
+use mathlib.Core.Path.{_≡_}
 use native.Mathlib.Omega.{arith}
 use Rattle.passage_lines.specs.Reply.{replyText}
 use Rattle.sets.specs.declared.builder.SegmentCacheBuilder.{SegmentCacheBuilder}
-use Rattle.passage.specs.Stage.{answerText, closeAnswered, closeStep}
+use Rattle.passage.specs.Stage.{answerText, closeStep}
 use Rattle.passage.specs.declared.stage.Stage.the-variants.{Building}
 use Rattle.passage.proofs.Turns.{close-out}
 use borrow.Author.Needs.{needs}
@@ -43,7 +43,8 @@ same-length-4 c = search needs
 
 returns-2 : tie.Need-returns-2
 unfolding answerText replyText closeStep
-returns-2 c = rw (c .before .before .before .before .before .before .before .before .before .before .before .before .before .before .before .before .before .stage .given .1) (ap closeAnswered (rw (c .before .refusal .given .1) at (c .before .before .before .before .before .before .before .before .before .before .before .finish .ensures)))
+returns-2 c = let f = c .before .before .before .before .before .before .before .before .before .before .before in
+    rw (f .before .before .before .before .before .before .stage .given .1, ← f .finish .ensures, c .before .refusal .given .1)
 
 same-length-5 : tie.Need-same-length-5
 same-length-5 c = search needs
@@ -59,7 +60,8 @@ same-length-8 c = search needs
 
 returns-3 : tie.Need-returns-3
 unfolding answerText replyText closeStep
-returns-3 c = rw (c .before .before .before .before .before .before .before .before .before .before .before .before .before .before .before .before .before .stage .given .1) (ap closeAnswered (rw (c .before .set .given .1) at (c .before .before .before .before .before .before .before .before .before .before .before .finish .ensures)))
+returns-3 c = let f = c .before .before .before .before .before .before .before .before .before .before .before in
+    rw (f .before .before .before .before .before .before .stage .given .1, ← f .finish .ensures, c .before .set .given .1)
 
 pub close-set-spec : {M : Type 1} → statement M
 close-set-spec =

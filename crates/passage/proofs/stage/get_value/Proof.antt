@@ -1,10 +1,10 @@
 -- `get_value` meets its contract: in turn it is the library's get. Assumes nothing.
 use mathlib.Core.Logic.{⊎-elim}
-use mathlib.Core.Path.{_≡_, ap}
+use mathlib.Core.Path.{_≡_}
 use native.Mathlib.Omega.{arith}
 use Rattle.passage_lines.specs.Reply.{replyText}
 use Rattle.sets.specs.declared.cache.FrozenSegmentCache.{FrozenSegmentCache}
-use Rattle.passage.specs.Stage.{answerText, getAnswered, getStep}
+use Rattle.passage.specs.Stage.{answerText, getStep}
 use Rattle.passage.specs.declared.stage.Stage.the-variants.{Finished}
 use Rattle.passage.proofs.Turns.{get-out}
 use borrow.Author.Needs.{needs}
@@ -37,21 +37,24 @@ same-length c = search needs
 
 returns-2 : tie.Need-returns-2
 unfolding answerText replyText getStep
-returns-2 c = rw (c .before .before .before .before .before .before .before .before .stage .given .1) (ap (getAnswered (c .before .before .before .before .before .before .before .before .before .before .before .before .before .before .before .before .args .arena .now)) (rw (c .before .span .given .1) at (c .before .before .before .before .before .get-at-tick .ensures)))
+returns-2 c = let g = c .before .before .before .before .before in
+    rw (g .before .before .before .stage .given .1, ← g .get-at-tick .ensures, c .before .span .given .1)
 
 same-length-2 : tie.Need-same-length-2
 same-length-2 c = search needs
 
 returns-3 : tie.Need-returns-3
 unfolding answerText replyText getStep
-returns-3 c = rw (c .before .before .before .before .before .before .before .stage .given .1) (ap (getAnswered (c .before .before .before .before .before .before .before .before .before .before .before .before .before .before .before .args .arena .now)) (rw (c .enum-told .given .1) at (c .before .before .before .before .get-at-tick .ensures)))
+returns-3 c = let g = c .before .before .before .before in
+    rw (g .before .before .before .stage .given .1, ← g .get-at-tick .ensures, c .enum-told .given .1)
 
 same-length-3 : tie.Need-same-length-3
 same-length-3 c = search needs
 
 returns-4 : tie.Need-returns-4
 unfolding answerText replyText getStep
-returns-4 c = rw (c .before .before .before .before .before .before .before .before .stage .given .1) (ap (getAnswered (c .before .before .before .before .before .before .before .before .before .before .before .before .before .before .before .before .args .arena .now)) (rw (c .before .error .given .1) at (c .before .before .before .before .before .get-at-tick .ensures)))
+returns-4 c = let g = c .before .before .before .before .before in
+    rw (g .before .before .before .stage .given .1, ← g .get-at-tick .ensures, c .before .error .given .1)
 
 pub get-value-spec : {M : Type 1} → statement M
 get-value-spec =

@@ -4,7 +4,7 @@ use mathlib.Core.Path.{_≡_, sym, ap}
 use native.Mathlib.Omega.{arith}
 use Rattle.passage_lines.specs.Reply.{replyText}
 use Rattle.sets.specs.Build.{Opened}
-use Rattle.passage.specs.Stage.{answerText, openAnswered, openStep}
+use Rattle.passage.specs.Stage.{answerText, openStep}
 use Rattle.passage.specs.declared.stage.Stage.the-variants.{Fresh}
 use Rattle.passage.proofs.Turns.{open-out, open-slots}
 use borrow.Author.Needs.{needs}
@@ -46,7 +46,8 @@ same-length-2 c = search needs
 
 returns-2 : tie.Need-returns-2
 unfolding answerText replyText openStep
-returns-2 c = rw (c .before .before .before .before .before .before .before .before .before .before .enum-told .given .1) (ap openAnswered (rw (c .before .error .given .1) at (c .before .before .before .before .before .before .before .try-new .ensures)))
+returns-2 c = let t = c .before .before .before .before .before .before .before in
+    rw (t .before .before .before .enum-told .given .1, ← t .try-new .ensures, c .before .error .given .1)
 
 same-length-3 : tie.Need-same-length-3
 same-length-3 c = search needs
@@ -56,7 +57,8 @@ same-length-4 c = search needs
 
 returns-3 : tie.Need-returns-3
 unfolding answerText replyText openStep
-returns-3 c = rw (c .before .before .before .before .before .before .before .before .before .before .before .enum-told .given .1) (ap openAnswered (rw (c .before .before .builder .given .1) at (c .before .before .before .before .before .before .before .before .try-new .ensures)))
+returns-3 c = let t = c .before .before .before .before .before .before .before .before in
+    rw (t .before .before .before .enum-told .given .1, ← t .try-new .ensures, c .before .before .builder .given .1)
 
 pub open-set-spec : {M : Type 1} → statement M
 open-set-spec =

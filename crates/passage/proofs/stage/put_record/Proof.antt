@@ -1,10 +1,10 @@
 -- `put_record` meets its contract: in turn it is the library's push. Assumes nothing.
 use mathlib.Core.Logic.{⊎-elim}
-use mathlib.Core.Path.{_≡_, ap}
+use mathlib.Core.Path.{_≡_}
 use native.Mathlib.Omega.{arith}
 use Rattle.passage_lines.specs.Reply.{replyText}
 use Rattle.sets.specs.declared.builder.SegmentCacheBuilder.{SegmentCacheBuilder}
-use Rattle.passage.specs.Stage.{answerText, putAnswered, putStep}
+use Rattle.passage.specs.Stage.{answerText, putStep}
 use Rattle.passage.specs.declared.stage.Stage.the-variants.{Building}
 use Rattle.passage.proofs.Turns.{put-out}
 use borrow.Author.Needs.{needs}
@@ -40,7 +40,8 @@ same-length-3 c = search needs
 
 returns-2 : tie.Need-returns-2
 unfolding answerText replyText putStep
-returns-2 c = rw (c .before .before .before .before .before .before .before .before .before .before .before .before .before .before .stage .given .1) (ap putAnswered (rw (c .before .refusal .given .1) at (c .before .before .before .before .before .before .before .before .before .push .ensures)))
+returns-2 c = let p = c .before .before .before .before .before .before .before .before .before in
+    rw (p .before .before .before .before .before .stage .given .1, ← p .push .ensures, c .before .refusal .given .1)
 
 same-length-4 : tie.Need-same-length-4
 same-length-4 c = search needs
@@ -53,7 +54,8 @@ same-length-6 c = search needs
 
 returns-3 : tie.Need-returns-3
 unfolding answerText replyText putStep
-returns-3 c = rw (c .before .before .before .before .before .before .before .before .before .before .before .before .before .before .stage .given .1) (ap putAnswered (rw (c .before .grown .given .1) at (c .before .before .before .before .before .before .before .before .before .push .ensures)))
+returns-3 c = let p = c .before .before .before .before .before .before .before .before .before in
+    rw (p .before .before .before .before .before .stage .given .1, ← p .push .ensures, c .before .grown .given .1)
 
 pub put-record-spec : {M : Type 1} → statement M
 put-record-spec =

@@ -22,8 +22,7 @@ shared-slice-read-if1 c = omega arith
 
 returns : tie.Need-returns Inv-loop μ-loop
 returns c = let l = c .before .before .before .loop in
-    let a = c .before .before .before .before .args in
-    (first-here (a .byte) (a .bytes .now) (l .i) (c .before .before .loop-test .taken) (c .if1 .taken) ∙ l .inv .0, omega arith, omega arith)
+    (first-here _ _ (l .i) (c .before .before .loop-test .taken) (c .if1 .taken) ∙ l .inv .0, omega arith, omega arith)
 
 add-i : tie.Need-add-i Inv-loop μ-loop
 add-i c = omega arith
@@ -33,13 +32,10 @@ loop-less c = omega arith
 
 loop-again : tie.Need-loop-again Inv-loop μ-loop
 loop-again c = let l = c .before .before .before .loop in
-    let a = c .before .before .before .before .args in
-    (first-later (a .byte) (a .bytes .now) (l .i) (c .before .before .loop-test .taken) (c .if1 .left) ∙ l .inv .0, omega arith, omega arith)
+    (first-later _ _ (l .i) (c .before .before .loop-test .taken) (c .if1 .left) ∙ l .inv .0, omega arith, omega arith)
 
 returns-2 : tie.Need-returns-2 Inv-loop μ-loop
-returns-2 c = let l = c .before .loop in
-    let a = c .before .before .args in
-    (first-none (a .byte) (a .bytes .now) (l .i) (c .loop-test .left) ∙ l .inv .0, omega arith, omega arith)
+returns-2 c = (first-none _ _ _ (c .loop-test .left) ∙ c .before .loop .inv .0, omega arith, omega arith)
 
 pub find-byte-spec : {M : Type 1} → statement M
 find-byte-spec =

@@ -1,30 +1,31 @@
 -- `parse_get` meets its contract: each field is read as the form asks. Assumes nothing.
 use mathlib.Core.Path.{_≡_, sym, ap, _∙_}
 use mathlib.Core.List.{List}
-use Rattle.records.specs.declared.record.Span.{Span}
 use Prim.Native.Nat.{ℕ}
-use Rattle.passage_lines.specs.Command.{next, getForm}
+use Rattle.passage_lines.specs.Command.{done, next, getForm}
 use Rattle.passage_lines.specs.declared.command.Command.{Command}
+use Rattle.passage_lines.specs.declared.command.Command.the-variants.{Get}
 use Rattle.passage_lines.specs.Fields.{Field, bytes, decimal, fieldsAt, gotBytes, gotNumber, hash}
 use Rattle.passage_lines.proofs.Forms.{next-none, next-some, done-none, done-more}
 use borrow.Author.Needs.{needs}
 use Rattle.passage_lines.proofs.command.parse_get.Statement.{statement}
 use Rattle.passage_lines.proofs.command.parse_get.Tie as tie
 
-hash-step : (c : tie.After-hash) (form : ℕ → List Field → Command)
-    → let line = c .before .before .before .before .args .line .now in next hash form (fieldsAt line (c .before .before .before .before .args .at)) ≡ form (c .hash .given .0 .0) (fieldsAt line (c .hash .given .0 .1 .0))
-hash-step c form =
-    next-some hash (c .before .before .before .before .args .line .now) (c .before .before .before .before .args .at) (c .hash .given .0 .0) (c .hash .given .0 .1 .0) (sym (c .before .before .number-field .ensures) ∙ ap gotNumber (c .hash .given .1)) form
+-- what is left of the form once a field is read, for the fields from a position on
+abbrev Left : tie.After-hash → ℕ → (List Field → Command) → Type 0
+Left h at form = let s = h .before .before .before .before .args in getForm (fieldsAt (s .line .now) (s .at)) ≡ form (fieldsAt (s .line .now) at)
 
-key-step : (c : tie.After-key) (form : Span → List Field → Command)
-    → let line = c .before .before .before .before .before .before .before .before .args .line .now in next bytes form (fieldsAt line (c .before .before .before .before .hash .given .0 .1 .0)) ≡ form (c .key .given .0 .0) (fieldsAt line (c .key .given .0 .1 .0))
-key-step c form =
-    next-some bytes (c .before .before .before .before .before .before .before .before .args .line .now) (c .before .before .before .before .hash .given .0 .1 .0) (c .key .given .0 .0) (c .key .given .0 .1 .0) (sym (c .before .before .bytes-field .ensures) ∙ ap gotBytes (c .key .given .1)) form
+hash-left : (h : tie.After-hash) → Left h (h .hash .given .0 .1 .0) (next bytes λ key. next (decimal 64) λ tick. done (Get (h .hash .given .0 .0) key tick))
+unfolding getForm
+hash-left h = next-some hash _ _ (sym (h .before .before .number-field .ensures) ∙ ap gotNumber (h .hash .given .1)) _
 
-tick-step : (c : tie.After-tick) (form : ℕ → List Field → Command)
-    → let line = c .before .before .before .before .before .before .before .before .before .before .before .before .args .line .now in next (decimal 64) form (fieldsAt line (c .before .before .before .before .key .given .0 .1 .0)) ≡ form (c .tick .given .0 .0) (fieldsAt line (c .tick .given .0 .1 .0))
-tick-step c form =
-    next-some (decimal 64) (c .before .before .before .before .before .before .before .before .before .before .before .before .args .line .now) (c .before .before .before .before .key .given .0 .1 .0) (c .tick .given .0 .0) (c .tick .given .0 .1 .0) (sym (c .before .before .number-field2 .ensures) ∙ ap gotNumber (c .tick .given .1)) form
+key-left : (k : tie.After-key) → let h = k .before .before .before .before in
+    Left h (k .key .given .0 .1 .0) (next (decimal 64) λ tick. done (Get (h .hash .given .0 .0) (k .key .given .0 .0) tick))
+key-left k = hash-left (k .before .before .before .before) ∙ next-some bytes _ _ (sym (k .before .before .bytes-field .ensures) ∙ ap gotBytes (k .key .given .1)) _
+
+tick-left : (t : tie.After-tick) → let k = t .before .before .before .before in let h = k .before .before .before .before in
+    Left h (t .tick .given .0 .1 .0) (done (Get (h .hash .given .0 .0) (k .key .given .0 .0) (t .tick .given .0 .0)))
+tick-left t = key-left (t .before .before .before .before) ∙ next-some (decimal 64) _ _ (sym (t .before .before .number-field2 .ensures) ∙ ap gotNumber (t .tick .given .1)) _
 
 number-field-requires : tie.Need-number-field-requires
 number-field-requires c κs = search needs
@@ -37,7 +38,7 @@ enum-told c = search needs
 
 returns : tie.Need-returns
 unfolding getForm
-returns c = rw (next-none hash (c .before .before .before .before .args .line .now) (c .before .before .before .before .args .at) (sym (c .before .before .number-field .ensures) ∙ ap gotNumber (c .enum-told .given .1)))
+returns c = rw (next-none hash _ _ (sym (c .before .before .number-field .ensures) ∙ ap gotNumber (c .enum-told .given .1)))
 
 bytes-field-requires : tie.Need-bytes-field-requires
 bytes-field-requires c κs = search needs
@@ -49,8 +50,7 @@ enum-told-2 : tie.Need-enum-told-2
 enum-told-2 c = search needs
 
 returns-2 : tie.Need-returns-2
-unfolding getForm
-returns-2 c = rw (hash-step (c .before .before .before .before), next-none bytes (c .before .before .before .before .before .before .before .before .args .line .now) (c .before .before .before .before .hash .given .0 .1 .0) (sym (c .before .before .bytes-field .ensures) ∙ ap gotBytes (c .enum-told2 .given .1)))
+returns-2 c = rw (hash-left (c .before .before .before .before), next-none bytes _ _ (sym (c .before .before .bytes-field .ensures) ∙ ap gotBytes (c .enum-told2 .given .1)))
 
 number-field-requires-2 : tie.Need-number-field-requires-2
 number-field-requires-2 c κs = search needs
@@ -62,16 +62,13 @@ enum-told-3 : tie.Need-enum-told-3
 enum-told-3 c = search needs
 
 returns-3 : tie.Need-returns-3
-unfolding getForm
-returns-3 c = rw (hash-step (c .before .before .before .before .before .before .before .before), key-step (c .before .before .before .before), next-none (decimal 64) (c .before .before .before .before .before .before .before .before .before .before .before .before .args .line .now) (c .before .before .before .before .key .given .0 .1 .0) (sym (c .before .before .number-field2 .ensures) ∙ ap gotNumber (c .enum-told3 .given .1)))
+returns-3 c = rw (key-left (c .before .before .before .before), next-none (decimal 64) _ _ (sym (c .before .before .number-field2 .ensures) ∙ ap gotNumber (c .enum-told3 .given .1)))
 
 returns-4 : tie.Need-returns-4
-unfolding getForm
-returns-4 c = rw (hash-step (c .before .before .before .before .before .before .before .before .before .before), key-step (c .before .before .before .before .before .before), tick-step (c .before .before), done-more (c .before .before .before .before .before .before .before .before .before .before .before .before .before .before .args .line .now) (c .before .before .tick .given .0 .1 .0) _ (c .if1 .taken))
+returns-4 c = rw (tick-left (c .before .before), done-more _ _ _ (c .if1 .taken))
 
 returns-5 : tie.Need-returns-5
-unfolding getForm
-returns-5 c = rw (hash-step (c .before .before .before .before .before .before .before .before .before .before), key-step (c .before .before .before .before .before .before), tick-step (c .before .before), done-none (c .before .before .before .before .before .before .before .before .before .before .before .before .before .before .args .line .now) (c .before .before .tick .given .0 .1 .0) _ (c .if1 .left))
+returns-5 c = rw (tick-left (c .before .before), done-none _ _ _ (c .if1 .left))
 
 pub parse-get-spec : {M : Type 1} → statement M
 parse-get-spec =

@@ -1,5 +1,4 @@
 -- `parse_line` meets its contract: the first field is the word. Assumes nothing.
-use Prim.Native.Nat.{_-_}
 use borrow.Author.Tests.{lt-ltb}
 use lib.ListN.{length}
 use Rattle.passage_lines.specs.Command.{commandOf}

@@ -1,37 +1,39 @@
 -- `parse_setting` meets its contract: each field is read as the form asks. Assumes nothing.
 use mathlib.Core.Path.{_≡_, sym, ap, _∙_}
 use mathlib.Core.List.{List}
-use mathlib.Core.Bool.{Bool}
-use Rattle.hash_parts.specs.declared.setting.SegmentExpiry.{SegmentExpiry}
+use Rattle.hash_parts.specs.declared.setting.SegmentCacheConfig.{SegmentCacheConfig}
 use Prim.Native.Nat.{ℕ}
 use native.Mathlib.Omega.{arith}
-use Rattle.passage_lines.specs.Command.{next, settingForm}
+use Rattle.passage_lines.specs.Command.{done, next, setting, settingForm}
 use Rattle.passage_lines.specs.declared.command.Command.{Command}
+use Rattle.passage_lines.specs.declared.command.Command.the-variants.{Open}
 use Rattle.passage_lines.specs.Fields.{Field, decimal, fieldsAt, gotLayout, gotNumber, gotTick, layout, tickLength}
 use Rattle.passage_lines.proofs.Forms.{next-none, next-some, done-none, done-more, field-limit}
 use borrow.Author.Needs.{needs}
 use Rattle.passage_lines.proofs.command.parse_setting.Statement.{statement}
 use Rattle.passage_lines.proofs.command.parse_setting.Tie as tie
 
-occupancy-step : (c : tie.After-occupancy) (form : ℕ → List Field → Command)
-    → let line = c .before .before .before .before .args .line .now in next (decimal 8) form (fieldsAt line (c .before .before .before .before .args .at)) ≡ form (c .occupancy .given .0 .0) (fieldsAt line (c .occupancy .given .0 .1 .0))
-occupancy-step c form =
-    next-some (decimal 8) (c .before .before .before .before .args .line .now) (c .before .before .before .before .args .at) (c .occupancy .given .0 .0) (c .occupancy .given .0 .1 .0) (sym (c .before .before .number-field .ensures) ∙ ap gotNumber (c .occupancy .given .1)) form
+-- what is left of the form once a field is read, for the fields from a position on; `opened` is `Open` with the records asked for
+abbrev Left : tie.After-occupancy → ℕ → ((SegmentCacheConfig → Command) → List Field → Command) → Type 0
+Left o at form = let s = o .before .before .before .before .args in
+    settingForm (s .records) (fieldsAt (s .line .now) (s .at)) ≡ form (Open (s .records)) (fieldsAt (s .line .now) at)
 
-packed-step : (c : tie.After-packed) (form : Bool → List Field → Command)
-    → let line = c .before .before .before .before .before .before .before .before .args .line .now in next layout form (fieldsAt line (c .before .before .before .before .occupancy .given .0 .1 .0)) ≡ form (c .packed .given .0 .0) (fieldsAt line (c .packed .given .0 .1 .0))
-packed-step c form =
-    next-some layout (c .before .before .before .before .before .before .before .before .args .line .now) (c .before .before .before .before .occupancy .given .0 .1 .0) (c .packed .given .0 .0) (c .packed .given .0 .1 .0) (sym (c .before .before .layout-field .ensures) ∙ ap gotLayout (c .packed .given .1)) form
+occupancy-left : (o : tie.After-occupancy) → Left o (o .occupancy .given .0 .1 .0)
+    (λ opened. next layout λ packed. next (decimal 8) λ filter. next tickLength λ expiry. done (opened (setting expiry (o .occupancy .given .0 .0) packed filter)))
+unfolding settingForm
+occupancy-left o = next-some (decimal 8) _ _ (sym (o .before .before .number-field .ensures) ∙ ap gotNumber (o .occupancy .given .1)) _
 
-filter-step : (c : tie.After-filter) (form : ℕ → List Field → Command)
-    → let line = c .before .before .before .before .before .before .before .before .before .before .before .before .args .line .now in next (decimal 8) form (fieldsAt line (c .before .before .before .before .packed .given .0 .1 .0)) ≡ form (c .filter .given .0 .0) (fieldsAt line (c .filter .given .0 .1 .0))
-filter-step c form =
-    next-some (decimal 8) (c .before .before .before .before .before .before .before .before .before .before .before .before .args .line .now) (c .before .before .before .before .packed .given .0 .1 .0) (c .filter .given .0 .0) (c .filter .given .0 .1 .0) (sym (c .before .before .number-field2 .ensures) ∙ ap gotNumber (c .filter .given .1)) form
+packed-left : (p : tie.After-packed) → let o = p .before .before .before .before in Left o (p .packed .given .0 .1 .0)
+    (λ opened. next (decimal 8) λ filter. next tickLength λ expiry. done (opened (setting expiry (o .occupancy .given .0 .0) (p .packed .given .0 .0) filter)))
+packed-left p = occupancy-left (p .before .before .before .before) ∙ next-some layout _ _ (sym (p .before .before .layout-field .ensures) ∙ ap gotLayout (p .packed .given .1)) _
 
-expiry-step : (c : tie.After-expiry) (form : SegmentExpiry → List Field → Command)
-    → let line = c .before .before .before .before .before .before .before .before .before .before .before .before .before .before .before .before .args .line .now in next tickLength form (fieldsAt line (c .before .before .before .before .filter .given .0 .1 .0)) ≡ form (c .expiry .given .0 .0) (fieldsAt line (c .expiry .given .0 .1 .0))
-expiry-step c form =
-    next-some tickLength (c .before .before .before .before .before .before .before .before .before .before .before .before .before .before .before .before .args .line .now) (c .before .before .before .before .filter .given .0 .1 .0) (c .expiry .given .0 .0) (c .expiry .given .0 .1 .0) (sym (c .before .before .tick-field .ensures) ∙ ap gotTick (c .expiry .given .1)) form
+filter-left : (f : tie.After-filter) → let p = f .before .before .before .before in let o = p .before .before .before .before in Left o (f .filter .given .0 .1 .0)
+    (λ opened. next tickLength λ expiry. done (opened (setting expiry (o .occupancy .given .0 .0) (p .packed .given .0 .0) (f .filter .given .0 .0))))
+filter-left f = packed-left (f .before .before .before .before) ∙ next-some (decimal 8) _ _ (sym (f .before .before .number-field2 .ensures) ∙ ap gotNumber (f .filter .given .1)) _
+
+expiry-left : (e : tie.After-expiry) → let f = e .before .before .before .before in let p = f .before .before .before .before in let o = p .before .before .before .before in
+    Left o (e .expiry .given .0 .1 .0) (λ opened. done (opened (setting (e .expiry .given .0 .0) (o .occupancy .given .0 .0) (p .packed .given .0 .0) (f .filter .given .0 .0))))
+expiry-left e = filter-left (e .before .before .before .before) ∙ next-some tickLength _ _ (sym (e .before .before .tick-field .ensures) ∙ ap gotTick (e .expiry .given .1)) _
 
 number-field-requires : tie.Need-number-field-requires
 number-field-requires c κs = search needs
@@ -44,7 +46,7 @@ enum-told c = search needs
 
 returns : tie.Need-returns
 unfolding settingForm
-returns c = rw (next-none (decimal 8) (c .before .before .before .before .args .line .now) (c .before .before .before .before .args .at) (sym (c .before .before .number-field .ensures) ∙ ap gotNumber (c .enum-told .given .1)))
+returns c = rw (next-none (decimal 8) _ _ (sym (c .before .before .number-field .ensures) ∙ ap gotNumber (c .enum-told .given .1)))
 
 layout-field-requires : tie.Need-layout-field-requires
 layout-field-requires c κs = search needs
@@ -56,8 +58,7 @@ enum-told-2 : tie.Need-enum-told-2
 enum-told-2 c = search needs
 
 returns-2 : tie.Need-returns-2
-unfolding settingForm
-returns-2 c = rw (occupancy-step (c .before .before .before .before), next-none layout (c .before .before .before .before .before .before .before .before .args .line .now) (c .before .before .before .before .occupancy .given .0 .1 .0) (sym (c .before .before .layout-field .ensures) ∙ ap gotLayout (c .enum-told2 .given .1)))
+returns-2 c = rw (occupancy-left (c .before .before .before .before), next-none layout _ _ (sym (c .before .before .layout-field .ensures) ∙ ap gotLayout (c .enum-told2 .given .1)))
 
 number-field-requires-2 : tie.Need-number-field-requires-2
 number-field-requires-2 c κs = search needs
@@ -69,8 +70,7 @@ enum-told-3 : tie.Need-enum-told-3
 enum-told-3 c = search needs
 
 returns-3 : tie.Need-returns-3
-unfolding settingForm
-returns-3 c = rw (occupancy-step (c .before .before .before .before .before .before .before .before), packed-step (c .before .before .before .before), next-none (decimal 8) (c .before .before .before .before .before .before .before .before .before .before .before .before .args .line .now) (c .before .before .before .before .packed .given .0 .1 .0) (sym (c .before .before .number-field2 .ensures) ∙ ap gotNumber (c .enum-told3 .given .1)))
+returns-3 c = rw (packed-left (c .before .before .before .before), next-none (decimal 8) _ _ (sym (c .before .before .number-field2 .ensures) ∙ ap gotNumber (c .enum-told3 .given .1)))
 
 tick-field-requires : tie.Need-tick-field-requires
 tick-field-requires c κs = search needs
@@ -82,24 +82,21 @@ enum-told-4 : tie.Need-enum-told-4
 enum-told-4 c = search needs
 
 returns-4 : tie.Need-returns-4
-unfolding settingForm
-returns-4 c = rw (occupancy-step (c .before .before .before .before .before .before .before .before .before .before .before .before), packed-step (c .before .before .before .before .before .before .before .before), filter-step (c .before .before .before .before), next-none tickLength (c .before .before .before .before .before .before .before .before .before .before .before .before .before .before .before .before .args .line .now) (c .before .before .before .before .filter .given .0 .1 .0) (sym (c .before .before .tick-field .ensures) ∙ ap gotTick (c .enum-told4 .given .1)))
+returns-4 c = rw (filter-left (c .before .before .before .before), next-none tickLength _ _ (sym (c .before .before .tick-field .ensures) ∙ ap gotTick (c .enum-told4 .given .1)))
 
 returns-5 : tie.Need-returns-5
-unfolding settingForm
-returns-5 c = rw (occupancy-step (c .before .before .before .before .before .before .before .before .before .before .before .before .before .before), packed-step (c .before .before .before .before .before .before .before .before .before .before), filter-step (c .before .before .before .before .before .before), expiry-step (c .before .before), done-more (c .before .before .before .before .before .before .before .before .before .before .before .before .before .before .before .before .before .before .args .line .now) (c .before .before .expiry .given .0 .1 .0) _ (c .if1 .taken))
+returns-5 c = rw (expiry-left (c .before .before), done-more _ _ _ (c .if1 .taken))
 
 cast-t18 : tie.Need-cast-t18
-cast-t18 c = let r = c .before .before .before .before .before .before .before .before .before .before .before .before .before .before in
-    omega (arith, field-limit 10 255 (c .before .before .before .before .before .before .before .before .before .before .before .before .before .before .before .before .before .before .args .line .now) (c .before .before .before .before .before .before .before .before .before .before .before .before .before .before .before .before .before .before .args .at) (r .occupancy .given .0 .0) (r .occupancy .given .0 .1 .0) (sym (r .before .before .number-field .ensures) ∙ ap gotNumber (r .occupancy .given .1)))
+cast-t18 c = let o = c .before .before .before .before .before .before .before .before .before .before .before .before .before .before in
+    omega (arith, field-limit 10 255 _ _ (sym (o .before .before .number-field .ensures) ∙ ap gotNumber (o .occupancy .given .1)))
 
 cast-t19 : tie.Need-cast-t19
-cast-t19 c = let r = c .before .before .before .before .before .before in
-    omega (arith, field-limit 10 255 (c .before .before .before .before .before .before .before .before .before .before .before .before .before .before .before .before .before .before .args .line .now) (c .before .before .before .before .before .before .before .before .before .before .packed .given .0 .1 .0) (r .filter .given .0 .0) (r .filter .given .0 .1 .0) (sym (r .before .before .number-field2 .ensures) ∙ ap gotNumber (r .filter .given .1)))
+cast-t19 c = let f = c .before .before .before .before .before .before in
+    omega (arith, field-limit 10 255 _ _ (sym (f .before .before .number-field2 .ensures) ∙ ap gotNumber (f .filter .given .1)))
 
 returns-6 : tie.Need-returns-6
-unfolding settingForm
-returns-6 c = rw (occupancy-step (c .before .before .before .before .before .before .before .before .before .before .before .before .before .before), packed-step (c .before .before .before .before .before .before .before .before .before .before), filter-step (c .before .before .before .before .before .before), expiry-step (c .before .before), done-none (c .before .before .before .before .before .before .before .before .before .before .before .before .before .before .before .before .before .before .args .line .now) (c .before .before .expiry .given .0 .1 .0) _ (c .if1 .left))
+returns-6 c = rw (expiry-left (c .before .before), done-none _ _ _ (c .if1 .left))
 
 pub parse-setting-spec : {M : Type 1} → statement M
 parse-setting-spec =

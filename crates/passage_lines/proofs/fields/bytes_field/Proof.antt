@@ -1,15 +1,14 @@
 -- `bytes_field` meets its contract: the field is read up to its end. Assumes nothing.
 use mathlib.Core.Path.{sym, ap, _∙_}
-use Prim.Native.Nat.{_+_}
-use Rattle.passage_lines.specs.Fields.{gotBefore, bytes, spanOf}
+use Rattle.passage_lines.specs.Fields.{bytes, spanOf}
 use Rattle.passage_lines.specs.Text.{numberGiven}
-use Rattle.passage_lines.proofs.Forms.{field-none, field-is}
+use Rattle.passage_lines.proofs.Forms.{field-none, field-got}
 use borrow.Author.Needs.{needs}
 use Rattle.passage_lines.proofs.fields.bytes_field.Statement.{statement}
 use Rattle.passage_lines.proofs.fields.bytes_field.Tie as tie
 
 returns : tie.Need-returns
-returns c = let a = c .before .before .args in sym (field-none bytes (a .line .now) (a .at) (c .if1 .taken))
+returns c = sym (field-none bytes _ _ (c .if1 .taken))
 
 find-byte-requires : tie.Need-find-byte-requires
 find-byte-requires c κs = search needs
@@ -33,17 +32,15 @@ enum-told : tie.Need-enum-told
 enum-told c = search needs
 
 returns-2 : tie.Need-returns-2
-returns-2 c = let a = c .before .before .before .before .before .before .before .args in
-    let e = c .before .before .before .before .find-byte in
-    sym (field-is bytes (a .line .now) (a .at) (e .result) (c .before .before .before .before .before .if1 .left) (e .ensures .0) ∙ ap (λ o. gotBefore (e .result + 1) (spanOf (a .at) o)) (sym (c .before .before .hex-length .ensures) ∙ ap numberGiven (c .enum-told .given .1)))
+returns-2 c = let e = c .before .before .before .before in
+    field-got bytes _ _ _ (e .before .if1 .left) (e .find-byte .ensures .0) (ap (spanOf _) (sym (c .before .before .hex-length .ensures) ∙ ap numberGiven (c .enum-told .given .1)))
 
 add-t12 : tie.Need-add-t12
 add-t12 c = search needs
 
 returns-3 : tie.Need-returns-3
-returns-3 c = let a = c .before .before .before .before .before .before .before .before .args in
-    let e = c .before .before .before .before .before .find-byte in
-    sym (field-is bytes (a .line .now) (a .at) (e .result) (c .before .before .before .before .before .before .if1 .left) (e .ensures .0) ∙ ap (λ o. gotBefore (e .result + 1) (spanOf (a .at) o)) (sym (c .before .before .before .hex-length .ensures) ∙ ap numberGiven (c .before .len .given .1)))
+returns-3 c = let e = c .before .before .before .before .before in
+    field-got bytes _ _ _ (e .before .if1 .left) (e .find-byte .ensures .0) (ap (spanOf _) (sym (c .before .before .before .hex-length .ensures) ∙ ap numberGiven (c .before .len .given .1)))
 
 pub bytes-field-spec : {M : Type 1} → statement M
 bytes-field-spec =

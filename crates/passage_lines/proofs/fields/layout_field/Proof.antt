@@ -1,15 +1,14 @@
 -- `layout_field` meets its contract: the field is read up to its end. Assumes nothing.
 use mathlib.Core.Path.{sym, ap, _∙_}
-use Prim.Native.Nat.{_+_}
-use Rattle.passage_lines.specs.Fields.{gotBefore, layout}
+use Rattle.passage_lines.specs.Fields.{layout}
 use Rattle.passage_lines.specs.Text.{layoutGiven}
-use Rattle.passage_lines.proofs.Forms.{field-none, field-is}
+use Rattle.passage_lines.proofs.Forms.{field-none, field-got}
 use borrow.Author.Needs.{needs}
 use Rattle.passage_lines.proofs.fields.layout_field.Statement.{statement}
 use Rattle.passage_lines.proofs.fields.layout_field.Tie as tie
 
 returns : tie.Need-returns
-returns c = let a = c .before .before .args in sym (field-none layout (a .line .now) (a .at) (c .if1 .taken))
+returns c = sym (field-none layout _ _ (c .if1 .taken))
 
 find-byte-requires : tie.Need-find-byte-requires
 find-byte-requires c κs = search needs
@@ -33,17 +32,15 @@ enum-told : tie.Need-enum-told
 enum-told c = search needs
 
 returns-2 : tie.Need-returns-2
-returns-2 c = let a = c .before .before .before .before .before .before .before .args in
-    let e = c .before .before .before .before .find-byte in
-    sym (field-is layout (a .line .now) (a .at) (e .result) (c .before .before .before .before .before .if1 .left) (e .ensures .0) ∙ ap (gotBefore (e .result + 1)) (sym (c .before .before .parse-layout .ensures) ∙ ap layoutGiven (c .enum-told .given .1)))
+returns-2 c = let e = c .before .before .before .before in
+    field-got layout _ _ _ (e .before .if1 .left) (e .find-byte .ensures .0) (sym (c .before .before .parse-layout .ensures) ∙ ap layoutGiven (c .enum-told .given .1))
 
 add-t5 : tie.Need-add-t5
 add-t5 c = search needs
 
 returns-3 : tie.Need-returns-3
-returns-3 c = let a = c .before .before .before .before .before .before .before .before .args in
-    let e = c .before .before .before .before .before .find-byte in
-    sym (field-is layout (a .line .now) (a .at) (e .result) (c .before .before .before .before .before .before .if1 .left) (e .ensures .0) ∙ ap (gotBefore (e .result + 1)) (sym (c .before .before .before .parse-layout .ensures) ∙ ap layoutGiven (c .before .packed .given .1)))
+returns-3 c = let e = c .before .before .before .before .before in
+    field-got layout _ _ _ (e .before .if1 .left) (e .find-byte .ensures .0) (sym (c .before .before .before .parse-layout .ensures) ∙ ap layoutGiven (c .before .packed .given .1))
 
 pub layout-field-spec : {M : Type 1} → statement M
 layout-field-spec =

@@ -1,15 +1,14 @@
 -- `number_field` meets its contract: the field is read up to its end. Assumes nothing.
 use mathlib.Core.Path.{sym, ap, _∙_}
-use Prim.Native.Nat.{_+_}
-use Rattle.passage_lines.specs.Fields.{gotBefore, number}
+use Rattle.passage_lines.specs.Fields.{number}
 use Rattle.passage_lines.specs.Text.{numberGiven}
-use Rattle.passage_lines.proofs.Forms.{field-none, field-is}
+use Rattle.passage_lines.proofs.Forms.{field-none, field-got}
 use borrow.Author.Needs.{needs}
 use Rattle.passage_lines.proofs.fields.number_field.Statement.{statement}
 use Rattle.passage_lines.proofs.fields.number_field.Tie as tie
 
 returns : tie.Need-returns
-returns c = let a = c .before .before .args in sym (field-none (number (a .base) (a .max)) (a .line .now) (a .at) (c .if1 .taken))
+returns c = sym (field-none (number _ _) _ _ (c .if1 .taken))
 
 find-byte-requires : tie.Need-find-byte-requires
 find-byte-requires c κs = search needs
@@ -33,17 +32,15 @@ enum-told : tie.Need-enum-told
 enum-told c = search needs
 
 returns-2 : tie.Need-returns-2
-returns-2 c = let a = c .before .before .before .before .before .before .before .args in
-    let e = c .before .before .before .before .find-byte in
-    sym (field-is (number (a .base) (a .max)) (a .line .now) (a .at) (e .result) (c .before .before .before .before .before .if1 .left) (e .ensures .0) ∙ ap (gotBefore (e .result + 1)) (sym (c .before .before .parse-number .ensures) ∙ ap numberGiven (c .enum-told .given .1)))
+returns-2 c = let e = c .before .before .before .before in
+    field-got (number _ _) _ _ _ (e .before .if1 .left) (e .find-byte .ensures .0) (sym (c .before .before .parse-number .ensures) ∙ ap numberGiven (c .enum-told .given .1))
 
 add-t7 : tie.Need-add-t7
 add-t7 c = search needs
 
 returns-3 : tie.Need-returns-3
-returns-3 c = let a = c .before .before .before .before .before .before .before .before .args in
-    let e = c .before .before .before .before .before .find-byte in
-    sym (field-is (number (a .base) (a .max)) (a .line .now) (a .at) (e .result) (c .before .before .before .before .before .before .if1 .left) (e .ensures .0) ∙ ap (gotBefore (e .result + 1)) (sym (c .before .before .before .parse-number .ensures) ∙ ap numberGiven (c .before .value .given .1)))
+returns-3 c = let e = c .before .before .before .before .before in
+    field-got (number _ _) _ _ _ (e .before .if1 .left) (e .find-byte .ensures .0) (sym (c .before .before .before .parse-number .ensures) ∙ ap numberGiven (c .before .value .given .1))
 
 pub number-field-spec : {M : Type 1} → statement M
 number-field-spec =

@@ -1,15 +1,14 @@
 -- `tick_field` meets its contract: the field is read up to its end. Assumes nothing.
 use mathlib.Core.Path.{sym, ap, _∙_}
-use Prim.Native.Nat.{_+_}
-use Rattle.passage_lines.specs.Fields.{gotBefore, tickLength}
+use Rattle.passage_lines.specs.Fields.{tickLength}
 use Rattle.passage_lines.specs.Text.{tickLengthGiven}
-use Rattle.passage_lines.proofs.Forms.{field-none, field-is}
+use Rattle.passage_lines.proofs.Forms.{field-none, field-got}
 use borrow.Author.Needs.{needs}
 use Rattle.passage_lines.proofs.fields.tick_field.Statement.{statement}
 use Rattle.passage_lines.proofs.fields.tick_field.Tie as tie
 
 returns : tie.Need-returns
-returns c = let a = c .before .before .args in sym (field-none tickLength (a .line .now) (a .at) (c .if1 .taken))
+returns c = sym (field-none tickLength _ _ (c .if1 .taken))
 
 find-byte-requires : tie.Need-find-byte-requires
 find-byte-requires c κs = search needs
@@ -33,17 +32,15 @@ enum-told : tie.Need-enum-told
 enum-told c = search needs
 
 returns-2 : tie.Need-returns-2
-returns-2 c = let a = c .before .before .before .before .before .before .before .args in
-    let e = c .before .before .before .before .find-byte in
-    sym (field-is tickLength (a .line .now) (a .at) (e .result) (c .before .before .before .before .before .if1 .left) (e .ensures .0) ∙ ap (gotBefore (e .result + 1)) (sym (c .before .before .parse-tick-length .ensures) ∙ ap tickLengthGiven (c .enum-told .given .1)))
+returns-2 c = let e = c .before .before .before .before in
+    field-got tickLength _ _ _ (e .before .if1 .left) (e .find-byte .ensures .0) (sym (c .before .before .parse-tick-length .ensures) ∙ ap tickLengthGiven (c .enum-told .given .1))
 
 add-t5 : tie.Need-add-t5
 add-t5 c = search needs
 
 returns-3 : tie.Need-returns-3
-returns-3 c = let a = c .before .before .before .before .before .before .before .before .args in
-    let e = c .before .before .before .before .before .find-byte in
-    sym (field-is tickLength (a .line .now) (a .at) (e .result) (c .before .before .before .before .before .before .if1 .left) (e .ensures .0) ∙ ap (gotBefore (e .result + 1)) (sym (c .before .before .before .parse-tick-length .ensures) ∙ ap tickLengthGiven (c .before .expiry .given .1)))
+returns-3 c = let e = c .before .before .before .before .before in
+    field-got tickLength _ _ _ (e .before .if1 .left) (e .find-byte .ensures .0) (sym (c .before .before .before .parse-tick-length .ensures) ∙ ap tickLengthGiven (c .before .expiry .given .1))
 
 pub tick-field-spec : {M : Type 1} → statement M
 tick-field-spec =

@@ -16,19 +16,19 @@ is-hex-requires : tie.Need-is-hex-requires
 is-hex-requires c κs = search needs
 
 returns : tie.Need-returns
-returns c = decoded-bad (c .before .before .before .before .args .text .now) (c .before .before .before .before .args .out .now) (sym (c .before .is-hex .ensures) ∙ not-true (c .before .is-hex .result) (c .if1 .taken))
+returns c = decoded-bad _ _ (sym (c .before .is-hex .ensures) ∙ not-true _ (c .if1 .taken))
 
 returns-2 : tie.Need-returns-2
-returns-2 c = decoded-short (c .before .before .before .before .before .args .text .now) (hex-of (c .before)) (c .before .before .before .before .before .args .out .now) (c .if2 .taken)
+returns-2 c = decoded-short _ (hex-of (c .before)) _ (c .if2 .taken)
 
 write-bytes-requires : tie.Need-write-bytes-requires
-write-bytes-requires c κs = (hex-of (c .before .before), omega (arith, bytes-length (c .before .before .before .before .before .before .args .text .now) (hex-of (c .before .before))))
+write-bytes-requires c κs = let h = hex-of (c .before .before) in (h, omega (arith, bytes-length _ h))
 
 same-length : tie.Need-same-length
 same-length c = search needs
 
 returns-3 : tie.Need-returns-3
-returns-3 c = let a = c .before .before .before .before .before .before .before .before .before .args in decoded-in (a .text .now) (hex-of (c .before .before .before .before .before)) (a .out .now) (c .before .before .write-bytes .last .0) _ refl (omega arith) (c .before .before .write-bytes .ensures)
+returns-3 c = decoded-in _ (hex-of (c .before .before .before .before .before)) _ _ _ refl (omega arith) (c .before .before .write-bytes .ensures)
 
 pub decode-hex-spec : {M : Type 1} → statement M
 decode-hex-spec =

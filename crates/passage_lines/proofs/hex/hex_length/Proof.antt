@@ -1,7 +1,6 @@
 -- `hex_length` meets its contract. Assumes nothing.
 use mathlib.Core.Path.{sym, _∙_}
 use borrow.Author.Tests.{eq-eqb, ne-eqb}
-use lib.ListN.{length}
 use Rattle.passage_lines.specs.Hex.{hexLength}
 use borrow.Author.Needs.{needs}
 use Rattle.passage_lines.proofs.hex.hex_length.Statement.{statement}
@@ -19,18 +18,20 @@ returns c = rw (sym (c .before .same-bytes .ensures) ∙ c .if1 .taken)
 
 returns-2 : tie.Need-returns-2
 unfolding hexLength
-returns-2 c = rw (sym (c .before .before .same-bytes .ensures) ∙ c .before .if1 .left, eq-eqb (length (c .before .before .before .before .before .args .text .now)) 0 (c .if2 .taken))
+returns-2 c = rw (sym (c .before .before .same-bytes .ensures) ∙ c .before .if1 .left, eq-eqb _ 0 (c .if2 .taken))
 
 is-hex-requires : tie.Need-is-hex-requires
 is-hex-requires c κs = search needs
 
 returns-3 : tie.Need-returns-3
 unfolding hexLength
-returns-3 c = rw (sym (c .before .before .before .before .same-bytes .ensures) ∙ c .before .before .before .if1 .left, ne-eqb (length (c .before .before .before .before .before .before .before .args .text .now)) 0 (c .before .before .if2 .left), sym (c .before .is-hex .ensures) ∙ c .if3 .taken)
+returns-3 c = let e = c .before .before in
+    rw (sym (e .before .before .same-bytes .ensures) ∙ e .before .if1 .left, ne-eqb _ 0 (e .if2 .left), sym (c .before .is-hex .ensures) ∙ c .if3 .taken)
 
 returns-4 : tie.Need-returns-4
 unfolding hexLength
-returns-4 c = rw (sym (c .before .before .before .before .same-bytes .ensures) ∙ c .before .before .before .if1 .left, ne-eqb (length (c .before .before .before .before .before .before .before .args .text .now)) 0 (c .before .before .if2 .left), sym (c .before .is-hex .ensures) ∙ c .if3 .left)
+returns-4 c = let e = c .before .before in
+    rw (sym (e .before .before .same-bytes .ensures) ∙ e .before .if1 .left, ne-eqb _ 0 (e .if2 .left), sym (c .before .is-hex .ensures) ∙ c .if3 .left)
 
 pub hex-length-spec : {M : Type 1} → statement M
 hex-length-spec =

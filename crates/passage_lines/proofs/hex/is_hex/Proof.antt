@@ -1,10 +1,10 @@
 -- `is_hex` meets its contract: the text is digits where what is left of it is. Assumes nothing.
 use mathlib.Core.Path.{_≡_, refl, sym, ap, _∙_}
-use Prim.Native.Nat.{_+_, _*_, _-_, _≤_}
+use Prim.Native.Nat.{_-_, _≤_}
 use native.Mathlib.Omega.{arith}
 use lib.ListN.{length, drop}
-use Rattle.passage_lines.specs.Hex.{bytesOfHex, spells, isHex}
-use Rattle.passage_lines.proofs.Digits.{high-bad, low-bad, pair-next, hex-more, hex-end}
+use Rattle.passage_lines.specs.Hex.{spells, isHex}
+use Rattle.passage_lines.proofs.Digits.{high-bad, low-bad, is-hex-next, hex-end}
 use Rattle.passage_lines.proofs.hex.is_hex.Statement.{statement}
 use Rattle.passage_lines.proofs.hex.is_hex.Tie as tie
 
@@ -29,7 +29,7 @@ digit-requires c κs = tt
 returns : tie.Need-returns Inv-loop μ-loop
 unfolding isHex
 returns c = let l = c .before .before .before .before .loop in
-    sym (sym (l .inv .0) ∙ ap spells (high-bad (c .before .before .before .before .before .before .args .text .now) (l .i) (c .before .digit .result) 0 (omega arith) (c .before .digit .ensures .0) (c .if1 .taken)))
+    sym (sym (l .inv .0) ∙ ap spells (high-bad _ (l .i) _ (omega arith) (c .before .digit .ensures .0) (c .if1 .taken)))
 
 add-digit : tie.Need-add-digit Inv-loop μ-loop
 add-digit c = omega arith
@@ -43,9 +43,8 @@ digit-requires-2 c κs = tt
 returns-2 : tie.Need-returns-2 Inv-loop μ-loop
 unfolding isHex
 returns-2 c = let l = c .before .before .before .before .before .before .before .loop in
-    let h = c .before .before .before .before .digit in
-    let d = c .before .digit2 in
-    sym (sym (l .inv .0) ∙ ap spells (low-bad (c .before .before .before .before .before .before .before .before .before .args .text .now) (l .i) (h .result) (d .result) (omega arith) (h .ensures .0) (d .ensures .0) (c .before .before .before .if1 .left) (c .if2 .taken)))
+    let h = c .before .before .before in
+    sym (sym (l .inv .0) ∙ ap spells (low-bad _ (l .i) _ (omega arith) (h .before .digit .ensures .0) _ (c .before .digit2 .ensures .0) (h .if1 .left) (c .if2 .taken)))
 
 add-i : tie.Need-add-i Inv-loop μ-loop
 add-i c = omega arith
@@ -54,15 +53,12 @@ loop-less : tie.Need-loop-less Inv-loop μ-loop
 loop-less c = omega arith
 
 loop-again : tie.Need-loop-again Inv-loop μ-loop
-unfolding isHex
 loop-again c = let l = c .before .before .before .before .before .before .before .loop in
-    let h = c .before .before .before .before .digit in
-    let d = c .before .digit2 in
-    let t = c .before .before .before .before .before .before .before .before .before .args .text .now in
-    (sym (ap spells (pair-next t (l .i) (h .result) (d .result) (omega arith) (h .ensures .0) (d .ensures .0) (c .before .before .before .if1 .left) (c .if2 .left)) ∙ hex-more (h .result * 16 + d .result) (bytesOfHex (drop (l .i + 2) t))) ∙ l .inv .0, omega arith)
+    let h = c .before .before .before in
+    (sym (is-hex-next _ (l .i) _ (omega arith) (h .before .digit .ensures .0) _ (c .before .digit2 .ensures .0) (h .if1 .left) (c .if2 .left)) ∙ l .inv .0, omega arith)
 
 returns-3 : tie.Need-returns-3 Inv-loop μ-loop
-returns-3 c = let l = c .before .loop in sym (sym (l .inv .0) ∙ hex-end (c .before .before .before .args .text .now) (l .i) (l .inv .1) (c .loop-test .left))
+returns-3 c = let l = c .before .loop in sym (sym (l .inv .0) ∙ hex-end _ (l .i) (l .inv .1) (c .loop-test .left))
 
 pub is-hex-spec : {M : Type 1} → statement M
 is-hex-spec =

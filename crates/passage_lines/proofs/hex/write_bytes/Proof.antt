@@ -19,14 +19,14 @@ abbrev μ-loop : tie.MeasureT-loop
 
 -- two characters more, since there is one
 two-of : (c : tie.In-loop Inv-loop μ-loop) → c .before .loop .i + 2 ≤ length (c .before .before .before .before .args .text .now)
-two-of c = two-left (c .before .before .before .before .args .text .now) (c .before .loop .i) (c .before .loop .inv .1) (c .loop-test .taken)
+two-of c = two-left _ _ (c .before .loop .inv .1) (c .loop-test .taken)
 
 digits-of : (c : tie.After-digit2 Inv-loop μ-loop) → (c .before .before .digit .result < 16) × (c .digit2 .result < 16)
 digits-of c =
-    let l = c .before .before .before .before .before .loop in
-    let t = c .before .before .before .before .before .before .before .before .args .text .now in (
-      high-digit t (l .i) (c .before .before .digit .result) (c .digit2 .result) (two-of (c .before .before .before .before)) (c .before .before .digit .ensures .0) (c .digit2 .ensures .0) (l .inv .1),
-      low-digit t (l .i) (c .before .before .digit .result) (c .digit2 .result) (two-of (c .before .before .before .before)) (c .before .before .digit .ensures .0) (c .digit2 .ensures .0) (l .inv .1),
+    let t = c .before .before .before .before in
+    let l = t .before .loop in (
+      high-digit _ (l .i) _ _ (two-of t) (c .before .before .digit .ensures .0) (c .digit2 .ensures .0) (l .inv .1),
+      low-digit _ (l .i) _ _ (two-of t) (c .before .before .digit .ensures .0) (c .digit2 .ensures .0) (l .inv .1),
     )
 
 bytes-of : (c : tie.After-digit2 Inv-loop μ-loop)
@@ -34,14 +34,14 @@ bytes-of : (c : tie.After-digit2 Inv-loop μ-loop)
     let t = c .before .before .before .before .before .before .before .before .args .text .now in
     hexBytes (drop (l .i) t) ≡ (c .before .before .digit .result * 16 + c .digit2 .result) ∷ hexBytes (drop (l .i + 2) t)
 bytes-of c =
-    let l = c .before .before .before .before .before .loop in
-    bytes-next (c .before .before .before .before .before .before .before .before .args .text .now) (l .i) (c .before .before .digit .result) (c .digit2 .result) (two-of (c .before .before .before .before)) (c .before .before .digit .ensures .0) (c .digit2 .ensures .0) (l .inv .1)
+    let t = c .before .before .before .before in
+    bytes-next _ _ _ _ (two-of t) (c .before .before .digit .ensures .0) (c .digit2 .ensures .0) (t .before .loop .inv .1)
 
-room-of : (c : tie.After-digit2 Inv-loop μ-loop) → (c .before .before .before .before .before .loop .at < length (c .before .before .before .before .before .loop .out)) × (length (c .before .before .before .before .before .loop .out) < 2 ^ 63)
+room-of : (c : tie.After-digit2 Inv-loop μ-loop) → let l = c .before .before .before .before .before .loop in (l .at < length (l .out)) × (length (l .out) < 2 ^ 63)
 room-of c = omega (arith, room (c .before .before .before .before .before .loop .inv .0), ap length (bytes-of c))
 
 loop-holds : tie.Need-loop-holds Inv-loop μ-loop
-loop-holds c = let a = c .before .before .args in (begin (hexBytes (a .text .now)) (a .out .now) (omega (arith, bytes-length (a .text .now) (c .before .before .pre .0))), c .before .before .pre .0)
+loop-holds c = let s = c .before .before in (begin _ _ (omega (arith, bytes-length _ (s .pre .0))), s .pre .0)
 
 shared-slice-read-digit : tie.Need-shared-slice-read-digit Inv-loop μ-loop
 shared-slice-read-digit c = omega arith
@@ -80,19 +80,15 @@ loop-less : tie.Need-loop-less Inv-loop μ-loop
 loop-less c = omega (arith, two-of (c .before .before .before .before))
 
 loop-again : tie.Need-loop-again Inv-loop μ-loop
-loop-again c = let l = c .before .before .before .before .before .loop in
-    let t = c .before .before .before .before .before .before .before .before .args .text .now in
-    let h = c .before .before .digit in
-    let d = c .digit2 in (
-      next-byte (h .result * 16 + d .result) (hexBytes (drop (l .i + 2) t)) (l .inv .0) (bytes-of c),
-      rest-hex t (l .i) (h .result) (d .result) (two-of (c .before .before .before .before)) (h .ensures .0) (d .ensures .0) (l .inv .1),
-    )
+loop-again c = let t = c .before .before .before .before in
+    let l = t .before .loop in
+    (next-byte _ _ (l .inv .0) (bytes-of c), rest-hex _ (l .i) _ _ (two-of t) (c .before .before .digit .ensures .0) (c .digit2 .ensures .0) (l .inv .1))
 
 same-length : tie.Need-same-length Inv-loop μ-loop
 same-length c = room (c .before .loop .inv .0) .1
 
 returns : tie.Need-returns Inv-loop μ-loop
-returns c = complete (c .before .loop .inv .0) (bytes-end (c .before .before .before .before .args .text .now) (c .before .loop .i) (c .loop-test .left)) .1
+returns c = complete (c .before .loop .inv .0) (bytes-end _ _ (c .loop-test .left)) .1
 
 pub write-bytes-spec : {M : Type 1} → statement M
 write-bytes-spec =

@@ -1,7 +1,7 @@
 -- `move_front` meets its contract: what is moved and what is left to move are the part. Assumes nothing.
-use Prim.Native.Nat.{_+_, _-_, _≤_}
+use Prim.Native.Nat.{_-_, _≤_}
 use native.Mathlib.Omega.{arith}
-use lib.ListN.{length, getD, drop, drop-of-length-le}
+use lib.ListN.{length, drop, drop-of-length-le}
 use Rattle.records.specs.Area.{part}
 use Rattle.records.proofs.Area.{Writing, begin, room, next-byte, complete}
 use Rattle.passage_lines.proofs.Lines.{part-length, moved}
@@ -15,7 +15,7 @@ abbrev μ-loop : tie.MeasureT-loop
 μ-loop block₀ at count i₀ block i = count - i
 
 loop-holds : tie.Need-loop-holds Inv-loop μ-loop
-loop-holds c = let a = c .args in begin (part (a .at) (a .count) (a .block .now)) (a .block .now) (omega (arith, part-length (a .at) (a .count) (a .block .now) (c .pre)))
+loop-holds c = let a = c .args in begin _ _ (omega (arith, part-length (a .at) (a .count) (a .block .now) (c .pre)))
 
 add-block : tie.Need-add-block Inv-loop μ-loop
 add-block c = omega arith
@@ -34,17 +34,16 @@ loop-less c = omega arith
 
 loop-again : tie.Need-loop-again Inv-loop μ-loop
 loop-again c = let l = c .before .before .loop in
-    let a = c .before .before .before .args in
-    next-byte (getD (l .block) (a .at + l .i) 0) (drop (l .i + 1) (part (a .at) (a .count) (a .block .now))) (l .inv)
-    (moved (a .at) (a .count) (l .i) (a .block .now) (l .block) (c .before .before .before .pre) (c .before .loop-test .taken) (l .inv))
+    next-byte _ _ (l .inv) (moved _ _ _ _ _ (c .before .before .before .pre) (c .before .loop-test .taken) (l .inv))
 
 same-length : tie.Need-same-length Inv-loop μ-loop
 same-length c = room (c .before .loop .inv) .1
 
 returns : tie.Need-returns Inv-loop μ-loop
-returns c = let a = c .before .before .args in
-    let l : length (part (a .at) (a .count) (a .block .now)) ≤ c .before .loop .i = omega (arith, part-length (a .at) (a .count) (a .block .now) (c .before .before .pre)) in
-    complete (c .before .loop .inv) (drop-of-length-le (part (a .at) (a .count) (a .block .now)) l) .1
+returns c = let s = c .before .before in
+    let n = part-length (s .args .at) (s .args .count) (s .args .block .now) (s .pre) in
+    let l : length (part (s .args .at) (s .args .count) (s .args .block .now)) ≤ c .before .loop .i = omega arith in
+    complete (c .before .loop .inv) (drop-of-length-le _ l) .1
 
 pub move-front-spec : {M : Type 1} → statement M
 move-front-spec =

@@ -1,22 +1,20 @@
 -- `next_line` meets its contract: the line feed is looked for up to the end of what is unread. Assumes nothing.
-use mathlib.Core.Path.{_≡_, ap, _∙_}
-use Prim.Native.Nat.{ℕ, _-_}
+use mathlib.Core.Path.{_≡_, _∙_}
+use Prim.Native.Nat.{_-_}
 use native.Mathlib.Omega.{arith}
 use borrow.Author.Tests.{lt-ltb, le-ltb}
-use lib.ListN.{length, take}
-use Rattle.passage_lines.specs.Bytes.{firstFrom}
-use Rattle.passage_lines.specs.Input.{nextBefore, nextLine}
+use Rattle.passage_lines.specs.Input.{nextLine}
 use borrow.Author.Needs.{needs}
 use Rattle.passage_lines.proofs.input.next_line.Statement.{statement}
 use Rattle.passage_lines.proofs.input.next_line.Tie as tie
 
 returns : tie.Need-returns
 unfolding nextLine
-returns c = let a = c .before .before .args in rw (lt-ltb (length (a .block .now)) (a .input .end) (c .if1 .taken))
+returns c = rw (lt-ltb _ _ (c .if1 .taken))
 
 returns-2 : tie.Need-returns-2
 unfolding nextLine
-returns-2 c = let a = c .before .before .before .args in rw (le-ltb (length (a .block .now)) (a .input .end) (c .before .if1 .left), lt-ltb (a .input .end) (a .input .at) (c .if2 .taken))
+returns-2 c = rw (le-ltb _ _ (c .before .if1 .left), lt-ltb _ _ (c .if2 .taken))
 
 sub-find-byte : tie.Need-sub-find-byte
 sub-find-byte c = search needs
@@ -35,11 +33,10 @@ line-before-requires c κs = search needs
 
 returns-3 : tie.Need-returns-3
 unfolding nextLine
-returns-3 c = let a = c .before .before .before .before .before .before .args in
-    let z : a .input .end - 0 ≡ a .input .end = omega arith in
-    rw (le-ltb (length (a .block .now)) (a .input .end) (c .before .before .before .before .if1 .left), le-ltb (a .input .end) (a .input .at) (c .before .before .before .if2 .left))
-    (c .line-before .ensures
-    ∙ ap (nextBefore (a .input .at) (a .input .end) (a .input .skipping)) (c .before .find-byte .ensures .0 ∙ ap (λ (n : ℕ). firstFrom 10 (take n (a .block .now)) (a .input .at)) z))
+returns-3 c = let e = c .before .before .before in
+    let end = e .before .before .before .args .input .end in
+    let z : end - 0 ≡ end = omega arith in
+    rw (le-ltb _ _ (e .before .if1 .left), le-ltb _ _ (e .if2 .left)) (c .line-before .ensures ∙ rw (c .before .find-byte .ensures .0, z))
 
 pub next-line-spec : {M : Type 1} → statement M
 next-line-spec =

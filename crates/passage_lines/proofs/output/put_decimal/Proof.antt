@@ -1,11 +1,9 @@
 -- `put_decimal` meets its contract: the digits end the array that it writes from. Assumes nothing.
-use mathlib.Core.Path.{ap, _∙_}
-use mathlib.Core.List.{List}
-use Prim.Native.Nat.{ℕ, _-_}
+use mathlib.Core.Path.{_∙_}
+use Prim.Native.Nat.{_-_}
 use native.Mathlib.Omega.{arith}
 use lib.ListN.{drop, length-drop}
 use lib.Seq.{take-all}
-use Rattle.passage_lines.specs.Output.{appended}
 use borrow.Author.Needs.{needs}
 use Rattle.passage_lines.proofs.output.put_decimal.Statement.{statement}
 use Rattle.passage_lines.proofs.output.put_decimal.Tie as tie
@@ -32,11 +30,10 @@ same-length : tie.Need-same-length
 same-length c = search needs
 
 returns : tie.Need-returns
-returns c = let a = c .before .before .before .before .before .before .before .before .before .before .args in
-    let w = c .before .before .before .before .before .before .before .write-digits in
-    let digits : List ℕ = w .last .0 in
-    c .before .before .put-text .ensures
-    ∙ ap (λ (s : List ℕ). appended (a .at) s (a .out .now)) (take-all (20 - w .result) (drop (w .result) digits) (omega (arith, length-drop (w .result) digits)) ∙ w .ensures .0)
+returns c = let w = c .before .before .before .before .before .before .before .write-digits in
+    let digits = drop (w .result) (w .last .0) in
+    let l = length-drop (w .result) (w .last .0) in
+    c .before .before .put-text .ensures ∙ rw (take-all (20 - w .result) digits (omega arith) ∙ w .ensures .0)
 
 pub put-decimal-spec : {M : Type 1} → statement M
 put-decimal-spec =

@@ -1,7 +1,5 @@
 -- `put_hex` meets its contract: two digits to a byte. Assumes nothing.
 use native.Mathlib.Omega.{arith}
-use Rattle.records.proofs.Area.{part-home}
-use Rattle.passage_lines.specs.Output.{hexText}
 use Rattle.passage_lines.proofs.Spelling.{hex-length, bytes-none, bytes-some, appended-in, appended-out}
 use borrow.Author.Needs.{needs}
 use Rattle.passage_lines.proofs.output.put_hex.Statement.{statement}
@@ -17,16 +15,16 @@ same-length : tie.Need-same-length
 same-length c = search needs
 
 returns : tie.Need-returns
-returns c = rw (bytes-none (c .before .before .before .before .before .before .before .before .args .bytes .now) (c .before .before .before .before .before .if1 .taken)) (c .before .before .put-text .ensures)
+returns c = rw (bytes-none _ (c .before .before .before .before .before .if1 .taken)) (c .before .before .put-text .ensures)
 
 returns-2 : tie.Need-returns-2
-returns-2 c = let a = c .before .before .before .before .args in rw (bytes-some (a .bytes .now) (c .before .if1 .left)) (appended-out (a .at) (hexText (a .bytes .now)) (a .out .now) (omega arith))
+returns-2 c = rw (bytes-some _ (c .before .if1 .left)) (appended-out _ _ _ (omega arith))
 
 sub-if3 : tie.Need-sub-if3
 sub-if3 c = search needs
 
 returns-3 : tie.Need-returns-3
-returns-3 c = let a = c .before .before .before .before .before .args in rw (bytes-some (a .bytes .now) (c .before .before .if1 .left)) (appended-out (a .at) (hexText (a .bytes .now)) (a .out .now) (omega (arith, hex-length (a .bytes .now))))
+returns-3 c = let b = c .before .before .before .before .before .args .bytes .now in rw (bytes-some b (c .before .before .if1 .left)) (appended-out _ _ _ (omega (arith, hex-length b)))
 
 sub-write-hex : tie.Need-sub-write-hex
 sub-write-hex c = search needs
@@ -50,11 +48,9 @@ same-length-2 : tie.Need-same-length-2
 same-length-2 c = search needs
 
 returns-4 : tie.Need-returns-4
-returns-4 c = let a = c .before .before .before .before .before .before .before .before .before .args in
-    let w = c .before .before .write-hex in
-    let l = hex-length (a .bytes .now) in
-    rw (bytes-some (a .bytes .now) (c .before .before .before .before .before .before .if1 .left))
-    (appended-in (a .at) (hexText (a .bytes .now)) (a .out .now) _ _ (omega arith) (omega arith) (part-home (hexText (a .bytes .now)) (a .out .now) (w .last .0) (a .at) (w .ensures)))
+returns-4 c = let s = c .before .before .before .before .before .before in
+    let l = hex-length (s .before .before .before .args .bytes .now) in
+    rw (bytes-some _ (s .if1 .left)) (appended-in _ _ _ _ _ (omega arith) (omega arith) (c .before .before .write-hex .ensures))
 
 pub put-hex-spec : {M : Type 1} → statement M
 put-hex-spec =

@@ -22,14 +22,14 @@ next-of : (c : tie.In-loop Inv-loop μ-loop)
     let bytes = c .before .before .before .before .args .bytes .now in
     let b = getD bytes (l .i) 0 in
     hexText (drop (l .i) bytes) ≡ hexDigit (b / 16) ∷ hexDigit (b % 16) ∷ hexText (drop (l .i + 1) bytes)
-next-of c = let bytes = c .before .before .before .before .args .bytes .now in hex-next bytes (c .before .loop .i) (getD bytes (c .before .loop .i) 0) (c .loop-test .taken) refl
+next-of c = hex-next _ _ _ (c .loop-test .taken) refl
 
 room-of : (c : tie.In-loop Inv-loop μ-loop)
     → let out = c .before .before .before .before .args .out .now in (c .before .loop .at + 2 ≤ length out) × (length (c .before .loop .out) ≡ length out)
 room-of c = let r = room (c .before .loop .inv) in (omega (arith, ap length (next-of c)), r .1)
 
 loop-holds : tie.Need-loop-holds Inv-loop μ-loop
-loop-holds c = let a = c .before .before .args in begin (hexText (a .bytes .now)) (a .out .now) (omega (arith, hex-length (a .bytes .now)))
+loop-holds c = begin _ _ (omega (arith, hex-length (c .before .before .args .bytes .now)))
 
 shared-slice-read-byte : tie.Need-shared-slice-read-byte Inv-loop μ-loop
 shared-slice-read-byte c = omega arith
@@ -72,7 +72,7 @@ same-length : tie.Need-same-length Inv-loop μ-loop
 same-length c = room (c .before .loop .inv) .1
 
 returns : tie.Need-returns Inv-loop μ-loop
-returns c = complete (c .before .loop .inv) (hex-none (c .before .before .before .before .args .bytes .now) (c .before .loop .i) (c .loop-test .left)) .1
+returns c = complete (c .before .loop .inv) (hex-none _ _ (c .loop-test .left)) .1
 
 pub write-hex-spec : {M : Type 1} → statement M
 write-hex-spec =

@@ -17,7 +17,7 @@ abbrev μ-loop : tie.MeasureT-loop
 μ-loop out₀ text i₀ out i = length text - i
 
 loop-holds : tie.Need-loop-holds Inv-loop μ-loop
-loop-holds c = begin (c .args .text .now) (c .args .out .now) (c .pre)
+loop-holds c = begin _ _ (c .pre)
 
 shared-slice-read-out : tie.Need-shared-slice-read-out Inv-loop μ-loop
 shared-slice-read-out c = omega arith
@@ -41,7 +41,7 @@ same-length : tie.Need-same-length Inv-loop μ-loop
 same-length c = room (c .before .loop .inv) .1
 
 returns : tie.Need-returns Inv-loop μ-loop
-returns c = complete (c .before .loop .inv) (drop-of-length-le (c .before .before .args .text .now) (c .loop-test .left)) .1
+returns c = complete (c .before .loop .inv) (drop-of-length-le _ (c .loop-test .left)) .1
 
 pub write-text-spec : {M : Type 1} → statement M
 write-text-spec =

@@ -1,10 +1,8 @@
 -- `put_number` meets its contract: a space, and the digits after it. Assumes nothing.
-use mathlib.Core.Path.{ap, _∙_}
-use mathlib.Core.List.{List, [], _∷_}
-use Prim.Native.Nat.{ℕ}
+use mathlib.Core.Path.{ap}
+use mathlib.Core.List.{[], _∷_}
 use native.Mathlib.Omega.{arith}
 use lib.ListN.{length}
-use Rattle.records.specs.Area.{pasted}
 use Rattle.passage_lines.specs.Output.{decimalText}
 use Rattle.passage_lines.proofs.Replies.{appended-parts, pasted-length, pasted-more}
 use borrow.Author.Needs.{needs}
@@ -24,14 +22,13 @@ same-length : tie.Need-same-length
 same-length c = search needs
 
 returns : tie.Need-returns
-returns c = let a = c .before .before .before .before .before .before .before .before .before .before .args in
-    let s = c .before .before .before .before .before .before .put-text in
-    let d = c .before .before .put-decimal in
-    let p = c .before .before .before .before .before .before .before .before .before .before .pre in
-    let q = appended-parts (a .at) (32 ∷ []) (a .line .now) (s .last .0) (s .result) (s .ensures) (omega arith) in
-    let l = pasted-length (a .at) (32 ∷ []) (a .line .now) (omega arith) in
-    let r = appended-parts (s .result) (decimalText (a .number)) (s .last .0) (d .last .0) (d .result) (d .ensures) (omega (arith, q .0, ap length (q .1))) in
-    (omega (arith, q .0, r .0), r .1 ∙ ap (λ (o : List ℕ). pasted (s .result) (decimalText (a .number)) o) (q .1) ∙ pasted-more (a .at) (s .result) (32 ∷ []) (decimalText (a .number)) (a .line .now) (omega arith) (q .0))
+returns c = let t = c .before .before .before .before .before .before in
+    let s = t .before .before .before .before in
+    let p = s .pre in
+    let q = appended-parts (s .args .at) (32 ∷ []) (s .args .line .now) _ _ (t .put-text .ensures) (omega arith) in
+    let l = pasted-length (s .args .at) (32 ∷ []) (s .args .line .now) (omega arith) in
+    let r = appended-parts _ (decimalText (s .args .number)) _ _ _ (c .before .before .put-decimal .ensures) (omega (arith, q .0, ap length (q .1))) in
+    (omega (arith, q .0, r .0), rw (r .1, q .1) (pasted-more _ _ (32 ∷ []) (decimalText (s .args .number)) _ (omega arith) (q .0)))
 
 pub put-number-spec : {M : Type 1} → statement M
 put-number-spec =

@@ -1,8 +1,5 @@
 -- `put_reply` meets its contract: the line that it writes first is the front of the array. Assumes nothing.
-use mathlib.Core.Path.{ap, _∙_}
-use mathlib.Core.List.{List}
-use Prim.Native.Nat.{ℕ}
-use Rattle.passage_lines.specs.Output.{appended}
+use mathlib.Core.Path.{_∙_}
 use Rattle.passage_lines.specs.Reply.{replyText}
 use Rattle.passage_lines.proofs.Replies.{over-front}
 use borrow.Author.Needs.{needs}
@@ -31,10 +28,9 @@ same-length : tie.Need-same-length
 same-length c = search needs
 
 returns : tie.Need-returns
-returns c = let a = c .before .before .before .before .before .before .before .before .before .before .args in
-    let w = c .before .before .before .before .before .before .before .write-reply in
-    c .before .before .put-text .ensures
-    ∙ ap (λ (s : List ℕ). appended (a .at) s (a .out .now)) (over-front (replyText (a .reply)) _ (w .last .0) (w .result) (w .ensures .0) (w .ensures .2))
+returns c = let s = c .before .before .before .before .before .before .before in
+    let w = s .write-reply in
+    c .before .before .put-text .ensures ∙ rw (over-front (replyText (s .before .before .before .args .reply)) _ (w .last .0) _ (w .ensures .0) (w .ensures .2))
 
 pub put-reply-spec : {M : Type 1} → statement M
 put-reply-spec =

@@ -1,24 +1,20 @@
 -- `put_value` meets its contract: the rest of the area that it lends comes home. Assumes nothing.
 use borrow.Author.Needs.{needs}
-use mathlib.Core.Path.{ap}
-use Prim.Native.Nat.{ℕ, _+_}
 use native.Mathlib.Omega.{arith}
 use lib.ListN.{length-take, length-drop}
-use Rattle.records.proofs.Area.{part-home}
-use Rattle.passage_lines.specs.Reply.{valueText}
 use Rattle.passage_lines.proofs.Spelling.{appended-in, appended-out}
 use Rattle.passage_lines.proofs.Replies.{value-length}
 use Rattle.passage_lines.proofs.reply.put_value.Statement.{statement}
 use Rattle.passage_lines.proofs.reply.put_value.Tie as tie
 
 returns : tie.Need-returns
-returns c = let a = c .before .before .before .args in appended-out (a .at) (valueText (a .value .now)) (a .out .now) (omega arith)
+returns c = appended-out _ _ _ (omega arith)
 
 sub-if2 : tie.Need-sub-if2
 sub-if2 c = search needs
 
 returns-2 : tie.Need-returns-2
-returns-2 c = let a = c .before .before .before .before .args in appended-out (a .at) (valueText (a .value .now)) (a .out .now) (omega (arith, value-length (a .value .now)))
+returns-2 c = appended-out _ _ _ (omega (arith, value-length (c .before .before .before .before .args .value .now)))
 
 sub-if3 : tie.Need-sub-if3
 sub-if3 c = search needs
@@ -27,7 +23,7 @@ sub-if3-2 : tie.Need-sub-if3-2
 sub-if3-2 c = search needs
 
 returns-3 : tie.Need-returns-3
-returns-3 c = let a = c .before .before .before .before .before .args in appended-out (a .at) (valueText (a .value .now)) (a .out .now) (omega (arith, value-length (a .value .now)))
+returns-3 c = appended-out _ _ _ (omega (arith, value-length (c .before .before .before .before .before .args .value .now)))
 
 sub-write-value : tie.Need-sub-write-value
 sub-write-value c = search needs
@@ -48,10 +44,9 @@ same-length : tie.Need-same-length
 same-length c = search needs
 
 returns-4 : tie.Need-returns-4
-returns-4 c = let a = c .before .before .before .before .before .before .before .before .before .args in
-    let w = c .before .before .write-value in
-    appended-in (a .at) (valueText (a .value .now)) (a .out .now) _ _ (omega (arith, value-length (a .value .now))) (ap (λ (n : ℕ). a .at + n) (w .ensures .0))
-    (part-home (valueText (a .value .now)) (a .out .now) (w .last .0) (a .at) (w .ensures .1))
+returns-4 c = let l = value-length (c .before .before .before .before .before .before .before .before .before .args .value .now) in
+    let w = c .before .before .write-value .ensures in
+    appended-in _ _ _ _ _ (omega arith) (omega (arith, w .0)) (w .1)
 
 pub put-value-spec : {M : Type 1} → statement M
 put-value-spec =

@@ -1,11 +1,12 @@
 -- `write_accepted` meets its contract: the pieces are written one after the other. Assumes nothing.
 use mathlib.Core.Path.{refl}
-use mathlib.Core.List.{List, [], _++_}
-use Prim.Native.Nat.{ℕ}
+use mathlib.Core.List.{List, _++_}
+use Prim.Native.Nat.{ℕ, _≤_}
 use native.Mathlib.Omega.{arith}
-use Rattle.records.proofs.Area.{Writing, begin, fits, next, complete}
+use lib.ListN.{length}
+use Rattle.records.proofs.Area.{Writing, begin, complete}
 use Rattle.passage_lines.specs.Reply.{wordText, lineFeed, numberField, acceptedText}
-use Rattle.passage_lines.proofs.Replies.{next-text, accepted-short}
+use Rattle.passage_lines.proofs.Replies.{next-text, number-fits, next-number, accepted-short}
 use borrow.Author.Needs.{needs}
 use Rattle.passage_lines.proofs.reply.write_accepted.Statement.{statement}
 use Rattle.passage_lines.proofs.reply.write_accepted.Tie as tie
@@ -20,38 +21,36 @@ second-left s = numberField (s .args .second) ++ lineFeed
 abbrev numbers-left : tie.Start → List ℕ
 numbers-left s = numberField (s .args .first) ++ second-left s
 
-after-word : (c : tie.After-put-word) → Left (c .before .before .before) (numberField 0 ++ numbers-left (c .before .before .before)) (c .put-word .last .0) (c .put-word .result)
-after-word c =
-    let a = c .before .before .before .args in
-    next-text (wordText (a .word)) (numberField 0 ++ numbers-left (c .before .before .before)) (c .put-word .last .0) (c .put-word .result)
-    (begin (acceptedText (a .word) (a .first) (a .second)) (a .line .now) (omega (arith, accepted-short (a .word) (a .first) (a .second) (omega arith) (omega arith)))) refl (c .put-word .ensures)
+short : (s : tie.Start) → length (acceptedText (s .args .word) (s .args .first) (s .args .second)) ≤ 64
+short s = accepted-short (s .args .word) (s .args .first) (s .args .second) (omega arith) (omega arith)
 
-after-zero : (c : tie.After-put-number) → Left (c .before .before .before .before .before .before .before) (numbers-left (c .before .before .before .before .before .before .before)) (c .put-number .last .0) (c .put-number .result)
-after-zero c =
-    let p = c .put-number in
-    next (numberField 0) (numbers-left (c .before .before .before .before .before .before .before)) (p .last .0) (p .result) (after-word (c .before .before .before .before)) refl (p .ensures .0) (p .ensures .1)
+after-word : (c : tie.After-put-word) → let s = c .before .before .before in Left s (numberField 0 ++ numbers-left s) (c .put-word .last .0) (c .put-word .result)
+after-word c = let s = c .before .before .before in next-text (wordText (s .args .word)) (begin _ _ (omega (arith, short s))) (c .put-word .ensures)
 
-after-first : (c : tie.After-put-number2) → Left (c .before .before .before .before .before .before .before .before .before .before .before) (second-left (c .before .before .before .before .before .before .before .before .before .before .before)) (c .put-number2 .last .0) (c .put-number2 .result)
-after-first c =
-    let p = c .put-number2 in
-    next (numberField (c .before .before .before .before .before .before .before .before .before .before .before .args .first)) (second-left (c .before .before .before .before .before .before .before .before .before .before .before)) (p .last .0) (p .result) (after-zero (c .before .before .before .before)) refl (p .ensures .0) (p .ensures .1)
+after-zero : (c : tie.After-put-number) → let s = c .before .before .before .before .before .before .before in
+    Left s (numbers-left s) (c .put-number .last .0) (c .put-number .result)
+after-zero c = next-number _ (after-word (c .before .before .before .before)) (c .put-number .ensures)
 
-after-second : (c : tie.After-put-number3) → Left (c .before .before .before .before .before .before .before .before .before .before .before .before .before .before .before) lineFeed (c .put-number3 .last .0) (c .put-number3 .result)
-after-second c =
-    let p = c .put-number3 in
-    next (numberField (c .before .before .before .before .before .before .before .before .before .before .before .before .before .before .before .args .second)) lineFeed (p .last .0) (p .result) (after-first (c .before .before .before .before)) refl (p .ensures .0) (p .ensures .1)
+after-first : (c : tie.After-put-number2) → let s = c .before .before .before .before .before .before .before .before .before .before .before in
+    Left s (second-left s) (c .put-number2 .last .0) (c .put-number2 .result)
+after-first c = next-number _ (after-zero (c .before .before .before .before)) (c .put-number2 .ensures)
+
+after-second : (c : tie.After-put-number3)
+    → let s = c .before .before .before .before .before .before .before .before .before .before .before .before .before .before .before in
+    Left s lineFeed (c .put-number3 .last .0) (c .put-number3 .result)
+after-second c = next-number _ (after-first (c .before .before .before .before)) (c .put-number3 .ensures)
 
 put-word-requires : tie.Need-put-word-requires
 put-word-requires c κs = search needs
 
 put-number-requires : tie.Need-put-number-requires
-put-number-requires c κs = fits (numberField 0) (numbers-left (c .before .before .before .before .before .before)) (after-word (c .before .before .before)) refl
+put-number-requires c κs = number-fits _ _ (after-word (c .before .before .before))
 
 put-number-requires-2 : tie.Need-put-number-requires-2
-put-number-requires-2 c κs = fits (numberField (c .before .before .before .before .before .before .before .before .before .before .args .first)) (second-left (c .before .before .before .before .before .before .before .before .before .before)) (after-zero (c .before .before .before)) refl
+put-number-requires-2 c κs = number-fits _ _ (after-zero (c .before .before .before))
 
 put-number-requires-3 : tie.Need-put-number-requires-3
-put-number-requires-3 c κs = fits (numberField (c .before .before .before .before .before .before .before .before .before .before .before .before .before .before .args .second)) lineFeed (after-first (c .before .before .before)) refl
+put-number-requires-3 c κs = number-fits _ _ (after-first (c .before .before .before))
 
 slice-aggregate-put-text : tie.Need-slice-aggregate-put-text
 slice-aggregate-put-text c = search needs
@@ -63,10 +62,11 @@ same-length : tie.Need-same-length
 same-length c = search needs
 
 returns : tie.Need-returns
-returns c = let a = c .before .before .before .before .before .before .before .before .before .before .before .before .before .before .before .before .before .before .before .before .before .before .args in
-    let t = c .before .before .put-text in
-    let w = complete (next-text lineFeed [] (t .last .0) (t .result) (after-second (c .before .before .before .before .before .before .before)) refl (t .ensures)) refl in
-    (w .0, omega (arith, w .0, accepted-short (a .word) (a .first) (a .second) (omega arith) (omega arith)), w .1)
+returns c = let t = c .before .before .put-text in
+    let p = c .before .before .before .before .before .before .before in
+    let s = p .before .before .before .before .before .before .before .before .before .before .before .before .before .before .before in
+    let w = complete (next-text lineFeed (after-second p) (t .ensures)) refl in
+    (w .0, omega (arith, w .0, short s), w .1)
 
 pub write-accepted-spec : {M : Type 1} → statement M
 write-accepted-spec =

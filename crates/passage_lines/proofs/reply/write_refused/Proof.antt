@@ -1,11 +1,12 @@
 -- `write_refused` meets its contract: the pieces are written one after the other. Assumes nothing.
 use mathlib.Core.Path.{refl}
-use mathlib.Core.List.{List, [], _++_}
-use Prim.Native.Nat.{ℕ}
+use mathlib.Core.List.{List, _++_}
+use Prim.Native.Nat.{ℕ, _≤_}
 use native.Mathlib.Omega.{arith}
-use Rattle.records.proofs.Area.{Writing, begin, fits, next, complete}
+use lib.ListN.{length}
+use Rattle.records.proofs.Area.{Writing, begin, complete}
 use Rattle.passage_lines.specs.Reply.{wordText, lineFeed, numberField, refusedText}
-use Rattle.passage_lines.proofs.Replies.{next-text, refused-short}
+use Rattle.passage_lines.proofs.Replies.{next-text, number-fits, next-number, refused-short}
 use borrow.Author.Needs.{needs}
 use Rattle.passage_lines.proofs.reply.write_refused.Statement.{statement}
 use Rattle.passage_lines.proofs.reply.write_refused.Tie as tie
@@ -14,22 +15,20 @@ use Rattle.passage_lines.proofs.reply.write_refused.Tie as tie
 abbrev Left : (s : tie.Start) → List ℕ → List ℕ → ℕ → Type 0
 Left s left out at = Writing (refusedText (s .args .word) (s .args .number)) left (s .args .line .now) out at
 
-after-word : (c : tie.After-put-word) → Left (c .before .before .before) (numberField (c .before .before .before .args .number) ++ lineFeed) (c .put-word .last .0) (c .put-word .result)
-after-word c =
-    let a = c .before .before .before .args in
-    next-text (wordText (a .word)) (numberField (a .number) ++ lineFeed) (c .put-word .last .0) (c .put-word .result)
-    (begin (refusedText (a .word) (a .number)) (a .line .now) (omega (arith, refused-short (a .word) (a .number) (omega arith)))) refl (c .put-word .ensures)
+short : (s : tie.Start) → length (refusedText (s .args .word) (s .args .number)) ≤ 64
+short s = refused-short (s .args .word) (s .args .number) (omega arith)
+
+after-word : (c : tie.After-put-word) → let s = c .before .before .before in Left s (numberField (s .args .number) ++ lineFeed) (c .put-word .last .0) (c .put-word .result)
+after-word c = let s = c .before .before .before in next-text (wordText (s .args .word)) (begin _ _ (omega (arith, short s))) (c .put-word .ensures)
 
 after-number : (c : tie.After-put-number) → Left (c .before .before .before .before .before .before .before) lineFeed (c .put-number .last .0) (c .put-number .result)
-after-number c =
-    let p = c .put-number in
-    next (numberField (c .before .before .before .before .before .before .before .args .number)) lineFeed (p .last .0) (p .result) (after-word (c .before .before .before .before)) refl (p .ensures .0) (p .ensures .1)
+after-number c = next-number _ (after-word (c .before .before .before .before)) (c .put-number .ensures)
 
 put-word-requires : tie.Need-put-word-requires
 put-word-requires c κs = search needs
 
 put-number-requires : tie.Need-put-number-requires
-put-number-requires c κs = fits (numberField (c .before .before .before .before .before .before .args .number)) lineFeed (after-word (c .before .before .before)) refl
+put-number-requires c κs = number-fits _ _ (after-word (c .before .before .before))
 
 slice-aggregate-put-text : tie.Need-slice-aggregate-put-text
 slice-aggregate-put-text c = search needs
@@ -41,10 +40,10 @@ same-length : tie.Need-same-length
 same-length c = search needs
 
 returns : tie.Need-returns
-returns c = let a = c .before .before .before .before .before .before .before .before .before .before .before .before .before .before .args in
-    let t = c .before .before .put-text in
-    let w = complete (next-text lineFeed [] (t .last .0) (t .result) (after-number (c .before .before .before .before .before .before .before)) refl (t .ensures)) refl in
-    (w .0, omega (arith, w .0, refused-short (a .word) (a .number) (omega arith)), w .1)
+returns c = let t = c .before .before .put-text in
+    let p = c .before .before .before .before .before .before .before in
+    let w = complete (next-text lineFeed (after-number p) (t .ensures)) refl in
+    (w .0, omega (arith, w .0, short (p .before .before .before .before .before .before .before)), w .1)
 
 pub write-refused-spec : {M : Type 1} → statement M
 write-refused-spec =

@@ -45,18 +45,18 @@ same-length c = search needs
 
 returns : tie.Need-returns
 unfolding replyText
-returns c = let t = c .before .before .put-text in
-    let p = appended-parts 0 (ascii "bad\n") (c .before .before .before .before .before .before .before .before .args .line .now) (t .last .0) (t .result) (t .ensures) (omega (arith, c .before .before .before .before .before .before .before .before .pre)) in
-    rw (c .before .before .before .before .before .enum-told .given .1) (p .0, omega (arith, p .0), p .1)
+returns c = let s = c .before .before .before .before .before in
+    let p = appended-parts 0 (ascii "bad\n") _ _ _ (c .before .before .put-text .ensures) (omega (arith, s .before .before .before .pre)) in
+    rw (s .enum-told .given .1) (p .0, omega (arith, p .0), p .1)
 
 same-length-2 : tie.Need-same-length-2
 same-length-2 c = search needs
 
 returns-2 : tie.Need-returns-2
 unfolding replyText
-returns-2 c = let t = c .before .before .put-text2 in
-    let p = appended-parts 0 (ascii "get none\n") (c .before .before .before .before .before .before .before .before .args .line .now) (t .last .0) (t .result) (t .ensures) (omega (arith, c .before .before .before .before .before .before .before .before .pre)) in
-    rw (c .before .before .before .before .before .enum-told2 .given .1) (p .0, omega (arith, p .0), p .1)
+returns-2 c = let s = c .before .before .before .before .before in
+    let p = appended-parts 0 (ascii "get none\n") _ _ _ (c .before .before .put-text2 .ensures) (omega (arith, s .before .before .before .pre)) in
+    rw (s .enum-told2 .given .1) (p .0, omega (arith, p .0), p .1)
 
 same-length-3 : tie.Need-same-length-3
 same-length-3 c = search needs

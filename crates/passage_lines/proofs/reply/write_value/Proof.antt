@@ -1,6 +1,5 @@
 -- `write_value` meets its contract: the pieces are written one after the other. Assumes nothing.
 use mathlib.Core.Path.{refl}
-use mathlib.Core.List.{[], _++_}
 use Rattle.records.proofs.Area.{begin, complete}
 use Rattle.passage_lines.specs.Ascii.{ascii}
 use Rattle.passage_lines.specs.Output.{bytesText}
@@ -30,13 +29,12 @@ same-length c = search needs
 
 returns : tie.Need-returns
 unfolding valueText
-returns c = let a = c .before .before .before .before .before .before .before .before .before .before .before .before .before .before .before .before .args in
-    let b = bytesText (a .value .now) in
-    let g = c .before .before .before .before .before .before .before .before .before .before .before .put-text in
-    let h = c .before .before .before .before .before .before .before .put-hex in
-    let t = c .before .before .put-text2 in
-    let w = next-text (ascii "get 0 ") (b ++ lineFeed) (g .last .0) (g .result) (begin (valueText (a .value .now)) (a .line .now) (c .before .before .before .before .before .before .before .before .before .before .before .before .before .before .before .before .pre)) refl (g .ensures) in
-    complete (next-text lineFeed [] (t .last .0) (t .result) (next-text b lineFeed (h .last .0) (h .result) w refl (h .ensures)) refl (t .ensures)) refl
+returns c = let t = c .before .before .put-text2 in
+    let h = c .before .before .before .before .before .before .before in
+    let g = h .before .before .before .before in
+    let s = g .before .before .before .before .before in
+    let w = next-text (ascii "get 0 ") (begin (valueText (s .args .value .now)) (s .args .line .now) (s .pre)) (g .put-text .ensures) in
+    complete (next-text lineFeed (next-text (bytesText (s .args .value .now)) w (h .put-hex .ensures)) (t .ensures)) refl
 
 pub write-value-spec : {M : Type 1} → statement M
 write-value-spec =

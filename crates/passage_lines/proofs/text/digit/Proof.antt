@@ -8,18 +8,18 @@ use Rattle.passage_lines.proofs.text.digit.Tie as tie
 
 returns : tie.Need-returns
 unfolding digitOf
-returns c = (rw (lt-ltb (c .before .args .character) 48 (c .if1 .taken)), omega arith)
+returns c = (rw (lt-ltb _ _ (c .if1 .taken)), omega arith)
 
 cast-result : tie.Need-cast-result
 cast-result c = search needs
 
 returns-2 : tie.Need-returns-2
 unfolding digitOf
-returns-2 c = let x = c .before .before .args .character in (rw (le-ltb x 48 (c .before .if1 .left), le-leb x 57 (c .if2 .taken)), omega arith)
+returns-2 c = (rw (le-ltb _ _ (c .before .if1 .left), le-leb _ _ (c .if2 .taken)), omega arith)
 
 returns-3 : tie.Need-returns-3
 unfolding digitOf
-returns-3 c = let x = c .before .before .before .args .character in (rw (le-ltb x 48 (c .before .before .if1 .left), lt-leb x 57 (c .before .if2 .left), lt-ltb x 97 (c .if3 .taken)), omega arith)
+returns-3 c = (rw (le-ltb _ _ (c .before .before .if1 .left), lt-leb _ _ (c .before .if2 .left), lt-ltb _ _ (c .if3 .taken)), omega arith)
 
 sub-result : tie.Need-sub-result
 sub-result c = search needs
@@ -29,15 +29,11 @@ cast-result-2 c = search needs
 
 returns-4 : tie.Need-returns-4
 unfolding digitOf
-returns-4 c =
-    let x = c .before .before .before .before .args .character in
-    (rw (le-ltb x 48 (c .before .before .before .if1 .left), lt-leb x 57 (c .before .before .if2 .left), le-ltb x 97 (c .before .if3 .left), le-leb x 102 (c .if4 .taken)), omega arith)
+returns-4 c = (rw (le-ltb _ _ (c .before .before .before .if1 .left), lt-leb _ _ (c .before .before .if2 .left), le-ltb _ _ (c .before .if3 .left), le-leb _ _ (c .if4 .taken)), omega arith)
 
 returns-5 : tie.Need-returns-5
 unfolding digitOf
-returns-5 c =
-    let x = c .before .before .before .before .args .character in
-    (rw (le-ltb x 48 (c .before .before .before .if1 .left), lt-leb x 57 (c .before .before .if2 .left), le-ltb x 97 (c .before .if3 .left), lt-leb x 102 (c .if4 .left)), omega arith)
+returns-5 c = (rw (le-ltb _ _ (c .before .before .before .if1 .left), lt-leb _ _ (c .before .before .if2 .left), le-ltb _ _ (c .before .if3 .left), lt-leb _ _ (c .if4 .left)), omega arith)
 
 pub digit-spec : {M : Type 1} → statement M
 digit-spec =

@@ -1,25 +1,17 @@
 -- `parse_duration` meets its contract: the parts before and after the point are its numbers. Assumes nothing.
-use mathlib.Core.Path.{_≡_, sym, ap, _∙_}
-use mathlib.Core.Option.{none, some}
-use Prim.Native.Nat.{_-_, _^_}
+use mathlib.Core.Path.{refl, sym, ap, _∙_}
+use Prim.Native.Nat.{_-_}
 use native.Mathlib.Omega.{arith}
-use lib.ListN.{length, take, drop}
+use lib.ListN.{length}
 use lib.Seq.{length-take-le}
-use Rattle.passage_lines.specs.Text.{numberGiven, numberIn}
-use Rattle.passage_lines.proofs.Numbers.{number-limit, duration-short, duration-no-point, after-point, duration-is}
+use Rattle.passage_lines.specs.Text.{numberGiven}
+use Rattle.passage_lines.proofs.Numbers.{number-limit, duration-short, duration-no-point, duration-is}
 use borrow.Author.Needs.{needs}
 use Rattle.passage_lines.proofs.text.parse_duration.Statement.{statement}
 use Rattle.passage_lines.proofs.text.parse_duration.Tie as tie
 
--- what the nine digits say
-nanos-of : (c : tie.After-known-told2)
-    → let t = c .before .before .before .before .before .before .before .before .before .before .before .before .before .before .args .text .now in numberIn 10 999_999_999 (drop (length t - 9) t) ≡ some (c .before .nanos .given .0 .0)
-nanos-of c =
-    let t = c .before .before .before .before .before .before .before .before .before .before .before .before .before .before .args .text .now in
-    ap (numberIn 10 999_999_999) (sym (after-point t (c .before .before .before .before .before .before .before .before .before .before .before .before .if1 .left))) ∙ sym (c .before .before .before .parse-number2 .ensures) ∙ ap numberGiven (c .before .nanos .given .1)
-
 returns : tie.Need-returns
-returns c = sym (duration-short (c .before .before .args .text .now) (c .if1 .taken))
+returns c = sym (duration-short _ (c .if1 .taken))
 
 sub-point : tie.Need-sub-point
 sub-point c = search needs
@@ -28,7 +20,7 @@ shared-slice-read-if2 : tie.Need-shared-slice-read-if2
 shared-slice-read-if2 c = search needs
 
 returns-2 : tie.Need-returns-2
-returns-2 c = sym (duration-no-point (c .before .before .before .before .args .text .now) (c .before .before .if1 .left) (c .if2 .taken))
+returns-2 c = sym (duration-no-point _ (c .before .before .if1 .left) (c .if2 .taken))
 
 slice-aggregate-parse-number : tie.Need-slice-aggregate-parse-number
 slice-aggregate-parse-number c = let t = c .before .before .before .before .before .args .text .now in sym (length-take-le (length t - 10) t (omega arith))
@@ -43,9 +35,9 @@ enum-told : tie.Need-enum-told
 enum-told c = search needs
 
 returns-3 : tie.Need-returns-3
-returns-3 c = let t = c .before .before .before .before .before .before .before .before .args .text .now in
-    let s : numberIn 10 (2 ^ 64 - 1) (take (length t - 10) t) ≡ none = sym (c .before .before .parse-number .ensures) ∙ ap numberGiven (c .enum-told .given .1) in
-    rw (duration-is t (c .before .before .before .before .before .before .if1 .left) (c .before .before .before .before .if2 .left), s)
+returns-3 c = let q = c .before .before .before .before in
+    let secs = sym (c .before .before .parse-number .ensures) ∙ ap numberGiven (c .enum-told .given .1) in
+    sym (duration-is _ (q .before .before .if1 .left) (q .if2 .left) secs refl)
 
 add-parse-number : tie.Need-add-parse-number
 add-parse-number c = search needs
@@ -69,21 +61,22 @@ enum-told-2 : tie.Need-enum-told-2
 enum-told-2 c = search needs
 
 returns-4 : tie.Need-returns-4
-returns-4 c = let t = c .before .before .before .before .before .before .before .before .before .before .before .before .before .args .text .now in
-    let v = c .before .before .before .before .before .secs .given in
-    let s : numberIn 10 (2 ^ 64 - 1) (take (length t - 10) t) ≡ some (v .0 .0) = sym (c .before .before .before .before .before .before .before .parse-number .ensures) ∙ ap numberGiven (v .1) in
-    let n : numberIn 10 999_999_999 (drop (length t - 9) t) ≡ none =
-    ap (numberIn 10 999_999_999) (sym (after-point t (c .before .before .before .before .before .before .before .before .before .before .before .if1 .left))) ∙ sym (c .before .before .parse-number2 .ensures) ∙ ap numberGiven (c .enum-told2 .given .1) in
-    rw (duration-is t (c .before .before .before .before .before .before .before .before .before .before .before .if1 .left) (c .before .before .before .before .before .before .before .before .before .if2 .left), s, n)
+returns-4 c = let s = c .before .before .before .before .before in
+    let q = s .before .before .before .before in
+    let secs = sym (s .before .before .parse-number .ensures) ∙ ap numberGiven (s .secs .given .1) in
+    let nanos = sym (c .before .before .parse-number2 .ensures) ∙ ap numberGiven (c .enum-told2 .given .1) in
+    sym (duration-is _ (q .before .before .if1 .left) (q .if2 .left) secs nanos)
 
 cast-t17 : tie.Need-cast-t17
-cast-t17 c = omega (arith, number-limit 10 999_999_999 (drop (length (c .before .before .before .before .before .before .before .before .before .before .before .before .before .before .args .text .now) - 9) (c .before .before .before .before .before .before .before .before .before .before .before .before .before .before .args .text .now)) (c .before .nanos .given .0 .0) (nanos-of c))
+cast-t17 c = let nanos = sym (c .before .before .before .parse-number2 .ensures) ∙ ap numberGiven (c .before .nanos .given .1) in
+    omega (arith, number-limit 10 999_999_999 _ _ nanos)
 
 returns-5 : tie.Need-returns-5
-returns-5 c = let t = c .before .before .before .before .before .before .before .before .before .before .before .before .before .before .args .text .now in
-    let v = c .before .before .before .before .before .before .secs .given in
-    let s : numberIn 10 (2 ^ 64 - 1) (take (length t - 10) t) ≡ some (v .0 .0) = sym (c .before .before .before .before .before .before .before .before .parse-number .ensures) ∙ ap numberGiven (v .1) in
-    rw (duration-is t (c .before .before .before .before .before .before .before .before .before .before .before .before .if1 .left) (c .before .before .before .before .before .before .before .before .before .before .if2 .left), s, nanos-of c)
+returns-5 c = let s = c .before .before .before .before .before .before in
+    let q = s .before .before .before .before in
+    let secs = sym (s .before .before .parse-number .ensures) ∙ ap numberGiven (s .secs .given .1) in
+    let nanos = sym (c .before .before .before .parse-number2 .ensures) ∙ ap numberGiven (c .before .nanos .given .1) in
+    sym (duration-is _ (q .before .before .if1 .left) (q .if2 .left) secs nanos)
 
 pub parse-duration-spec : {M : Type 1} → statement M
 parse-duration-spec =

@@ -23,11 +23,13 @@ same-bytes-requires-2 c κs = search needs
 
 returns-2 : tie.Need-returns-2
 unfolding layoutOf
-returns-2 c = rw (sym (c .before .before .before .before .same-bytes .ensures) ∙ c .before .before .before .if1 .left, sym (c .before .same-bytes2 .ensures) ∙ c .if2 .taken)
+returns-2 c = let e = c .before .before .before in
+    rw (sym (e .before .same-bytes .ensures) ∙ e .if1 .left, sym (c .before .same-bytes2 .ensures) ∙ c .if2 .taken)
 
 returns-3 : tie.Need-returns-3
 unfolding layoutOf
-returns-3 c = rw (sym (c .before .before .before .before .same-bytes .ensures) ∙ c .before .before .before .if1 .left, sym (c .before .same-bytes2 .ensures) ∙ c .if2 .left)
+returns-3 c = let e = c .before .before .before in
+    rw (sym (e .before .same-bytes .ensures) ∙ e .if1 .left, sym (c .before .same-bytes2 .ensures) ∙ c .if2 .left)
 
 pub parse-layout-spec : {M : Type 1} → statement M
 parse-layout-spec =

@@ -26,11 +26,13 @@ enum-told c = search needs
 
 returns-2 : tie.Need-returns-2
 unfolding lifetimeOf
-returns-2 c = rw (sym (c .before .before .before .before .same-bytes .ensures) ∙ c .before .before .before .if1 .left, sym (c .before .before .parse-duration .ensures) ∙ ap durationGiven (c .enum-told .given .1))
+returns-2 c = let e = c .before .before .before in
+    rw (sym (e .before .same-bytes .ensures) ∙ e .if1 .left, sym (c .before .before .parse-duration .ensures) ∙ ap durationGiven (c .enum-told .given .1))
 
 returns-3 : tie.Need-returns-3
 unfolding lifetimeOf
-returns-3 c = rw (sym (c .before .before .before .before .before .same-bytes .ensures) ∙ c .before .before .before .before .if1 .left, sym (c .before .before .before .parse-duration .ensures) ∙ ap durationGiven (c .before .lifetime .given .1))
+returns-3 c = let e = c .before .before .before .before in
+    rw (sym (e .before .same-bytes .ensures) ∙ e .if1 .left, sym (c .before .before .before .parse-duration .ensures) ∙ ap durationGiven (c .before .lifetime .given .1))
 
 pub parse-lifetime-spec : {M : Type 1} → statement M
 parse-lifetime-spec =

@@ -14,7 +14,16 @@ Inv-loop text base max value₀ i₀ value i = (numberIn base max text ≡ atMos
 abbrev μ-loop : tie.MeasureT-loop
 μ-loop text base max value₀ i₀ value i = length text - i
 
--- one digit more is at most the limit
+-- one digit more
+next-of : (c : tie.Else2 Inv-loop μ-loop)
+    → let l = c .before .before .before .before .loop in
+    let a = c .before .before .before .before .before .before .before .args in
+    numberIn (a .base) (a .max) (a .text .now) ≡ atMost (a .max) (spelled (a .base) (l .value * a .base + c .before .digit .result) (drop (l .i + 1) (a .text .now)))
+next-of c =
+    let l = c .before .before .before .before .loop in
+    l .inv .0 ∙ ap (atMost _) (spelled-next _ (l .value) _ _ _ (c .before .before .before .loop-test .taken) (c .before .digit .ensures .0) (c .if2 .left))
+
+-- it is at most the limit
 fits-of : (c : tie.Else3 Inv-loop μ-loop)
     → let l = c .before .before .before .before .before .loop in
     let a = c .before .before .before .before .before .before .before .before .args in
@@ -25,7 +34,7 @@ fits-of c =
     step-in (s .args .base) (s .args .max) (l .value) (c .before .before .digit .result) (s .pre .0) (omega arith) (c .if3 .left)
 
 returns : tie.Need-returns Inv-loop μ-loop
-returns c = let a = c .before .before .args in sym (number-none (a .base) (a .max) (a .text .now) (c .if1 .taken))
+returns c = sym (number-none _ _ _ (c .if1 .taken))
 
 loop-holds : tie.Need-loop-holds Inv-loop μ-loop
 loop-holds c = let a = c .before .before .args in (number-start (a .base) (a .max) (a .text .now) (omega arith), omega arith)
@@ -38,8 +47,7 @@ digit-requires c κs = tt
 
 returns-2 : tie.Need-returns-2 Inv-loop μ-loop
 returns-2 c = let l = c .before .before .before .before .loop in
-    let a = c .before .before .before .before .before .before .before .args in
-    sym (l .inv .0 ∙ ap (atMost (a .max)) (spelled-bad (a .base) (l .value) (a .text .now) (l .i) (c .before .digit .result) (c .before .before .before .loop-test .taken) (c .before .digit .ensures .0) (c .if2 .taken)))
+    sym (l .inv .0 ∙ ap (atMost _) (spelled-bad _ _ _ _ _ (c .before .before .before .loop-test .taken) (c .before .digit .ensures .0) (c .if2 .taken)))
 
 sub-if3 : tie.Need-sub-if3 Inv-loop μ-loop
 sub-if3 c = omega arith
@@ -48,12 +56,8 @@ div-if3 : tie.Need-div-if3 Inv-loop μ-loop
 div-if3 c = omega arith
 
 returns-3 : tie.Need-returns-3 Inv-loop μ-loop
-returns-3 c = let l = c .before .before .before .before .before .loop in
-    let s = c .before .before .before .before .before .before .before .before in
-    let a = s .args in
-    let d = c .before .before .digit in
-    sym (l .inv .0 ∙ ap (atMost (a .max)) (spelled-next (a .base) (l .value) (a .text .now) (l .i) (d .result) (c .before .before .before .before .loop-test .taken) (d .ensures .0) (c .before .if2 .left))
-    ∙ past (a .base) (a .max) (l .value * a .base + d .result) (drop (l .i + 1) (a .text .now)) (s .pre .0) (step-out (a .base) (a .max) (l .value) (d .result) (s .pre .0) (c .if3 .taken)))
+returns-3 c = let s = c .before .before .before .before .before .before .before .before in
+    sym (next-of (c .before) ∙ past _ _ _ _ (s .pre .0) (step-out _ _ _ _ (s .pre .0) (c .if3 .taken)))
 
 mul-value : tie.Need-mul-value Inv-loop μ-loop
 mul-value c = omega (arith, fits-of c)
@@ -68,15 +72,10 @@ loop-less : tie.Need-loop-less Inv-loop μ-loop
 loop-less c = omega arith
 
 loop-again : tie.Need-loop-again Inv-loop μ-loop
-loop-again c = let l = c .before .before .before .before .before .loop in
-    let a = c .before .before .before .before .before .before .before .before .args in
-    let d = c .before .before .digit in
-    (l .inv .0 ∙ ap (atMost (a .max)) (spelled-next (a .base) (l .value) (a .text .now) (l .i) (d .result) (c .before .before .before .before .loop-test .taken) (d .ensures .0) (c .before .if2 .left)), fits-of c)
+loop-again c = (next-of (c .before), fits-of c)
 
 returns-4 : tie.Need-returns-4 Inv-loop μ-loop
-returns-4 c = let l = c .before .loop in
-    let a = c .before .before .before .before .args in
-    sym (l .inv .0 ∙ ap (atMost (a .max)) (spelled-end (a .base) (l .value) (a .text .now) (l .i) (c .loop-test .left)) ∙ in-limit (a .max) (l .value) (l .inv .1))
+returns-4 c = let l = c .before .loop in sym (l .inv .0 ∙ ap (atMost _) (spelled-end _ _ _ _ (c .loop-test .left)) ∙ in-limit _ _ (l .inv .1))
 
 pub parse-number-spec : {M : Type 1} → statement M
 parse-number-spec =
