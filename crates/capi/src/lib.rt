@@ -3,7 +3,7 @@
 // a refusal leaves as they were. The calls that are made often stand in crates of their own
 // (capi_get and so on), which use the words and answers here.
 pub mod answers;
-mod build_calls;
-mod rebuild_calls;
-mod stats_calls;
+pub mod build_calls;
+pub mod rebuild_calls;
+pub mod stats_calls;
 pub mod words;

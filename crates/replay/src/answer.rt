@@ -1,38 +1,34 @@
-// Answers as the list has them: each word, number or byte string with a space before it.
+// Answers as the list has them: each word, number or byte string with a space before it. Each function
+// writes from a position on, and gives the position after what it wrote.
+use crate::areas::Reply;
 use crate::checksum::with_bytes;
-use crate::state::Answer;
-use hash_parts::duration::Duration;
-use hash_parts::duration::SegmentRemainingTtl;
+use crate::names::COMMENT;
+use crate::names::GET;
+use crate::names::PEEK;
+use crate::names::PROBE;
+use crate::names::UNREADABLE;
+use crate::names::WALK;
 use passage_lines::output::put_decimal;
 use passage_lines::output::put_hex;
 use passage_lines::output::put_text;
+use records::record::Span;
 use records::record::value_slice;
-use sets::cache::SegmentBaseRecord;
-use sets::rebuild::SharedSegmentCacheBuild;
-use sets::stats::SegmentCacheStats;
 
 // Of more bytes the list has the number and a checksum.
 const MAX_SHOWN_BYTES: usize = 32;
 
-// Writes an answer to the front of an area, and gives its length.
-pub(crate) fn put_answer(out: &mut [u8], answer: Answer, arena: &[u8]) -> usize {
-    match answer {
-        Answer::Value(span) => put_bytes(out, 0, value_slice(arena, span)),
-        Answer::Record(record) => put_record(out, record, arena),
-        _ => put_counts(out, answer),
+// The text of a reply.
+pub(crate) fn put_reply(out: &mut [u8], kind: usize, reply: Reply, arena: &[u8]) -> usize {
+    let words = reply.words;
+    if reply.refusal != 0 {
+        let number_at = put_text(out, 0, b" refused");
+        return put_number(out, number_at, reply.refusal);
     }
-}
-
-// An answer without bytes.
-fn put_counts(out: &mut [u8], answer: Answer) -> usize {
-    match answer {
-        Answer::Refused(refusal) => put_refusal(out, refusal.number()),
-        Answer::Number(number) => put_number(out, 0, number),
-        Answer::Pair(first, second) => put_pair(out, 0, first, second),
-        Answer::Stats(stats) => put_stats(out, stats),
-        Answer::Rebuilt(build) => put_build(out, build),
-        Answer::Nothing => put_text(out, 0, b" none"),
-        _ => put_text(out, 0, b" out of turn"),
+    match kind {
+        GET | PEEK => put_value(out, words, arena),
+        PROBE | WALK => put_record(out, words, arena),
+        UNREADABLE => put_text(out, 0, b" unreadable"),
+        _ => put_words(out, &words, reply.count),
     }
 }
 
@@ -41,89 +37,60 @@ fn put_number(out: &mut [u8], at: usize, number: u64) -> usize {
     put_decimal(out, digits_at, number)
 }
 
-fn put_pair(out: &mut [u8], at: usize, first: usize, second: usize) -> usize {
-    let second_at = put_number(out, at, first as u64);
-    put_number(out, second_at, second as u64)
-}
-
-fn put_refusal(out: &mut [u8], number: u8) -> usize {
-    let number_at = put_text(out, 0, b" refused");
-    put_number(out, number_at, number as u64)
-}
-
-fn put_bytes(out: &mut [u8], at: usize, bytes: &[u8]) -> usize {
-    if bytes.len() > MAX_SHOWN_BYTES {
-        let length_at = put_text(out, at, b" bytes");
-        let sum_at = put_number(out, length_at, bytes.len() as u64);
-        return put_number(out, sum_at, with_bytes(0, bytes));
+// The first so many words.
+fn put_words(out: &mut [u8], words: &[u64], count: usize) -> usize {
+    let mut at = 0;
+    let mut i = 0;
+    while i < words.len() {
+        if i == count {
+            return at;
+        }
+        at = put_number(out, at, words[i]);
+        i += 1;
     }
-    let text_at = put_text(out, at, b" ");
-    put_hex(out, text_at, bytes)
+    at
 }
 
-fn put_duration(out: &mut [u8], at: usize, duration: Duration) -> usize {
-    let nanos_at = put_number(out, at, duration.secs);
-    put_number(out, nanos_at, duration.nanos as u64)
-}
-
-fn put_remaining(out: &mut [u8], at: usize, remaining: SegmentRemainingTtl) -> usize {
-    match remaining {
-        SegmentRemainingTtl::Never => put_text(out, at, b" never"),
-        SegmentRemainingTtl::Finite(duration) => put_duration(out, at, duration),
-        SegmentRemainingTtl::Nothing => put_text(out, at, b" none"),
+fn put_value(out: &mut [u8], words: [u64; 11], arena: &[u8]) -> usize {
+    if words[0] == 0 {
+        return put_text(out, 0, b" none");
     }
+    put_bytes(out, 0, arena, words[1], words[2])
 }
 
 // Slot, location, bytes before the key, key, value, and the time that is left.
-fn put_record(out: &mut [u8], record: SegmentBaseRecord, arena: &[u8]) -> usize {
-    let key = record.key;
-    let value = record.value;
-    let remaining = record.remaining_ttl;
-    let offset_at = put_pair(out, 0, record.slot, record.location);
-    let key_at = put_number(out, offset_at, record.key_offset as u64);
-    let value_at = put_bytes(out, key_at, value_slice(arena, key));
-    let remaining_at = put_bytes(out, value_at, value_slice(arena, value));
-    put_remaining(out, remaining_at, remaining)
+fn put_record(out: &mut [u8], words: [u64; 11], arena: &[u8]) -> usize {
+    if words[0] == 0 {
+        return put_text(out, 0, b" none");
+    }
+    let key_at = put_words(out, &words[1..4], 3);
+    let value_at = put_bytes(out, key_at, arena, words[4], words[5]);
+    let left_at = put_bytes(out, value_at, arena, words[6], words[7]);
+    put_left(out, left_at, words[8], words[9], words[10])
 }
 
-// The eight numbers of the statistics, then those of the three methods.
-fn put_stats(out: &mut [u8], stats: SegmentCacheStats) -> usize {
-    let index_at = put_pair(out, 0, stats.entries, stats.buckets);
-    let records_at = put_pair(out, index_at, stats.index_slots, stats.index_bytes);
-    let values_at = put_pair(out, records_at, stats.record_bytes, stats.logical_key_bytes);
-    let methods_at = put_pair(
-        out,
-        values_at,
-        stats.logical_value_bytes,
-        stats.record_header_bytes,
-    );
-    put_methods(out, methods_at, stats)
+fn put_left(out: &mut [u8], at: usize, kind: u64, secs: u64, nanos: u64) -> usize {
+    if kind == 0 {
+        return put_text(out, at, b" never");
+    }
+    if kind == 2 {
+        return put_text(out, at, b" none");
+    }
+    let nanos_at = put_number(out, at, secs);
+    put_number(out, nanos_at, nanos)
 }
 
-fn put_methods(out: &mut [u8], at: usize, stats: SegmentCacheStats) -> usize {
-    let load_at = put_pair(
-        out,
-        at,
-        stats.modeled_retained_bytes(),
-        stats.modeled_overhead_bytes(),
-    );
-    put_number(out, load_at, stats.index_load_bps() as u64)
-}
-
-// The number of segments, and what the rebuild took.
-fn put_build(out: &mut [u8], build: SharedSegmentCacheBuild) -> usize {
-    let set = build.cache;
-    let reused_at = put_number(out, 0, set.segments as u64);
-    let copied_at = put_pair(
-        out,
-        reused_at,
-        build.reused_entries,
-        build.reused_record_bytes,
-    );
-    put_pair(
-        out,
-        copied_at,
-        build.copied_record_bytes,
-        build.newly_allocated_bytes,
-    )
+fn put_bytes(out: &mut [u8], at: usize, arena: &[u8], from: u64, length: u64) -> usize {
+    let span = Span {
+        at: from as usize,
+        len: length as usize,
+    };
+    let bytes = value_slice(arena, span);
+    if bytes.len() <= MAX_SHOWN_BYTES {
+        let text_at = put_text(out, at, b" ");
+        return put_hex(out, text_at, bytes);
+    }
+    let length_at = put_text(out, at, b" bytes");
+    let sum_at = put_number(out, length_at, length);
+    put_number(out, sum_at, with_bytes(0, bytes))
 }

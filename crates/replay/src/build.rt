@@ -1,196 +1,125 @@
-// The calls of a build. Each answers out of turn where no builder is open.
-use crate::parts::set_words;
-use crate::parts::shown_words;
+// The calls of a build.
+use crate::areas::Areas;
+use crate::areas::Step;
+use crate::areas::told;
+use crate::names::FINISH;
+use crate::names::OPEN;
 use crate::request::Request;
-use crate::state::Answer;
-use crate::state::State;
-use crate::state::Step;
-use crate::state::Work;
-use hash_parts::duration::Duration;
-use hash_parts::duration::Lifetime;
-use hash_parts::setting::SegmentCacheConfig;
-use hash_parts::setting::SegmentExpiry;
-use sets::builder::FinishAnswer;
-use sets::builder::OpenAnswer;
-use sets::builder::PushAnswer;
-use sets::builder::SegmentCacheBuilder;
+use capi::build_calls::segment_cache_finish;
+use capi::build_calls::segment_cache_open;
+use capi_push::segment_cache_push;
 
-// Control words of the packed index, as many as a set has buckets.
-const SCRATCH_WORDS: usize = 128;
-
-fn duration(secs: u64, nanos: u64) -> Duration {
-    Duration {
-        secs,
-        nanos: (nanos % 0x1_0000_0000) as u32,
-    }
-}
-
-// The first number says whether there is a lifetime.
-pub(crate) fn lifetime(kind: u64, secs: u64, nanos: u64) -> Lifetime {
-    if kind == 0 {
-        return Lifetime::Never;
-    }
-    Lifetime::For(duration(secs, nanos))
-}
-
-// Occupancy, whether packed, filter bits, whether there is expiry, and the tick.
-fn setting(numbers: [u64; 7]) -> SegmentCacheConfig {
-    SegmentCacheConfig {
-        expiry: expiry(numbers[4], numbers[5], numbers[6]),
-        target_occupied_slots: (numbers[1] % 256) as u8,
-        packed_bucket_index: numbers[2] != 0,
-        negative_filter_bits_per_entry: (numbers[3] % 256) as u8,
-    }
-}
-
-fn expiry(kind: u64, secs: u64, nanos: u64) -> SegmentExpiry {
-    if kind == 0 {
-        return SegmentExpiry::None;
-    }
-    SegmentExpiry::Relative16 {
-        tick: duration(secs, nanos),
-    }
-}
-
-// An open makes the first set.
-pub(crate) fn open(
-    state: State,
+pub(crate) fn build(
     request: Request,
-    index: &mut [u64],
-    filter: &mut [u64],
-    starts: &[u64],
-    lengths: &[u64],
-    arena: &[u8],
-) -> Step {
-    let numbers = request.numbers;
-    opened(
-        state,
-        SegmentCacheBuilder::try_new(
-            setting(numbers),
-            numbers[0] as usize,
-            set_words(index, 0),
-            set_words(filter, 0),
-            shown_words(starts, 0),
-            shown_words(lengths, 0),
-            arena,
-        ),
-    )
-}
-
-fn opened(state: State, answer: OpenAnswer) -> Step {
-    match answer {
-        OpenAnswer::Refused(refusal) => state.answers(Answer::Refused(refusal)),
-        OpenAnswer::Opened(builder) => state
-            .making(0, Work::Build(builder))
-            .answers(Answer::Pair(builder.bucket_count, builder.filter_words)),
-    }
-}
-
-pub(crate) fn push(
-    state: State,
-    request: Request,
-    bytes: &[u8],
-    index: &mut [u64],
-    filter: &mut [u64],
+    key: &[u8],
+    value: &[u8],
+    areas: Areas,
     arena: &mut [u8],
 ) -> Step {
-    let work = state.work;
-    let Work::Build(builder) = work else {
-        return state.answers(Answer::OutOfTurn);
-    };
-    pushed(
-        state,
-        push_record(builder, request, bytes, index, filter, arena),
-    )
-}
-
-fn push_record(
-    builder: SegmentCacheBuilder,
-    request: Request,
-    bytes: &[u8],
-    index: &mut [u64],
-    filter: &mut [u64],
-    arena: &mut [u8],
-) -> PushAnswer {
-    let numbers = request.numbers;
-    builder.push(
-        numbers[0],
-        request.key(bytes),
-        request.value(bytes),
-        lifetime(numbers[2], numbers[3], numbers[4]),
-        set_words(index, 0),
-        set_words(filter, 0),
-        arena,
-    )
-}
-
-fn pushed(state: State, answer: PushAnswer) -> Step {
-    match answer {
-        PushAnswer::Refused {
-            refusal,
-            builder: kept,
-        } => state
-            .with_work(Work::Build(kept))
-            .answers(Answer::Refused(refusal)),
-        PushAnswer::Pushed {
-            builder: grown,
-            slot,
-            location,
-        } => state
-            .with_work(Work::Build(grown))
-            .answers(Answer::Pair(slot, location)),
+    let kind = request.kind;
+    match kind {
+        OPEN => open(request, areas, arena),
+        FINISH => finish(request, areas, arena),
+        _ => push(request, key, value, areas, arena),
     }
 }
 
-pub(crate) fn finish(
-    state: State,
-    request: Request,
-    index: &mut [u64],
-    starts: &mut [u64],
-    lengths: &mut [u64],
-    arena: &[u8],
-) -> Step {
-    let work = state.work;
-    let Work::Build(builder) = work else {
-        return state.answers(Answer::OutOfTurn);
-    };
-    let numbers = request.numbers;
-    finished(
-        state,
-        finish_set(builder, numbers[0], index, starts, lengths, arena),
-    )
-}
-
-fn finish_set(
-    builder: SegmentCacheBuilder,
-    target: u64,
-    index: &mut [u64],
-    starts: &mut [u64],
-    lengths: &mut [u64],
-    arena: &[u8],
-) -> FinishAnswer {
-    builder.finish(
-        target as usize,
-        set_words(index, 0),
-        set_words(starts, 0),
-        set_words(lengths, 0),
-        &mut [0; SCRATCH_WORDS],
+// Records, occupancy, whether packed, filter bits, whether there is expiry, and the tick.
+fn open(request: Request, areas: Areas, arena: &[u8]) -> Step {
+    let mut builder = areas.builder;
+    let mut index = areas.index;
+    let mut filter = areas.filter;
+    let starts = areas.starts;
+    let lengths = areas.lengths;
+    let setting = [
+        request.n4,
+        request.n5,
+        request.n6,
+        request.n1,
+        request.n2,
+        request.n3,
+    ];
+    let refusal = segment_cache_open(
+        &setting,
+        request.n0 as usize,
+        &mut builder,
+        &mut index,
+        &mut filter,
+        &starts,
+        &lengths,
         arena,
-    )
+    );
+    Step {
+        areas: Areas {
+            builder,
+            index,
+            filter,
+            ..areas
+        },
+        reply: told(refusal, &[builder[8], builder[9]]),
+    }
 }
 
-fn finished(state: State, answer: FinishAnswer) -> Step {
-    match answer {
-        FinishAnswer::Refused {
-            refusal,
-            builder: kept,
-        } => state
-            .with_work(Work::Build(kept))
-            .answers(Answer::Refused(refusal)),
-        FinishAnswer::Finished(set) => {
-            state
-                .finished(set)
-                .answers(Answer::Pair(set.segments, set.record_bytes))
-        }
+fn push(request: Request, key: &[u8], value: &[u8], areas: Areas, arena: &mut [u8]) -> Step {
+    let mut builder = areas.builder;
+    let mut index = areas.index;
+    let mut filter = areas.filter;
+    let mut place = [0; 2];
+    let lifetime = [request.n3, request.n4];
+    let refusal = segment_cache_push(
+        &mut builder,
+        request.n0,
+        key,
+        value,
+        given(request.n2, &lifetime),
+        &mut index,
+        &mut filter,
+        arena,
+        &mut place,
+    );
+    Step {
+        areas: Areas {
+            builder,
+            index,
+            filter,
+            ..areas
+        },
+        reply: told(refusal, &place),
+    }
+}
+
+// The words of a lifetime: none where there is no lifetime.
+pub(crate) fn given(flag: u64, words: &[u64]) -> &[u64] {
+    if flag == 0 {
+        return &words[0..0];
+    }
+    words
+}
+
+fn finish(request: Request, areas: Areas, arena: &[u8]) -> Step {
+    let builder = areas.builder;
+    let mut index = areas.index;
+    let mut starts = areas.starts;
+    let mut lengths = areas.lengths;
+    let mut set = areas.set;
+    let refusal = segment_cache_finish(
+        &builder,
+        request.n0 as usize,
+        &mut index,
+        &mut starts,
+        &mut lengths,
+        &mut [0; 128],
+        arena,
+        &mut set,
+    );
+    Step {
+        areas: Areas {
+            set,
+            index,
+            starts,
+            lengths,
+            ..areas
+        },
+        reply: told(refusal, &[set[9], set[11]]),
     }
 }

@@ -1,163 +1,71 @@
-// Making the call of a line.
-use crate::build::finish;
-use crate::build::open;
-use crate::build::push;
-use crate::lookups::checksum;
-use crate::lookups::get;
-use crate::lookups::peek;
-use crate::lookups::probe;
-use crate::lookups::stats;
-use crate::lookups::take;
-use crate::lookups::walk;
-use crate::names::Call;
-use crate::rebuilds::push_copied;
-use crate::rebuilds::push_reused;
-use crate::rebuilds::rebuild_finish;
-use crate::rebuilds::rebuild_open;
+// The call of a line, and the set that it is made on.
+use crate::areas::Areas;
+use crate::areas::Reply;
+use crate::areas::Step;
+use crate::build::build;
+use crate::lookups::look_up;
+use crate::names::CHECKSUM;
+use crate::names::FINISH;
+use crate::names::GET;
+use crate::names::OPEN;
+use crate::names::PEEK;
+use crate::names::PROBE;
+use crate::names::PUSH;
+use crate::names::PUSH_COPIED;
+use crate::names::PUSH_REUSED;
+use crate::names::REBUILD_FINISH;
+use crate::names::REBUILD_OPEN;
+use crate::names::STATS;
+use crate::names::TAKE;
+use crate::names::WALK;
+use crate::rebuilds::rebuild;
 use crate::request::Request;
-use crate::state::Answer;
-use crate::state::State;
-use crate::state::Step;
+
+// The set that the rebuild makes which is open after a line: the next after its source. The list opens
+// no other rebuild before an open one is finished, and where the call refuses, the next line opens it again.
+pub(crate) fn set_made(request: Request, made: usize) -> usize {
+    if request.kind == REBUILD_OPEN {
+        return (request.n0 % 4 + 1) as usize;
+    }
+    made
+}
+
+// An open makes the first set.
+pub(crate) fn set_asked(request: Request, made: usize) -> usize {
+    let kind = request.kind;
+    match kind {
+        OPEN | PUSH | FINISH => 0,
+        REBUILD_OPEN | PUSH_REUSED | PUSH_COPIED | REBUILD_FINISH => made,
+        _ => request.n0 as usize,
+    }
+}
 
 pub(crate) fn make_call(
-    state: State,
     request: Request,
-    bytes: &[u8],
-    index: &mut [u64],
-    filter: &mut [u64],
-    starts: &mut [u64],
-    lengths: &mut [u64],
+    key: &[u8],
+    value: &[u8],
+    source: Areas,
+    areas: Areas,
     arena: &mut [u8],
 ) -> Step {
-    let call = request.call;
-    match call {
-        Call::Open => open(
-            state,
-            request,
-            index,
-            filter,
-            &starts[..],
-            &lengths[..],
-            &arena[..],
-        ),
-        Call::Push => push(state, request, bytes, index, filter, arena),
-        Call::Finish => finish(state, request, index, starts, lengths, &arena[..]),
-        Call::RebuildOpen | Call::PushReused | Call::PushCopied | Call::RebuildFinish => {
-            make_rebuild_call(state, request, bytes, index, filter, starts, lengths, arena)
+    let kind = request.kind;
+    match kind {
+        OPEN | PUSH | FINISH => build(request, key, value, areas, arena),
+        REBUILD_OPEN | PUSH_REUSED | PUSH_COPIED | REBUILD_FINISH => {
+            rebuild(request, key, value, source, areas, arena)
         }
-        _ => state.answers(ask(
-            state,
-            request,
-            bytes,
-            index,
-            &filter[..],
-            &starts[..],
-            &lengths[..],
-            &arena[..],
-        )),
+        GET | PEEK | TAKE | PROBE | WALK | STATS | CHECKSUM => look_up(request, key, areas, arena),
+        _ => no_call(areas),
     }
 }
 
-fn make_rebuild_call(
-    state: State,
-    request: Request,
-    bytes: &[u8],
-    index: &mut [u64],
-    filter: &mut [u64],
-    starts: &mut [u64],
-    lengths: &mut [u64],
-    arena: &mut [u8],
-) -> Step {
-    let call = request.call;
-    match call {
-        Call::RebuildOpen => rebuild_open(
-            state,
-            request,
-            bytes,
-            index,
-            filter,
-            starts,
-            lengths,
-            &arena[..],
-        ),
-        Call::RebuildFinish => rebuild_finish(state, index, starts, lengths, &arena[..]),
-        _ => make_rebuild_push(
-            state,
-            request,
-            bytes,
-            index,
-            filter,
-            &starts[..],
-            &lengths[..],
-            arena,
-        ),
-    }
-}
-
-fn make_rebuild_push(
-    state: State,
-    request: Request,
-    bytes: &[u8],
-    index: &mut [u64],
-    filter: &mut [u64],
-    starts: &[u64],
-    lengths: &[u64],
-    arena: &mut [u8],
-) -> Step {
-    let call = request.call;
-    match call {
-        Call::PushReused => push_reused(
-            state,
-            request,
-            bytes,
-            index,
-            filter,
-            starts,
-            lengths,
-            &arena[..],
-        ),
-        _ => push_copied(state, request, bytes, index, filter, starts, lengths, arena),
-    }
-}
-
-// The calls on finished sets, which change marks alone.
-fn ask(
-    state: State,
-    request: Request,
-    bytes: &[u8],
-    index: &mut [u64],
-    filter: &[u64],
-    starts: &[u64],
-    lengths: &[u64],
-    arena: &[u8],
-) -> Answer {
-    let call = request.call;
-    match call {
-        Call::Get => get(state, request, bytes, index, filter, starts, lengths, arena),
-        Call::Take => take(state, request, bytes, index, filter, starts, lengths, arena),
-        Call::Peek => peek(
-            state,
-            request,
-            bytes,
-            &index[..],
-            filter,
-            starts,
-            lengths,
-            arena,
-        ),
-        Call::Probe => probe(
-            state,
-            request,
-            bytes,
-            &index[..],
-            filter,
-            starts,
-            lengths,
-            arena,
-        ),
-        Call::Walk => walk(state, request, &index[..], starts, lengths, arena),
-        Call::Stats => stats(state, request),
-        Call::Checksum => checksum(state, request, &index[..], filter, starts, lengths, arena),
-        _ => Answer::OutOfTurn,
+fn no_call(areas: Areas) -> Step {
+    Step {
+        areas,
+        reply: Reply {
+            refusal: 0,
+            words: [0; 11],
+            count: 0,
+        },
     }
 }

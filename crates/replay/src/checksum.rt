@@ -5,19 +5,17 @@ use hash_parts::hash::rotate_left_27;
 use hash_parts::hash::wrapping_mul;
 use records::record::Span;
 use records::record::value_slice;
-use sets::cache::FrozenSegmentCache;
-use sets::cache::StatsAnswer;
 
 fn joined(sum: u64, word: u64) -> u64 {
     rotate_left_27(wrapping_mul(sum ^ word, 0x9e37_79b9_7f4a_7c15))
 }
 
 // The sum with the first so many words of an area.
-fn with_words(sum: u64, words: &[u64], count: usize) -> u64 {
+pub(crate) fn with_words(sum: u64, words: &[u64], count: u64) -> u64 {
     let mut total = sum;
     let mut i = 0;
-    while i < count {
-        if i >= words.len() {
+    while i < words.len() {
+        if i as u64 >= count {
             return total;
         }
         total = joined(total, words[i]);
@@ -41,51 +39,32 @@ fn with_byte(sum: u64, byte: u8) -> u64 {
 }
 
 // The sum with start, length and bytes of each segment.
-fn with_segments(sum: u64, count: usize, starts: &[u64], lengths: &[u64], arena: &[u8]) -> u64 {
+pub(crate) fn with_segments(
+    sum: u64,
+    starts: &[u64],
+    lengths: &[u64],
+    count: u64,
+    arena: &[u8],
+) -> u64 {
     let mut total = sum;
     let mut i = 0;
-    while i < count {
-        total = with_segment(total, i, starts, lengths, arena);
+    while i < starts.len() {
+        if i as u64 >= count {
+            return total;
+        }
+        if i >= lengths.len() {
+            return total;
+        }
+        total = with_segment(total, starts[i], lengths[i], arena);
         i += 1;
     }
     total
 }
 
-fn with_segment(sum: u64, segment: usize, starts: &[u64], lengths: &[u64], arena: &[u8]) -> u64 {
-    if segment >= starts.len() {
-        return sum;
-    }
-    if segment >= lengths.len() {
-        return sum;
-    }
-    let start = starts[segment];
-    let length = lengths[segment];
-    let place = joined(joined(sum, start), length);
-    with_bytes(
-        place,
-        value_slice(
-            arena,
-            Span {
-                at: start as usize,
-                len: length as usize,
-            },
-        ),
-    )
-}
-
-// Index words, filter words, and of each segment its start, its length and its bytes.
-pub(crate) fn set_checksum(
-    set: FrozenSegmentCache,
-    index: &[u64],
-    filter: &[u64],
-    starts: &[u64],
-    lengths: &[u64],
-    arena: &[u8],
-) -> u64 {
-    let StatsAnswer::Stats(stats) = set.stats() else {
-        return 0;
+fn with_segment(sum: u64, start: u64, length: u64, arena: &[u8]) -> u64 {
+    let span = Span {
+        at: start as usize,
+        len: length as usize,
     };
-    let with_index = with_words(0, index, stats.index_slots);
-    let with_filter = with_words(with_index, filter, set.filter_words);
-    with_segments(with_filter, set.segments, starts, lengths, arena)
+    with_bytes(joined(joined(sum, start), length), value_slice(arena, span))
 }

@@ -1,96 +1,81 @@
-// The calls of the list and their names.
+// The calls of the list: their numbers, in the order in which they are counted, and their names.
+use crate::request::between;
+use crate::request::field_end;
 use records::record::same_bytes;
 
-pub(crate) enum Call {
-    Open,
-    Push,
-    Finish,
-    Get,
-    Peek,
-    Take,
-    Probe,
-    Walk,
-    Stats,
-    RebuildOpen,
-    PushReused,
-    PushCopied,
-    RebuildFinish,
-    // No call: a checksum of all words and record bytes of a set.
-    Checksum,
-    // A line that can't be read.
-    Unknown,
-}
+pub(crate) const OPEN: usize = 0;
 
+pub(crate) const PUSH: usize = 1;
+
+pub(crate) const FINISH: usize = 2;
+
+pub(crate) const GET: usize = 3;
+
+pub(crate) const PEEK: usize = 4;
+
+pub(crate) const TAKE: usize = 5;
+
+pub(crate) const PROBE: usize = 6;
+
+pub(crate) const WALK: usize = 7;
+
+pub(crate) const STATS: usize = 8;
+
+pub(crate) const REBUILD_OPEN: usize = 9;
+
+pub(crate) const PUSH_REUSED: usize = 10;
+
+pub(crate) const PUSH_COPIED: usize = 11;
+
+pub(crate) const REBUILD_FINISH: usize = 12;
+// No call: a checksum of all words and record bytes of a set.
+pub(crate) const CHECKSUM: usize = 13;
+
+pub(crate) const UNREADABLE: usize = 14;
+// A line that says how the list was made.
+pub(crate) const COMMENT: usize = 15;
+
+// What a turn has that only reads.
+pub(crate) const NO_LINE: usize = 16;
+
+// Kinds that are counted.
 pub(crate) const KINDS: usize = 15;
 
-impl Call {
-    pub(crate) fn kind(self) -> usize {
-        match self {
-            Call::Open => 0,
-            Call::Push => 1,
-            Call::Finish => 2,
-            Call::Get => 3,
-            Call::Peek => 4,
-            Call::Take => 5,
-            Call::Probe => 6,
-            Call::Walk => 7,
-            Call::Stats => 8,
-            Call::RebuildOpen => 9,
-            Call::PushReused => 10,
-            Call::PushCopied => 11,
-            Call::RebuildFinish => 12,
-            Call::Checksum => 13,
-            Call::Unknown => 14,
+// The names with spaces behind them, and one for lines that can't be read.
+const NAMES: [[u8; 16]; 15] = [
+    *b"open            ",
+    *b"push            ",
+    *b"finish          ",
+    *b"get             ",
+    *b"peek            ",
+    *b"take            ",
+    *b"probe           ",
+    *b"walk            ",
+    *b"stats           ",
+    *b"rebuild_open    ",
+    *b"push_reused     ",
+    *b"push_copied     ",
+    *b"rebuild_finish  ",
+    *b"checksum        ",
+    *b"unreadable      ",
+];
+
+pub(crate) fn name_of(kind: usize) -> [u8; 16] {
+    let names = NAMES;
+    names[kind % 15]
+}
+
+pub(crate) fn kind_named(name: &[u8]) -> usize {
+    let mut kind = 0;
+    while kind < UNREADABLE {
+        if is_name(name, name_of(kind)) {
+            return kind;
         }
+        kind += 1;
     }
+    kind
 }
 
-pub(crate) fn call_named(name: &[u8]) -> Call {
-    if same_bytes(name, b"open") {
-        return Call::Open;
-    }
-    if same_bytes(name, b"push") {
-        return Call::Push;
-    }
-    if same_bytes(name, b"finish") {
-        return Call::Finish;
-    }
-    if same_bytes(name, b"rebuild_open") {
-        return Call::RebuildOpen;
-    }
-    if same_bytes(name, b"push_reused") {
-        return Call::PushReused;
-    }
-    if same_bytes(name, b"push_copied") {
-        return Call::PushCopied;
-    }
-    if same_bytes(name, b"rebuild_finish") {
-        return Call::RebuildFinish;
-    }
-    lookup_named(name)
-}
-
-fn lookup_named(name: &[u8]) -> Call {
-    if same_bytes(name, b"get") {
-        return Call::Get;
-    }
-    if same_bytes(name, b"peek") {
-        return Call::Peek;
-    }
-    if same_bytes(name, b"take") {
-        return Call::Take;
-    }
-    if same_bytes(name, b"probe") {
-        return Call::Probe;
-    }
-    if same_bytes(name, b"walk") {
-        return Call::Walk;
-    }
-    if same_bytes(name, b"stats") {
-        return Call::Stats;
-    }
-    if same_bytes(name, b"checksum") {
-        return Call::Checksum;
-    }
-    Call::Unknown
+fn is_name(name: &[u8], padded: [u8; 16]) -> bool {
+    same_bytes(name, between(&padded, 0, field_end(&padded, 0)))
 }

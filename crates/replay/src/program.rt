@@ -1,93 +1,151 @@
-// Reading the list in blocks, and replaying its lines.
-use crate::answer::put_answer;
+// Reading the list in blocks, a line at each turn.
+use crate::answer::put_reply;
+use crate::areas::Areas;
+use crate::areas::Reply;
 use crate::calls::make_call;
-use crate::names::Call;
-use crate::parts::between;
-use crate::parts::rest;
 use crate::request::Request;
+use crate::request::between;
 use crate::request::read_request;
-use crate::state::State;
 use crate::tally::Tally;
 use libc::STDIN_FILENO;
 use passage_lines::input::Input;
 use passage_lines::input::NextLine;
 use passage_lines::input::keep_unread;
 use passage_lines::input::next_line;
-use records::record::same_bytes;
 ghost use Prim.Native.Nat.{_<_};
 
-// What goes on from line to line.
-struct Progress {
-    state: State,
-    tally: Tally,
-    // What of the block is unread.
-    input: Input,
-    ended: bool,
+// What of the block is read and unread.
+pub(crate) struct Reader {
+    pub(crate) input: Input,
+    // Where the turn's line stands in the block; nowhere where there is none.
+    pub(crate) from: usize,
+    pub(crate) to: usize,
+    pub(crate) ended: bool,
 }
 
-impl Progress {
-    fn new() -> Progress {
-        Progress {
-            state: State::new(),
-            tally: Tally::new(),
-            input: Input {
-                at: 0,
-                end: 0,
-                skipping: false,
-            },
+// The areas of a line's set, and the tally with the line.
+pub(crate) struct Replayed {
+    pub(crate) areas: Areas,
+    pub(crate) tally: Tally,
+}
+
+pub(crate) type Block = [u8; 65_536];
+
+pub(crate) type Key = [u8; 1_024];
+
+pub(crate) type Value = [u8; 32_768];
+
+pub(crate) type Arena = [u8; 131_072];
+
+pub(crate) fn without_line(input: Input, ended: bool) -> Reader {
+    Reader {
+        input,
+        from: 0,
+        to: 0,
+        ended,
+    }
+}
+
+pub(crate) fn next_turn(input: Input, block: &mut Block) -> Reader {
+    take_line(input, block)
+}
+
+// The start of a line that is over the limit counts as a line: it has no answer, so it differs.
+fn take_line(input: Input, block: &mut [u8]) -> Reader {
+    let at = input.at;
+    let end = input.end;
+    match next_line(&block[..], input) {
+        NextLine::Line {
+            from,
+            to,
+            input: next,
+        } => Reader {
+            input: next,
+            from,
+            to,
             ended: false,
-        }
-    }
-
-    fn with_input(self, input: Input) -> Progress {
-        Progress { input, ..self }
-    }
-
-    fn with_tally(self, tally: Tally) -> Progress {
-        Progress { tally, ..self }
-    }
-
-    // A line that is over the limit.
-    fn unreadable(self) -> Progress {
-        let tally = self.tally;
-        let counted = tally.next_line().counted(Call::Unknown);
-        self.with_tally(counted.differing(b" unreadable", b" unreadable"))
+        },
+        NextLine::TooLong(next) => Reader {
+            input: next,
+            from: at,
+            to: end,
+            ended: false,
+        },
+        NextLine::Skipped(next) => without_line(next, false),
+        NextLine::More(next) => read_more(block, next),
     }
 }
 
-// Replays the list on standard input. The block is longer than a line may be; key and value of a
-// line fit into bytes, and an answer's text into out.
-pub(crate) fn run(
-    block: &mut [u8],
-    bytes: &mut [u8],
-    out: &mut [u8],
-    index: &mut [u64],
-    filter: &mut [u64],
-    starts: &mut [u64],
-    lengths: &mut [u64],
-    arena: &mut [u8],
-) {
-    let mut progress = Progress::new();
-    let mut left = u64::MAX;
-    while left > 0 {
-        progress = take_turn(
-            progress,
-            block,
-            bytes,
-            out,
-            index,
-            filter,
-            starts,
-            lengths,
+// Moves what is unread to the front of the block and reads after it.
+fn read_more(block: &mut [u8], input: Input) -> Reader {
+    let kept = keep_unread(block, input);
+    let end = kept.end;
+    let skipping = kept.skipping;
+    if end > block.len() {
+        return without_line(kept, true);
+    }
+    let got = libc::read(STDIN_FILENO, &mut block[end..]);
+    let count = io::count(got, &block[end..]);
+    let more = Input {
+        at: 0,
+        end: end + count,
+        skipping,
+    };
+    without_line(more, count == 0)
+}
+
+pub(crate) fn read_line(
+    reader: Reader,
+    block: &Block,
+    key: &mut Key,
+    value: &mut Value,
+) -> Request {
+    read_request(between(block, reader.from, reader.to), key, value)
+}
+
+// Makes the call of the line on the areas of its set.
+pub(crate) fn replay_line(
+    tally: Tally,
+    request: Request,
+    reader: Reader,
+    block: &Block,
+    key: &Key,
+    value: &Value,
+    source: Areas,
+    asked: Areas,
+    arena: &mut Arena,
+) -> Replayed {
+    let step = make_call(
+        request,
+        between(key, 0, request.key_len),
+        between(value, 0, request.value_len),
+        source,
+        asked,
+        arena,
+    );
+    let areas = step.areas;
+    let reply = step.reply;
+    Replayed {
+        areas,
+        tally: compared(
+            tally,
+            request,
+            reply,
+            between(block, reader.from, reader.to),
             arena,
-        );
-        left = turns_left(left, progress.ended);
+        ),
     }
-    let tally = progress.tally;
-    tally.show();
 }
 
-fn turns_left(left: u64, ended: bool) -> u64
+// Compares the reply with the answer that the line has.
+fn compared(tally: Tally, request: Request, reply: Reply, line: &[u8], arena: &Arena) -> Tally {
+    let mut out = [0; 1_024];
+    let length = put_reply(&mut out, request.kind, reply, arena);
+    let wanted = between(line, request.answer_at, line.len());
+    tally.compared(request.kind, wanted, between(&out, 0, length))
+}
+
+pub(crate) fn turns_left(left: u64, ended: bool) -> u64
     requires { ⌜ 0 < left ⌝ }
     ensures { λ r. ⌜ r < left ⌝ }
 {
@@ -95,140 +153,4 @@ fn turns_left(left: u64, ended: bool) -> u64
         return 0;
     }
     left - 1
-}
-
-fn take_turn(
-    progress: Progress,
-    block: &mut [u8],
-    bytes: &mut [u8],
-    out: &mut [u8],
-    index: &mut [u64],
-    filter: &mut [u64],
-    starts: &mut [u64],
-    lengths: &mut [u64],
-    arena: &mut [u8],
-) -> Progress {
-    let input = progress.input;
-    match next_line(&block[..], input) {
-        NextLine::Line {
-            from,
-            to,
-            input: next,
-        } => replay_line(
-            progress.with_input(next),
-            between(&block[..], from, to),
-            bytes,
-            out,
-            index,
-            filter,
-            starts,
-            lengths,
-            arena,
-        ),
-        NextLine::TooLong(next) => progress.with_input(next).unreadable(),
-        NextLine::Skipped(next) => progress.with_input(next),
-        NextLine::More(next) => read_more(progress, block, next),
-    }
-}
-
-// Moves what is unread to the front of the block and reads after it.
-fn read_more(progress: Progress, block: &mut [u8], input: Input) -> Progress {
-    let kept = keep_unread(block, input);
-    let end = kept.end;
-    let skipping = kept.skipping;
-    if end > block.len() {
-        return ended(progress);
-    }
-    let got = libc::read(STDIN_FILENO, &mut block[end..]);
-    let count = io::count(got, &block[end..]);
-    if count == 0 {
-        return ended(progress);
-    }
-    progress.with_input(Input {
-        at: 0,
-        end: end + count,
-        skipping,
-    })
-}
-
-fn ended(progress: Progress) -> Progress {
-    Progress {
-        ended: true,
-        ..progress
-    }
-}
-
-fn replay_line(
-    progress: Progress,
-    line: &[u8],
-    bytes: &mut [u8],
-    out: &mut [u8],
-    index: &mut [u64],
-    filter: &mut [u64],
-    starts: &mut [u64],
-    lengths: &mut [u64],
-    arena: &mut [u8],
-) -> Progress {
-    let tally = progress.tally;
-    let counted = progress.with_tally(tally.next_line());
-    if is_comment(line) {
-        return counted;
-    }
-    let request = read_request(line, bytes);
-    replay_call(
-        counted,
-        request,
-        rest(line, request.answer_at),
-        &bytes[..],
-        out,
-        index,
-        filter,
-        starts,
-        lengths,
-        arena,
-    )
-}
-
-// Makes the call and compares the answer with the one that is wanted.
-fn replay_call(
-    progress: Progress,
-    request: Request,
-    wanted: &[u8],
-    bytes: &[u8],
-    out: &mut [u8],
-    index: &mut [u64],
-    filter: &mut [u64],
-    starts: &mut [u64],
-    lengths: &mut [u64],
-    arena: &mut [u8],
-) -> Progress {
-    let state = progress.state;
-    let input = progress.input;
-    let tally = progress.tally;
-    let call = request.call;
-    let step = make_call(state, request, bytes, index, filter, starts, lengths, arena);
-    let answer = step.answer;
-    let next = step.state;
-    let length = put_answer(out, answer, &arena[..]);
-    Progress {
-        state: next,
-        tally: compared(tally.counted(call), wanted, between(&out[..], 0, length)),
-        input,
-        ended: false,
-    }
-}
-
-// Lines that begin with `#` say how the list was made.
-fn is_comment(line: &[u8]) -> bool {
-    if line.len() == 0 {
-        return true;
-    }
-    line[0] == b'#'
-}
-
-fn compared(tally: Tally, wanted: &[u8], answer: &[u8]) -> Tally {
-    if same_bytes(wanted, answer) {
-        return tally;
-    }
-    tally.differing(wanted, answer)
 }

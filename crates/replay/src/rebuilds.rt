@@ -1,308 +1,197 @@
-// The calls of a rebuild. Each answers out of turn where no rebuild is open.
-use crate::build::lifetime;
-use crate::parts::set_words;
-use crate::parts::shown_words;
+// The calls of a rebuild.
+use crate::areas::Areas;
+use crate::areas::Step;
+use crate::areas::told;
+use crate::build::given;
+use crate::names::PUSH_REUSED;
+use crate::names::REBUILD_FINISH;
+use crate::names::REBUILD_OPEN;
 use crate::request::Request;
-use crate::state::Answer;
-use crate::state::SETS;
-use crate::state::State;
-use crate::state::Step;
-use crate::state::Work;
-use sets::cache::FrozenSegmentCache;
-use sets::rebuild::RebuildFinishAnswer;
-use sets::rebuild::RebuildOpenAnswer;
-use sets::rebuild::RebuildPushAnswer;
-use sets::rebuild::SegmentRecordLocation;
-use sets::rebuild::SharedSegmentCacheBuilder;
+use capi::rebuild_calls::segment_cache_rebuild_finish;
+use capi::rebuild_calls::segment_cache_rebuild_open;
+use capi_push_copied::segment_cache_push_copied;
+use capi_push_reused::segment_cache_push_reused;
 
-const SCRATCH_WORDS: usize = 128;
-
-const MAX_SEGMENTS: usize = 256;
-
-fn copy_words(from: &[u64], to: &mut [u64]) {
-    let mut i = 0;
-    while i < to.len() {
-        if i >= from.len() {
-            return;
-        }
-        to[i] = from[i];
-        i += 1;
+pub(crate) fn rebuild(
+    request: Request,
+    key: &[u8],
+    value: &[u8],
+    source: Areas,
+    areas: Areas,
+    arena: &mut [u8],
+) -> Step {
+    let kind = request.kind;
+    match kind {
+        REBUILD_OPEN => open_from(source, areas, request, key, arena),
+        REBUILD_FINISH => finish(areas, arena),
+        _ => push(areas, request, key, value, arena),
     }
 }
 
-// The key field of the line holds the keep flags. The new set is the next after its source.
-pub(crate) fn rebuild_open(
-    state: State,
+fn open_from(source: Areas, areas: Areas, request: Request, key: &[u8], arena: &[u8]) -> Step {
+    let set = source.set;
+    let starts = source.starts;
+    let lengths = source.lengths;
+    open(areas, request, key, &lengths, &starts, &set, arena)
+}
+
+// The key field of the line holds the keep flags.
+fn open(
+    areas: Areas,
     request: Request,
-    bytes: &[u8],
-    index: &mut [u64],
-    filter: &mut [u64],
-    starts: &mut [u64],
-    lengths: &mut [u64],
+    flags: &[u8],
+    source_lengths: &[u64],
+    source_starts: &[u64],
+    source: &[u64],
     arena: &[u8],
 ) -> Step {
-    let numbers = request.numbers;
-    let source = numbers[0] as usize % SETS;
-    opened(
-        state,
-        source + 1,
-        open_from(
-            state.set(source),
-            numbers,
-            request.key(bytes),
-            index,
-            filter,
-            starts,
-            lengths,
-            arena,
-        ),
-    )
-}
-
-// The source's segment words are copied, since they stand in the same areas as the new ones.
-fn open_from(
-    source: FrozenSegmentCache,
-    numbers: [u64; 7],
-    flags: &[u8],
-    index: &mut [u64],
-    filter: &mut [u64],
-    starts: &mut [u64],
-    lengths: &mut [u64],
-    arena: &[u8],
-) -> RebuildOpenAnswer {
-    let number = numbers[0] as usize % SETS;
-    let mut source_starts = [0u64; MAX_SEGMENTS];
-    let mut source_lengths = [0u64; MAX_SEGMENTS];
-    copy_words(shown_words(&starts[..], number), &mut source_starts);
-    copy_words(shown_words(&lengths[..], number), &mut source_lengths);
-    rebuild_set(
-        source,
-        numbers,
-        flags,
-        &source_starts,
-        &source_lengths,
-        index,
-        filter,
-        starts,
-        lengths,
-        arena,
-    )
-}
-
-fn rebuild_set(
-    source: FrozenSegmentCache,
-    numbers: [u64; 7],
-    flags: &[u8],
-    source_starts: &[u64],
-    source_lengths: &[u64],
-    index: &mut [u64],
-    filter: &mut [u64],
-    starts: &mut [u64],
-    lengths: &mut [u64],
-    arena: &[u8],
-) -> RebuildOpenAnswer {
-    let number = numbers[0] as usize % SETS + 1;
-    SharedSegmentCacheBuilder::try_new(
+    let mut rebuild = areas.rebuild;
+    let mut index = areas.index;
+    let mut filter = areas.filter;
+    let mut starts = areas.starts;
+    let mut lengths = areas.lengths;
+    let refusal = segment_cache_rebuild_open(
         source,
         source_starts,
         source_lengths,
         arena,
-        numbers[1] as usize,
-        numbers[2] as usize,
+        request.n1 as usize,
+        request.n2 as usize,
         flags,
-        numbers[3],
-        set_words(index, number),
-        set_words(filter, number),
-        set_words(starts, number),
-        set_words(lengths, number),
-    )
-}
-
-fn opened(state: State, number: usize, answer: RebuildOpenAnswer) -> Step {
-    match answer {
-        RebuildOpenAnswer::Refused { refusal, source: _ } => {
-            state.answers(Answer::Refused(refusal))
-        }
-        RebuildOpenAnswer::Opened(builder) => state
-            .making(number, Work::Rebuild(builder))
-            .answers(Answer::Pair(builder.bucket_count, builder.filter_words)),
-    }
-}
-
-pub(crate) fn push_reused(
-    state: State,
-    request: Request,
-    bytes: &[u8],
-    index: &mut [u64],
-    filter: &mut [u64],
-    starts: &[u64],
-    lengths: &[u64],
-    arena: &[u8],
-) -> Step {
-    let work = state.work;
-    let Work::Rebuild(builder) = work else {
-        return state.answers(Answer::OutOfTurn);
-    };
-    let set = state.making;
-    pushed(
-        state,
-        reuse_record(
-            builder,
-            request,
-            bytes,
-            set_words(index, set),
-            set_words(filter, set),
-            shown_words(starts, set),
-            shown_words(lengths, set),
-            arena,
-        ),
-    )
-}
-
-fn reuse_record(
-    builder: SharedSegmentCacheBuilder,
-    request: Request,
-    bytes: &[u8],
-    index: &mut [u64],
-    filter: &mut [u64],
-    starts: &[u64],
-    lengths: &[u64],
-    arena: &[u8],
-) -> RebuildPushAnswer {
-    let numbers = request.numbers;
-    builder.push_reused(
-        numbers[0],
-        request.key(bytes),
-        request.value(bytes),
-        SegmentRecordLocation {
-            location: numbers[2] as usize,
-            header_bytes: numbers[3] as usize,
+        request.n3,
+        &mut rebuild,
+        &mut index,
+        &mut filter,
+        &mut starts,
+        &mut lengths,
+    );
+    Step {
+        areas: Areas {
+            rebuild,
+            index,
+            filter,
+            starts,
+            lengths,
+            ..areas
         },
-        index,
-        filter,
-        starts,
-        lengths,
-        arena,
-    )
-}
-
-pub(crate) fn push_copied(
-    state: State,
-    request: Request,
-    bytes: &[u8],
-    index: &mut [u64],
-    filter: &mut [u64],
-    starts: &[u64],
-    lengths: &[u64],
-    arena: &mut [u8],
-) -> Step {
-    let work = state.work;
-    let Work::Rebuild(builder) = work else {
-        return state.answers(Answer::OutOfTurn);
-    };
-    let set = state.making;
-    pushed(
-        state,
-        copy_record(
-            builder,
-            request,
-            bytes,
-            set_words(index, set),
-            set_words(filter, set),
-            shown_words(starts, set),
-            shown_words(lengths, set),
-            arena,
-        ),
-    )
-}
-
-fn copy_record(
-    builder: SharedSegmentCacheBuilder,
-    request: Request,
-    bytes: &[u8],
-    index: &mut [u64],
-    filter: &mut [u64],
-    starts: &[u64],
-    lengths: &[u64],
-    arena: &mut [u8],
-) -> RebuildPushAnswer {
-    let numbers = request.numbers;
-    builder.push_copied(
-        numbers[0],
-        request.key(bytes),
-        request.value(bytes),
-        lifetime(numbers[2], numbers[3], numbers[4]),
-        index,
-        filter,
-        starts,
-        lengths,
-        arena,
-    )
-}
-
-fn pushed(state: State, answer: RebuildPushAnswer) -> Step {
-    match answer {
-        RebuildPushAnswer::Refused {
-            refusal,
-            builder: kept,
-        } => state
-            .with_work(Work::Rebuild(kept))
-            .answers(Answer::Refused(refusal)),
-        RebuildPushAnswer::Pushed {
-            builder: grown,
-            slot,
-            location,
-        } => state
-            .with_work(Work::Rebuild(grown))
-            .answers(Answer::Pair(slot, location)),
+        reply: told(refusal, &[rebuild[8], rebuild[9]]),
     }
 }
 
-pub(crate) fn rebuild_finish(
-    state: State,
-    index: &mut [u64],
-    starts: &mut [u64],
-    lengths: &mut [u64],
+fn push(areas: Areas, request: Request, key: &[u8], value: &[u8], arena: &mut [u8]) -> Step {
+    let starts = areas.starts;
+    let lengths = areas.lengths;
+    if request.kind == PUSH_REUSED {
+        return push_reused(areas, request, key, value, &starts, &lengths, arena);
+    }
+    push_copied(areas, request, key, value, &starts, &lengths, arena)
+}
+
+fn push_reused(
+    areas: Areas,
+    request: Request,
+    key: &[u8],
+    value: &[u8],
+    starts: &[u64],
+    lengths: &[u64],
     arena: &[u8],
 ) -> Step {
-    let work = state.work;
-    let Work::Rebuild(builder) = work else {
-        return state.answers(Answer::OutOfTurn);
-    };
-    finished(
-        state,
-        finish_set(builder, state.making, index, starts, lengths, arena),
-    )
-}
-
-fn finish_set(
-    builder: SharedSegmentCacheBuilder,
-    set: usize,
-    index: &mut [u64],
-    starts: &mut [u64],
-    lengths: &mut [u64],
-    arena: &[u8],
-) -> RebuildFinishAnswer {
-    builder.finish(
-        set_words(index, set),
-        set_words(starts, set),
-        set_words(lengths, set),
-        &mut [0; SCRATCH_WORDS],
+    let mut rebuild = areas.rebuild;
+    let mut index = areas.index;
+    let mut filter = areas.filter;
+    let mut place = [0; 2];
+    let refusal = segment_cache_push_reused(
+        &mut rebuild,
+        request.n0,
+        key,
+        value,
+        request.n2 as usize,
+        request.n3 as usize,
+        &mut index,
+        &mut filter,
+        starts,
+        lengths,
         arena,
-    )
+        &mut place,
+    );
+    Step {
+        areas: Areas {
+            rebuild,
+            index,
+            filter,
+            ..areas
+        },
+        reply: told(refusal, &place),
+    }
 }
 
-fn finished(state: State, answer: RebuildFinishAnswer) -> Step {
-    match answer {
-        RebuildFinishAnswer::Refused {
+fn push_copied(
+    areas: Areas,
+    request: Request,
+    key: &[u8],
+    value: &[u8],
+    starts: &[u64],
+    lengths: &[u64],
+    arena: &mut [u8],
+) -> Step {
+    let mut rebuild = areas.rebuild;
+    let mut index = areas.index;
+    let mut filter = areas.filter;
+    let mut place = [0; 2];
+    let lifetime = [request.n3, request.n4];
+    let refusal = segment_cache_push_copied(
+        &mut rebuild,
+        request.n0,
+        key,
+        value,
+        given(request.n2, &lifetime),
+        &mut index,
+        &mut filter,
+        starts,
+        lengths,
+        arena,
+        &mut place,
+    );
+    Step {
+        areas: Areas {
+            rebuild,
+            index,
+            filter,
+            ..areas
+        },
+        reply: told(refusal, &place),
+    }
+}
+
+// The number of segments, and what the rebuild took.
+fn finish(areas: Areas, arena: &[u8]) -> Step {
+    let rebuild = areas.rebuild;
+    let mut index = areas.index;
+    let mut starts = areas.starts;
+    let mut lengths = areas.lengths;
+    let mut set = areas.set;
+    let mut totals = [0; 4];
+    let refusal = segment_cache_rebuild_finish(
+        &rebuild,
+        &mut index,
+        &mut starts,
+        &mut lengths,
+        &mut [0; 128],
+        arena,
+        &mut set,
+        &mut totals,
+    );
+    Step {
+        areas: Areas {
+            set,
+            index,
+            starts,
+            lengths,
+            ..areas
+        },
+        reply: told(
             refusal,
-            builder: kept,
-        } => state
-            .with_work(Work::Rebuild(kept))
-            .answers(Answer::Refused(refusal)),
-        RebuildFinishAnswer::Finished(build) => {
-            let cache = build.cache;
-            state.finished(cache).answers(Answer::Rebuilt(build))
-        }
+            &[set[9], totals[0], totals[1], totals[2], totals[3]],
+        ),
     }
 }

@@ -1,83 +1,85 @@
 // A line of the list: the name of a call, key and value in hexadecimal (`-` for no bytes), numbers in
 // decimal, `=`, and the Rust's answer.
-use crate::names::Call;
-use crate::names::call_named;
-use crate::parts::between;
+use crate::names::COMMENT;
+use crate::names::NO_LINE;
+use crate::names::PUSH;
+use crate::names::PUSH_COPIED;
+use crate::names::PUSH_REUSED;
+use crate::names::UNREADABLE;
+use crate::names::kind_named;
 use hash_parts::hash::wrapping_mul;
 use passage_lines::hex::DecodeAnswer;
 use passage_lines::hex::decode_hex;
-use records::record::Span;
 use records::record::same_bytes;
-use records::record::value_slice;
 
-// Key and value stand one behind the other in an area of their own. Numbers that the line lacks
-// are 0.
+// Numbers that the line lacks are 0.
 pub(crate) struct Request {
-    pub(crate) call: Call,
+    pub(crate) kind: usize,
     pub(crate) key_len: usize,
     pub(crate) value_len: usize,
-    pub(crate) numbers: [u64; 7],
+    pub(crate) n0: u64,
+    pub(crate) n1: u64,
+    pub(crate) n2: u64,
+    pub(crate) n3: u64,
+    pub(crate) n4: u64,
+    pub(crate) n5: u64,
+    pub(crate) n6: u64,
     // Where the answer begins, with a space.
     pub(crate) answer_at: usize,
 }
 
-impl Request {
-    pub(crate) fn key(self, bytes: &[u8]) -> &[u8] {
-        between(bytes, 0, self.key_len)
-    }
-
-    pub(crate) fn value(self, bytes: &[u8]) -> &[u8] {
-        let at = self.key_len;
-        let len = self.value_len;
-        value_slice(bytes, Span { at, len })
-    }
-}
+// Of a field that spells no bytes.
+const NO_BYTES: usize = usize::MAX;
 
 struct NumberAt {
     value: u64,
     end: usize,
 }
 
-struct NumbersAt {
-    values: [u64; 7],
-    end: usize,
-}
-
-const UNREADABLE: Request = Request {
-    call: Call::Unknown,
-    key_len: 0,
-    value_len: 0,
-    numbers: [0; 7],
-    answer_at: 0,
-};
-
-pub(crate) fn read_request(line: &[u8], bytes: &mut [u8]) -> Request {
+pub(crate) fn read_request(line: &[u8], key: &mut [u8], value: &mut [u8]) -> Request {
     let name_end = field_end(line, 0);
     let key_at = after(name_end);
     let key_end = field_end(line, key_at);
     let value_at = after(key_end);
     let value_end = field_end(line, value_at);
-    let DecodeAnswer::Bytes(key_len) = decode_field(between(line, key_at, key_end), bytes, 0) else {
-        return UNREADABLE;
-    };
-    let decoded = decode_field(between(line, value_at, value_end), bytes, key_len);
-    let DecodeAnswer::Bytes(part_len) = decoded else {
-        return UNREADABLE;
-    };
-    let numbers = read_numbers(line, value_end);
-    let values = numbers.values;
-    let call = call_named(between(line, 0, name_end));
+    let kind = kind_of(line, name_end);
+    let key_len = decode_field(between(line, key_at, key_end), key);
+    let part_len = decode_field(between(line, value_at, value_end), value);
+    let request = read_numbers(line, value_end);
     Request {
-        call,
+        kind: readable(kind, key_len, part_len),
         key_len,
-        value_len: repeat_value(bytes, key_len, part_len, value_times(call, values)),
-        numbers: values,
-        answer_at: after(numbers.end),
+        value_len: repeat_value(value, part_len, value_times(kind, request.n1)),
+        ..request
     }
 }
 
+// Lines that begin with `#` say how the list was made.
+fn kind_of(line: &[u8], name_end: usize) -> usize {
+    if line.len() == 0 {
+        return NO_LINE;
+    }
+    if line[0] == b'#' {
+        return COMMENT;
+    }
+    kind_named(between(line, 0, name_end))
+}
+
+fn readable(kind: usize, key_len: usize, part_len: usize) -> usize {
+    if kind > UNREADABLE {
+        return kind;
+    }
+    if key_len == NO_BYTES {
+        return UNREADABLE;
+    }
+    if part_len == NO_BYTES {
+        return UNREADABLE;
+    }
+    kind
+}
+
 // Where the next space stands, or the end of the line.
-fn field_end(line: &[u8], from: usize) -> usize {
+pub(crate) fn field_end(line: &[u8], from: usize) -> usize {
     let mut i = from;
     while i < line.len() {
         if line[i] == b' ' {
@@ -95,18 +97,30 @@ fn after(at: usize) -> usize {
     at + 1
 }
 
-fn decode_field(text: &[u8], bytes: &mut [u8], at: usize) -> DecodeAnswer {
-    if same_bytes(text, b"-") {
-        return DecodeAnswer::Bytes(0);
+// A part of a slice, empty where the slice is too short for it.
+pub(crate) fn between(bytes: &[u8], from: usize, to: usize) -> &[u8] {
+    if bytes.len() < to {
+        return &bytes[0..0];
     }
-    if bytes.len() < at {
-        return DecodeAnswer::Refused;
+    if to < from {
+        return &bytes[0..0];
     }
-    decode_hex(text, &mut bytes[at..])
+    &bytes[from..to]
 }
 
-// Up to seven numbers, and where `=` stands behind them.
-fn read_numbers(line: &[u8], at: usize) -> NumbersAt {
+// How many bytes a field spells.
+fn decode_field(text: &[u8], area: &mut [u8]) -> usize {
+    if same_bytes(text, b"-") {
+        return 0;
+    }
+    let DecodeAnswer::Bytes(length) = decode_hex(text, area) else {
+        return NO_BYTES;
+    };
+    length
+}
+
+// Up to seven numbers, and where the answer begins behind them and `=`.
+fn read_numbers(line: &[u8], at: usize) -> Request {
     let n0 = number_at(line, at);
     let n1 = number_at(line, n0.end);
     let n2 = number_at(line, n1.end);
@@ -114,17 +128,18 @@ fn read_numbers(line: &[u8], at: usize) -> NumbersAt {
     let n4 = number_at(line, n3.end);
     let n5 = number_at(line, n4.end);
     let n6 = number_at(line, n5.end);
-    NumbersAt {
-        values: [
-            n0.value,
-            n1.value,
-            n2.value,
-            n3.value,
-            n4.value,
-            n5.value,
-            n6.value,
-        ],
-        end: after_space(line, n6.end),
+    Request {
+        kind: UNREADABLE,
+        key_len: 0,
+        value_len: 0,
+        n0: n0.value,
+        n1: n1.value,
+        n2: n2.value,
+        n3: n3.value,
+        n4: n4.value,
+        n5: n5.value,
+        n6: n6.value,
+        answer_at: after(after_space(line, n6.end)),
     }
 }
 
@@ -161,23 +176,20 @@ fn after_space(line: &[u8], at: usize) -> usize {
 }
 
 // How often the bytes of the value field come: a large value is written as a part that is repeated.
-fn value_times(call: Call, numbers: [u64; 7]) -> u64 {
-    match call {
-        Call::Push | Call::PushReused | Call::PushCopied => numbers[1],
+fn value_times(kind: usize, times: u64) -> u64 {
+    match kind {
+        PUSH | PUSH_REUSED | PUSH_COPIED => times,
         _ => 1,
     }
 }
 
 // The length of the value. Nothing is repeated where it does not fit.
-fn repeat_value(bytes: &mut [u8], at: usize, part_len: usize, times: u64) -> usize {
+fn repeat_value(area: &mut [u8], part_len: usize, times: u64) -> usize {
     let len = wrapping_mul(part_len as u64, times) as usize;
-    if bytes.len() < at {
+    if area.len() < len {
         return part_len;
     }
-    if bytes.len() - at < len {
-        return part_len;
-    }
-    repeat_front(&mut bytes[at..at + len], part_len);
+    repeat_front(&mut area[0..len], part_len);
     len
 }
 

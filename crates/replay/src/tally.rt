@@ -1,6 +1,12 @@
 // Counting the calls by kind, and telling differences.
-use crate::names::Call;
+use crate::names::COMMENT;
 use crate::names::KINDS;
+use crate::names::NO_LINE;
+use crate::names::UNREADABLE;
+use crate::names::name_of;
+use crate::request::between;
+use crate::request::field_end;
+use records::record::same_bytes;
 
 const SHOWN_DIFFERENCES: u64 = 10;
 
@@ -24,62 +30,54 @@ impl Tally {
         }
     }
 
-    pub(crate) fn next_line(self) -> Tally {
-        Tally {
-            line: more(self.line),
-            ..self
+    // One call more, which the Rust answered with a text and the port with another.
+    pub(crate) fn compared(self, kind: usize, wanted: &[u8], answer: &[u8]) -> Tally {
+        if kind == NO_LINE {
+            return self;
         }
-    }
-
-    pub(crate) fn counted(self, call: Call) -> Tally {
-        let kind = call.kind() % KINDS;
+        let line = more(self.line);
+        if kind == COMMENT {
+            return Tally { line, ..self };
+        }
+        let at = kind % KINDS;
         let mut counts = self.counts;
-        counts[kind] = more(counts[kind]);
+        counts[at] = more(counts[at]);
         Tally {
-            line: self.line,
-            differences: self.differences,
+            line,
+            differences: with_difference(self.differences, line, wanted, answer),
             counts,
-        }
-    }
-
-    // One difference more; the first ones are shown.
-    pub(crate) fn differing(self, wanted: &[u8], answer: &[u8]) -> Tally {
-        if self.differences < SHOWN_DIFFERENCES {
-            show::text(b"line");
-            show::decimal(self.line);
-            show::text(b": Rust");
-            show::text(wanted);
-            show::text(b", port");
-            show::text(answer);
-            show::text(b"\n");
-        }
-        Tally {
-            differences: more(self.differences),
-            ..self
         }
     }
 
     pub(crate) fn show(self) {
         let counts = self.counts;
-        show::number(b"open", counts[0]);
-        show::number(b"push", counts[1]);
-        show::number(b"finish", counts[2]);
-        show::number(b"get", counts[3]);
-        show::number(b"peek", counts[4]);
-        show::number(b"take", counts[5]);
-        show::number(b"probe", counts[6]);
-        show::number(b"walk", counts[7]);
-        show_rest(counts, self.differences);
+        let mut kind = 0;
+        while kind < UNREADABLE {
+            show_count(name_of(kind), counts[kind]);
+            kind += 1;
+        }
+        show::number(b"unreadable lines", counts[UNREADABLE]);
+        show::number(b"differences", self.differences);
     }
 }
 
-fn show_rest(counts: [u64; KINDS], differences: u64) {
-    show::number(b"stats", counts[8]);
-    show::number(b"rebuild_open", counts[9]);
-    show::number(b"push_reused", counts[10]);
-    show::number(b"push_copied", counts[11]);
-    show::number(b"rebuild_finish", counts[12]);
-    show::number(b"checksum", counts[13]);
-    show::number(b"unreadable lines", counts[14]);
-    show::number(b"differences", differences);
+fn show_count(name: [u8; 16], count: u64) {
+    show::number(between(&name, 0, field_end(&name, 0)), count);
+}
+
+// The number of differences, and where there is one more, its line; only the first ones are shown.
+fn with_difference(before: u64, line: u64, wanted: &[u8], answer: &[u8]) -> u64 {
+    if same_bytes(wanted, answer) {
+        return before;
+    }
+    if before < SHOWN_DIFFERENCES {
+        show::text(b"line");
+        show::decimal(line);
+        show::text(b": Rust");
+        show::text(wanted);
+        show::text(b", port");
+        show::text(answer);
+        show::text(b"\n");
+    }
+    more(before)
 }

@@ -1,5 +1,6 @@
 -- `with_words` ends and stays inside its slice. Assumes nothing.
 use Prim.Native.Nat.{_-_, _≤_}
+use lib.ListN.{length}
 use borrow.Author.Needs.{needs}
 use Rattle.replay.proofs.checksum.with_words.Statement.{statement}
 use Rattle.replay.proofs.checksum.with_words.Tie as tie
@@ -8,7 +9,7 @@ abbrev Inv-loop : tie.InvT-loop
 Inv-loop sum words count total₀ i₀ total i = 0 ≤ i
 
 abbrev μ-loop : tie.MeasureT-loop
-μ-loop sum words count total₀ i₀ total i = count - i
+μ-loop sum words count total₀ i₀ total i = length words - i
 
 loop-holds : tie.Need-loop-holds Inv-loop μ-loop
 loop-holds c = search needs

@@ -1,16 +1,16 @@
--- `copy_words` ends and stays inside both areas. Assumes nothing.
+-- `put_words` ends and stays inside its slice. Assumes nothing.
 use mathlib.Core.Path.{_≡_}
 use Prim.Native.Nat.{_-_, _≤_}
 use lib.ListN.{length}
 use borrow.Author.Needs.{needs}
-use Rattle.replay.proofs.rebuilds.copy_words.Statement.{statement}
-use Rattle.replay.proofs.rebuilds.copy_words.Tie as tie
+use Rattle.replay.proofs.answer.put_words.Statement.{statement}
+use Rattle.replay.proofs.answer.put_words.Tie as tie
 
 abbrev Inv-loop : tie.InvT-loop
-Inv-loop from to₀ i₀ to i = (0 ≤ i) × (length to ≡ length to₀)
+Inv-loop out₀ words count at₀ i₀ out at i = (0 ≤ i) × (length out ≡ length out₀)
 
 abbrev μ-loop : tie.MeasureT-loop
-μ-loop from to₀ i₀ to i = length to₀ - i
+μ-loop out₀ words count at₀ i₀ out at i = length words - i
 
 loop-holds : tie.Need-loop-holds Inv-loop μ-loop
 loop-holds c = search needs
@@ -21,17 +21,14 @@ same-length c = search needs
 returns : tie.Need-returns Inv-loop μ-loop
 returns c = search needs
 
-mul-to : tie.Need-mul-to Inv-loop μ-loop
-mul-to c = search needs
+mul-put-number : tie.Need-mul-put-number Inv-loop μ-loop
+mul-put-number c = search needs
 
-shared-slice-read-to : tie.Need-shared-slice-read-to Inv-loop μ-loop
-shared-slice-read-to c = search needs
+shared-slice-read-put-number : tie.Need-shared-slice-read-put-number Inv-loop μ-loop
+shared-slice-read-put-number c = search needs
 
-mul-to-2 : tie.Need-mul-to-2 Inv-loop μ-loop
-mul-to-2 c = search needs
-
-slice-write-to : tie.Need-slice-write-to Inv-loop μ-loop
-slice-write-to c = search needs
+put-number-requires : tie.Need-put-number-requires Inv-loop μ-loop
+put-number-requires c κs = search needs
 
 add-i : tie.Need-add-i Inv-loop μ-loop
 add-i c = search needs
@@ -48,8 +45,8 @@ same-length-2 c = search needs
 returns-2 : tie.Need-returns-2 Inv-loop μ-loop
 returns-2 c = search needs
 
-pub copy-words-spec : {M : Type 1} → statement M
-copy-words-spec =
+pub put-words-spec : {M : Type 1} → statement M
+put-words-spec =
     tie.close
     (tie.spec
     Inv-loop
@@ -57,10 +54,9 @@ copy-words-spec =
     loop-holds
     same-length
     returns
-    mul-to
-    shared-slice-read-to
-    mul-to-2
-    slice-write-to
+    mul-put-number
+    shared-slice-read-put-number
+    put-number-requires
     add-i
     loop-less
     loop-again
