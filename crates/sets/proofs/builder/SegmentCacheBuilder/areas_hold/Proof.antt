@@ -13,9 +13,7 @@ fits-requires c κs = search needs
 
 returns : tie.Need-returns
 unfolding areasHoldBuilder
-returns c =
-    let a = c .before .before .args in
-    rw (said-no (c .before .fits2 .ensures) (c .if1 .taken))
+returns c = rw (said-no (c .before .fits2 .ensures) (c .if1 .taken))
 
 returns-2 : tie.Need-returns-2
 unfolding areasHoldBuilder

@@ -14,6 +14,10 @@ use Rattle.sets.proofs.builder.SegmentCacheBuilder.finish.Tie as tie
 abbrev from : tie.After-enum-told → tie.Start
 from c = c .before .before .before .before .before .before .before .before .before
 
+-- the split, from after its areas are lent back
+abbrev split : tie.After-slice-known7 → tie.After-split-record-segments
+split c = c .before .before .before .before .before .before
+
 check-finish-requires : tie.Need-check-finish-requires
 check-finish-requires c κs = search needs
 
@@ -52,7 +56,7 @@ pack-index-requires c κs = search needs
 
 into-cache-requires : tie.Need-into-cache-requires
 into-cache-requires c κs =
-    let t = c .before .before .before .before .before .before .before .before .before .before .before .before .before .before .before .before .before .before .before .before in
+    let t = split (c .before .before .before .before .before .before .before .before .before .before) .before .before .before .before in
     let a = from t .args in
     finish-asked (a .self) (a .target) (a .index .now) (length (a .starts .now)) (length (a .lengths .now)) (length (a .scratch .now)) (length (a .arena .now)) (yes t) .areas .numbers .inside
 
@@ -67,9 +71,10 @@ same-length-4 c = search needs
 
 returns-2 : tie.Need-returns-2
 returns-2 c =
-    let t = c .before .before .before .before .before .before .before .before .before .before .before .before .before in
+    let d = split (c .before .before .before) in
+    let t = d .before .before .before .before in
     let a = from t .args in
-    let w = c .before .before .before .before .before .before .before .before .before .split-record-segments in
+    let w = d .split-record-segments in
     let told = c .before .refusal2 .given in
     let split-it = ap (λ (r : SplitAnswer). splitResult r (w .last .0) (w .last .1 .1 .1 .1 .0) (w .last .1 .1 .1 .1 .1 .0)) (sym (told .1)) ∙ w .ensures in
     split-refused (a .self) (a .target) (a .index .now) (a .starts .now) (a .lengths .now) (a .scratch .now) (a .arena .now) (w .last .0) (w .last .1 .1 .1 .1 .0) (w .last .1 .1 .1 .1 .1 .0)
@@ -89,12 +94,15 @@ same-length-8 c = search needs
 
 returns-3 : tie.Need-returns-3
 returns-3 c =
-    let t = c .before .before .before .before .before .before .before .before .before .before .before .before .before .before .before .before .before .before .before .before .before in
+    let k = c .before .before .before .before .before in
+    let g = k .before .before .before .before in
+    let d = split (g .before .before) in
+    let t = d .before .before .before .before in
     let a = from t .args in
-    let w = c .before .before .before .before .before .before .before .before .before .before .before .before .before .before .before .before .before .split-record-segments in
-    let told = c .before .before .before .before .before .before .before .before .before .segments .given in
+    let w = d .split-record-segments in
+    let told = g .segments .given in
     let split-it = ap (λ (r : SplitAnswer). splitResult r (w .last .0) (w .last .1 .1 .1 .1 .0) (w .last .1 .1 .1 .1 .1 .0)) (sym (told .1)) ∙ w .ensures in
-    let p = c .before .before .before .before .before .pack-index .ensures in
+    let p = k .pack-index .ensures in
     split-made (a .self) (a .target) (a .index .now) (a .starts .now) (a .lengths .now) (a .scratch .now) (a .arena .now) (w .last .0) (w .last .1 .1 .1 .1 .0) (w .last .1 .1 .1 .1 .1 .0)
     (told .0 .0) (c .into-cache .result) _ _ (yes t) split-it (c .into-cache .ensures) (p .0) (p .1)
 

@@ -23,8 +23,7 @@ from c = c .before .before .before .before .before .before .before .before
 abbrev asks : tie.Start → ℕ
 asks s =
     let a = s .args in
-    firstNo
-    (askPush (a .self) (a .hash) (a .key .now) (length (a .value .now)) (a .ttl) (a .index .now) (length (a .filter .now)) (a .arena .now))
+    firstNo (askPush (a .self) (a .hash) (a .key .now) (length (a .value .now)) (a .ttl) (a .index .now) (length (a .filter .now)) (a .arena .now))
 
 -- its plan has a place for the record
 placed : (c : tie.After-slot) → let s = from (c .before .before) in let a = s .args in
