@@ -1,11 +1,7 @@
 -- `same_record` meets its contract. Assumes nothing.
-use mathlib.Core.Path.{sym, ap, _∙_}
 use borrow.Author.Tests.{eq-eqb, ne-eqb}
-use Rattle.sets.proofs.Said.{said-no, said-yes}
-use Prim.Native.Nat.{ℕ}
-use mathlib.Core.List.{List}
-use Rattle.records.specs.Area.{sameBytes}
 use Rattle.sets.specs.Rebuild.{holdsRecord}
+use Rattle.sets.proofs.Said.{said-no, said-yes}
 use borrow.Author.Needs.{needs}
 use Rattle.sets.proofs.rebuild_questions.same_record.Statement.{statement}
 use Rattle.sets.proofs.rebuild_questions.same_record.Tie as tie

@@ -1,9 +1,9 @@
 -- `areas_hold` meets its contract. Assumes nothing.
-use borrow.Author.Tests.{le-leb, lt-leb}
-use Rattle.sets.proofs.Said.{said-no, said-yes}
-use Rattle.sets.specs.Build.{areasHoldBuilder}
-use Prim.Native.Nat.{_-_, _*_, _≤_, _<_}
+use Prim.Native.Nat.{_*_, _≤_, _<_}
 use native.Mathlib.Omega.{arith}
+use borrow.Author.Tests.{le-leb, lt-leb}
+use Rattle.sets.specs.Build.{areasHoldBuilder}
+use Rattle.sets.proofs.Said.{said-no, said-yes}
 use borrow.Author.Needs.{needs}
 use Rattle.sets.proofs.builder.SegmentCacheBuilder.areas_hold.Statement.{statement}
 use Rattle.sets.proofs.builder.SegmentCacheBuilder.areas_hold.Tie as tie

@@ -3,12 +3,12 @@ use mathlib.Core.Path.{_≡_, ap, _∙_}
 use Prim.Native.Nat.{ℕ, _-_}
 use native.Mathlib.Omega.{arith}
 use lib.ListN.{length}
-use borrow.Author.Needs.{needs}
 use borrow.Rule.Slice.PartMut.{putMid}
 use Rattle.records.specs.Area.{pasted}
 use Rattle.records.specs.Record.{recordBytes, recordSize}
 use Rattle.index.specs.Word.{wordOf}
 use Rattle.sets.proofs.Appends.{appended, push-left, size-holds}
+use borrow.Author.Needs.{needs}
 use Rattle.sets.proofs.builder.SegmentCacheBuilder.push_at.Statement.{statement}
 use Rattle.sets.proofs.builder.SegmentCacheBuilder.push_at.Tie as tie
 

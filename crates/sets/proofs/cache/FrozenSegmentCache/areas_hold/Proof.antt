@@ -1,12 +1,12 @@
 -- `areas_hold` meets its contract. Assumes nothing.
-use borrow.Author.Tests.{le-leb, lt-leb}
-use Rattle.sets.proofs.Said.{said-no, said-yes}
-use Prim.Native.Nat.{_-_, _*_, _≤_, _<_}
-use native.Mathlib.Omega.{arith}
 use mathlib.Core.Path.{_≡_, sym, _∙_}
 use mathlib.Core.List.{[], _∷_}
+use Prim.Native.Nat.{_*_, _≤_, _<_}
+use native.Mathlib.Omega.{arith}
+use borrow.Author.Tests.{le-leb, lt-leb}
 use Rattle.sets.specs.Lookup.{areasHoldSet}
 use Rattle.sets.specs.Questions.{all, arenaHolds, segmentAreasHold}
+use Rattle.sets.proofs.Said.{said-no, said-yes}
 use borrow.Author.Needs.{needs}
 use Rattle.sets.proofs.cache.FrozenSegmentCache.areas_hold.Statement.{statement}
 use Rattle.sets.proofs.cache.FrozenSegmentCache.areas_hold.Tie as tie

@@ -1,8 +1,8 @@
 -- `add_segment` meets its contract. Assumes nothing.
 use mathlib.Core.Path.{refl, sym, _∙_}
+use Prim.Native.Nat.{_<_}
 use native.Mathlib.Omega.{arith}
 use Rattle.sets.proofs.RebuildSteps.{adds-below}
-use Prim.Native.Nat.{_<_}
 use borrow.Author.Needs.{needs}
 use Rattle.sets.proofs.rebuild.SharedSegmentCacheBuilder.add_segment.Statement.{statement}
 use Rattle.sets.proofs.rebuild.SharedSegmentCacheBuilder.add_segment.Tie as tie

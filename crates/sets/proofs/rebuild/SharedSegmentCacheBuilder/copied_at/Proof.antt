@@ -3,13 +3,13 @@ use mathlib.Core.Path.{_≡_}
 use Prim.Native.Nat.{_+_, _-_, _*_, _^_}
 use native.Mathlib.Omega.{arith}
 use lib.ListN.{length}
-use borrow.Author.Needs.{needs}
 use borrow.Rule.Slice.PartMut.{putMid}
 use Rattle.records.specs.Area.{pasted}
 use Rattle.records.specs.Record.{recordBytes}
 use Rattle.sets.specs.Rebuild.{copiedLocation, copiedSize, rebuildFilled}
 use Rattle.sets.proofs.Appends.{appended, size-holds}
 use Rattle.sets.proofs.RebuildSteps.{copied-left}
+use borrow.Author.Needs.{needs}
 use Rattle.sets.proofs.rebuild.SharedSegmentCacheBuilder.copied_at.Statement.{statement}
 use Rattle.sets.proofs.rebuild.SharedSegmentCacheBuilder.copied_at.Tie as tie
 

@@ -1,6 +1,4 @@
 -- `reused_grown` meets its contract. Assumes nothing.
-use mathlib.Core.Path.{ap, _∙_}
-use Prim.Native.Nat.{ℕ, _+_, _%_, _^_}
 use Rattle.sets.proofs.RebuildSteps.{wraps}
 use borrow.Author.Needs.{needs}
 use Rattle.sets.proofs.rebuild.SharedSegmentCacheBuilder.reused_grown.Statement.{statement}
