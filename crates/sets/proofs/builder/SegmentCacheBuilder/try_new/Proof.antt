@@ -18,10 +18,7 @@ from c = c .before .before .before .before .before .before .before .before
 -- where no question is answered no, what they tell
 asked : (c : tie.After-enum-told) → let a = from c .args in
     OpenAsked (a .config) (a .entry-count) (length (a .index .now)) (length (a .filter .now)) (length (a .starts .now)) (length (a .lengths .now)) (length (a .arena .now))
-asked c =
-    let a = from c .args in
-    open-asked (a .config) (a .entry-count) (length (a .index .now)) (length (a .filter .now)) (length (a .starts .now)) (length (a .lengths .now)) (length (a .arena .now))
-    (sym (c .before .before .check-open .ensures) ∙ ap checkNumber (c .enum-told .given .1))
+asked c = open-asked _ _ _ _ _ _ _ (sym (c .before .before .check-open .ensures) ∙ ap checkNumber (c .enum-told .given .1))
 
 check-open-requires : tie.Need-check-open-requires
 check-open-requires c κs = search needs

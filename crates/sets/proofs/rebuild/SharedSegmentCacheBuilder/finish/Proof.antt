@@ -20,10 +20,7 @@ from c = c .before .before .before .before .before .before .before .before .befo
 -- where no question is answered no, what they tell
 asked : (c : tie.After-enum-told) → let a = from c .args in
     RefinishAsked (a .self) (length (a .index .now)) (a .starts .now) (a .lengths .now) (length (a .scratch .now)) (length (a .arena .now))
-asked c =
-    let a = from c .args in
-    refinish-asked (a .self) (length (a .index .now)) (a .starts .now) (a .lengths .now) (length (a .scratch .now)) (length (a .arena .now))
-    (sym (c .before .before .check-finish .ensures) ∙ ap checkNumber (c .enum-told .given .1))
+asked c = refinish-asked _ _ _ _ _ _ (sym (c .before .before .check-finish .ensures) ∙ ap checkNumber (c .enum-told .given .1))
 
 check-finish-requires : tie.Need-check-finish-requires
 check-finish-requires c κs = search needs

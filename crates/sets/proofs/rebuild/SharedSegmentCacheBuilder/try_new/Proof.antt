@@ -26,11 +26,7 @@ told c = c .before .before .before .before .before .before .before .before .befo
 asked : (c : tie.After-enum-told) → let a = from c .args in
     ReopenAsked (a .source) (a .source-starts .now) (a .source-lengths .now) (length (a .arena .now)) (a .entry-count) (a .copied-record-capacity) (a .used-source-segments .now)
     (length (a .index .now)) (length (a .filter .now)) (length (a .starts .now)) (length (a .lengths .now))
-asked c =
-    let a = from c .args in
-    reopen-asked (a .source) (a .source-starts .now) (a .source-lengths .now) (length (a .arena .now)) (a .entry-count) (a .copied-record-capacity) (a .used-source-segments .now)
-    (length (a .index .now)) (length (a .filter .now)) (length (a .starts .now)) (length (a .lengths .now))
-    (sym (c .before .before .check-rebuild-open .ensures) ∙ ap checkNumber (c .enum-told .given .1))
+asked c = reopen-asked _ _ _ _ _ _ _ _ _ _ _ (sym (c .before .before .check-rebuild-open .ensures) ∙ ap checkNumber (c .enum-told .given .1))
 
 check-rebuild-open-requires : tie.Need-check-rebuild-open-requires
 check-rebuild-open-requires c κs = search needs
