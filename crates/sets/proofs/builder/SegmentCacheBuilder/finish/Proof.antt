@@ -34,10 +34,8 @@ yes c = sym (c .before .before .check-finish .ensures) ∙ ap checkNumber (c .en
 
 returns : tie.Need-returns
 returns c =
-    let a = c .before .before .before .before .before .before .before .before .before .before .args in
     let told = c .before .refusal .given in
-    finish-stopped (a .self) (a .target) (a .index .now) (a .starts .now) (a .lengths .now) (a .scratch .now) (a .arena .now) (told .0 .0)
-    (sym (ap checkNumber (told .1)) ∙ c .before .before .before .check-finish .ensures)
+    finish-stopped _ _ _ _ _ _ _ (told .0 .0) (sym (ap checkNumber (told .1)) ∙ c .before .before .before .check-finish .ensures)
 
 enum-told : tie.Need-enum-told
 enum-told c = search needs
@@ -57,8 +55,7 @@ pack-index-requires c κs = search needs
 into-cache-requires : tie.Need-into-cache-requires
 into-cache-requires c κs =
     let t = split (c .before .before .before .before .before .before .before .before .before .before) .before .before .before .before in
-    let a = from t .args in
-    finish-asked (a .self) (a .target) (a .index .now) (length (a .starts .now)) (length (a .lengths .now)) (length (a .scratch .now)) (length (a .arena .now)) (yes t) .areas .numbers .inside
+    finish-asked _ _ _ _ _ _ _ (yes t) .areas .numbers .inside
 
 same-length-2 : tie.Need-same-length-2
 same-length-2 c = search needs
@@ -72,13 +69,10 @@ same-length-4 c = search needs
 returns-2 : tie.Need-returns-2
 returns-2 c =
     let d = split (c .before .before .before) in
-    let t = d .before .before .before .before in
-    let a = from t .args in
     let w = d .split-record-segments in
     let told = c .before .refusal2 .given in
     let split-it = ap (λ (r : SplitAnswer). splitResult r (w .last .0) (w .last .1 .1 .1 .1 .0) (w .last .1 .1 .1 .1 .1 .0)) (sym (told .1)) ∙ w .ensures in
-    split-refused (a .self) (a .target) (a .index .now) (a .starts .now) (a .lengths .now) (a .scratch .now) (a .arena .now) (w .last .0) (w .last .1 .1 .1 .1 .0) (w .last .1 .1 .1 .1 .1 .0)
-    (told .0 .0) (yes t) split-it
+    split-refused _ _ _ _ _ _ _ _ _ _ (told .0 .0) (yes (d .before .before .before .before)) split-it
 
 same-length-5 : tie.Need-same-length-5
 same-length-5 c = search needs
@@ -97,14 +91,11 @@ returns-3 c =
     let k = c .before .before .before .before .before in
     let g = k .before .before .before .before in
     let d = split (g .before .before) in
-    let t = d .before .before .before .before in
-    let a = from t .args in
     let w = d .split-record-segments in
     let told = g .segments .given in
     let split-it = ap (λ (r : SplitAnswer). splitResult r (w .last .0) (w .last .1 .1 .1 .1 .0) (w .last .1 .1 .1 .1 .1 .0)) (sym (told .1)) ∙ w .ensures in
     let p = k .pack-index .ensures in
-    split-made (a .self) (a .target) (a .index .now) (a .starts .now) (a .lengths .now) (a .scratch .now) (a .arena .now) (w .last .0) (w .last .1 .1 .1 .1 .0) (w .last .1 .1 .1 .1 .1 .0)
-    (told .0 .0) (c .into-cache .result) _ _ (yes t) split-it (c .into-cache .ensures) (p .0) (p .1)
+    split-made _ _ _ _ _ _ _ _ _ _ (told .0 .0) _ _ _ (yes (d .before .before .before .before)) split-it (c .into-cache .ensures) (p .0) (p .1)
 
 pub finish-spec : {M : Type 1} → statement M
 finish-spec =

@@ -65,9 +65,8 @@ returns-2 c =
     let v = w .before .before .before .before in
     let o = v .before .before .before in
     let b = o .before in
-    let a = from b .args in
     rw (sym (b .before .before .check-open .ensures) ∙ ap checkNumber (b .enum-told .given .1))
-    (open-left (a .config) (a .entry-count) (a .index .now) (a .filter .now) _ _ _ (o .opened-builder .ensures) (v .clear-words .ensures) (w .clear-words2 .ensures))
+    (open-left _ _ _ _ _ _ _ (o .opened-builder .ensures) (v .clear-words .ensures) (w .clear-words2 .ensures))
 
 pub try-new-spec : {M : Type 1} → statement M
 try-new-spec =

@@ -11,8 +11,7 @@ use Rattle.sets.proofs.rebuild.SharedSegmentCacheBuilder.add_segment.Ti
 few : (c : tie.After-retained) → c .retained .result < 256
 few c =
     let b = c .before .before in
-    let s = b .before .before .before .before in
-    omega (arith, adds-below (s .args .self) (sym (b .before .adds-segment .ensures) ∙ b .if1 .taken) (s .pre .2), c .retained .ensures)
+    omega (arith, adds-below _ (sym (b .before .adds-segment .ensures) ∙ b .if1 .taken) (b .before .before .before .before .pre .2), c .retained .ensures)
 
 adds-segment-requires : tie.Need-adds-segment-requires
 adds-segment-requires c κs = search needs

@@ -94,9 +94,7 @@ returns-2 c =
     let b = o .before in
     let a = from b .args in
     rw (sym (b .before .before .check-rebuild-open .ensures) ∙ ap checkNumber (b .enum-told .given .1))
-    (reopen-left (a .source) (a .entry-count) (a .used-source-segments .now) (a .source-now-tick) (a .index .now) (a .filter .now) _ _
-    (over (padded (chosen (a .used-source-segments .now) (a .source-starts .now))) (a .starts .now))
-    (over (padded (chosen (a .used-source-segments .now) (a .source-lengths .now))) (a .lengths .now)) _ _ _
+    (reopen-left (a .source) (a .entry-count) (a .used-source-segments .now) (a .source-now-tick) _ _ _ _ _ _ _ _ _
     (o .opened-rebuild .ensures) (v .clear-words .ensures) (w .clear-words2 .ensures) (x .keep-words .ensures) (y .keep-words2 .ensures))
 
 pub try-new-spec : {M : Type 1} → statement M
