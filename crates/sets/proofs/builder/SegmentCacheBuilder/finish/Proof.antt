@@ -1,6 +1,5 @@
 -- `finish` meets its contract. Assumes nothing.
 use mathlib.Core.Path.{_≡_, sym, ap, _∙_}
-use lib.ListN.{length}
 use Rattle.index.specs.Segments.{splitResult}
 use Rattle.index.specs.declared.segments.SplitAnswer.{SplitAnswer}
 use Rattle.sets.specs.Questions.{checkNumber}

@@ -2,9 +2,6 @@
 use mathlib.Core.Path.{_≡_, sym, ap, _∙_}
 use native.Mathlib.Omega.{arith}
 use lib.ListN.{length}
-use Rattle.records.specs.Area.{over}
-use Rattle.index.specs.Segments.{padded}
-use Rattle.sets.specs.Kept.{chosen}
 use Rattle.sets.specs.Questions.{bucketsIn, checkNumber}
 use Rattle.sets.specs.Rebuild.{afterRebuildOpen}
 use Rattle.sets.specs.declared.rebuild.SharedSegmentCacheBuilder.{SharedSegmentCacheBuilder}
