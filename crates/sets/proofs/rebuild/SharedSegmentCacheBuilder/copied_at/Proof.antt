@@ -73,10 +73,12 @@ same-length-3 c = search needs
 
 returns : tie.Need-returns
 returns c =
-    let w = c .before .before .before .before .before .before .before .before .before .before .before .before .before in
+    let p = c .before .before .before .before .before in
+    let k = p .before .before .before .before in
+    let w = k .before .before .before .before in
     let a = from w .args in
-    let counted = c .before .before .before .before .before .before .before .before .before .retained in
-    let word = c .before .before .before .before .before .push-index in
+    let counted = k .retained in
+    let word = p .push-index in
     let placed : counted .result * 2 ^ 32 + a .self .«copied_bytes» ≡ copiedLocation (a .self) = omega (arith, counted .ensures) in
     copied-left (a .slot) (a .expires-at) (a .self) (a .hash) (a .key .now) (a .value .now) (a .index .now) (a .filter .now) (a .arena .now)
     (w .append-record .result) (c .copied-grown .result) _ _ _ _ (wrote w .0) (wrote w .1) (c .copied-grown .ensures) placed (word .ensures .0) (word .ensures .1)

@@ -82,7 +82,8 @@ returns-2 c =
     let b = i .before .before in
     let a = from b .args in
     rw (sym (b .before .before .check-finish .ensures) ∙ ap checkNumber (b .enum-told .given .1))
-    (refinish-left (a .self) (a .index .now) (a .starts .now) (a .lengths .now) (a .scratch .now) _ _ _ _ _ (i .into-build .ensures) (d .add-segment .ensures .0) (d .add-segment .ensures .1) (v .pack-index .ensures .0) (v .pack-index .ensures .1))
+    (refinish-left (a .self) (a .index .now) (a .starts .now) (a .lengths .now) (a .scratch .now) _ _ _ _ _
+    (i .into-build .ensures) (d .add-segment .ensures .0) (d .add-segment .ensures .1) (v .pack-index .ensures .0) (v .pack-index .ensures .1))
 
 pub finish-spec : {M : Type 1} → statement M
 finish-spec =
