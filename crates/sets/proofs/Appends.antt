@@ -75,11 +75,10 @@ module _ (e : SegmentExpiry) (key value : List ℕ) (deadline filled : ℕ) (are
   appends : written bytes (rest filled arena) ≡ record { answer = accepted (length bytes); area = over bytes (rest filled arena) }
   appends = written-in bytes (rest filled arena) (omega (arith, rest-length filled arena, size-is e key value deadline))
 
-  pub appended-size : (n : ℕ) → n ≡ written bytes (rest filled arena) .answer .value → n ≡ recordSize e (length key) (length value)
-  appended-size n q = q ∙ ap (λ (w : Written). w .answer .value) appends ∙ size-is e key value deadline
-
-  pub appended-home : (out : List ℕ) → out ≡ written bytes (rest filled arena) .area → putMid filled (length arena - filled) arena out ≡ pasted filled bytes arena
-  appended-home out q = part-home bytes arena out filled (q ∙ ap (λ (w : Written). w .area) appends)
+  pub appended : (n : ℕ) (out : List ℕ) → n ≡ written bytes (rest filled arena) .answer .value → out ≡ written bytes (rest filled arena) .area
+      → (n ≡ recordSize e (length key) (length value)) × (putMid filled (length arena - filled) arena out ≡ pasted filled bytes arena)
+  appended n out q p =
+      (q ∙ ap (λ (w : Written). w .answer .value) appends ∙ size-is e key value deadline, part-home bytes arena out filled (p ∙ ap (λ (w : Written). w .area) appends))
 
 -- ---- what a push leaves
 

@@ -1,28 +1,25 @@
--- The steps of a rebuild: its segments one by one, its new segment areas, its plans, and what its pushes and its finish leave. Assumes nothing.
+-- The steps of a rebuild: its segments one by one, its new segment areas, and what its pushes and its finish leave. Assumes nothing.
 use mathlib.Core.Path.{_≡_, refl, ap, _∙_}
 use mathlib.Core.Bool.{Bool, true, false, cond}
 use mathlib.Core.List.{List, [], _∷_, _++_, append-assoc}
 use Prim.Native.Nat.{ℕ, zero, suc, _+_, _-_, _*_, _%_, _^_, _≤_, _<_}
 use native.Mathlib.Omega.{arith}
 use lib.Dec.{eqb, leb}
-use lib.ListN.{length, take, drop, replicate, set, getD, length-append, length-replicate}
+use lib.ListN.{length, drop, replicate, set, getD, length-append, length-replicate}
 use lib.Seq.{take-all}
 use borrow.Author.Tests.{le-leb, leb-true, leb-false, eqb-true}
 use Rattle.hash_parts.specs.Hash.{tagOf}
-use Rattle.hash_parts.specs.declared.duration.Lifetime.{Lifetime}
 use Rattle.records.specs.Area.{over, pasted}
 use Rattle.records.specs.Record.{recordBytes}
-use Rattle.index.specs.Build.{cleared, emptySlot}
+use Rattle.index.specs.Build.{cleared}
 use Rattle.index.specs.Filter.{displacedMarked}
 use Rattle.index.specs.Packed.{packedIndex, packedScratch}
 use Rattle.index.specs.Segments.{padded}
 use Rattle.index.specs.Word.{wordOf}
-use Rattle.sets.specs.Answers.{accept, refuse}
+use Rattle.sets.specs.Answers.{accept}
 use Rattle.sets.specs.Kept.{keptCount, retained}
-use Rattle.sets.specs.Lookup.{setFits}
-use Rattle.sets.specs.Questions.{arenaHolds, bucketsIn, countsFit, filterWordsIn, firstNo, segmentAreasHold}
-use Rattle.sets.specs.Rebuild.{Copied, RebuildFinished, RebuildOpened, Reused, addsSegment, askCopied, askReused, buildOf, copiedDeadline, copiedGrown, copiedLocation, copiedMade, copiedSize, rebuildFilled, movedLocation, rebuildFinishMade, rebuildOpened, reusedGrown, reusedMade, segmentFor, segmentsInside, sumOf, withLast}
-use Rattle.sets.specs.RebuildPlans.{planCopied, planReused}
+use Rattle.sets.specs.Questions.{arenaHolds, bucketsIn, filterWordsIn, segmentAreasHold}
+use Rattle.sets.specs.Rebuild.{Copied, RebuildFinished, RebuildOpened, Reused, addsSegment, buildOf, copiedGrown, copiedLocation, copiedMade, copiedSize, rebuildFilled, movedLocation, rebuildFinishMade, rebuildOpened, reusedGrown, reusedMade, segmentFor, segmentsInside, sumOf, withLast}
 use Rattle.sets.specs.declared.cache.FrozenSegmentCache.{FrozenSegmentCache}
 use Rattle.sets.specs.declared.rebuild.SegmentRecordLocation.{SegmentRecordLocation}
 use Rattle.sets.specs.declared.rebuild.SharedSegmentCacheBuild.{SharedSegmentCacheBuild}

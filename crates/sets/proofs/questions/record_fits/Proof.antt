@@ -23,7 +23,7 @@ returns : tie.Need-returns
 returns c =
     let a = c .before .before .before .args in
     let encoded-record-bytes = c .before .before .encoded-record-bytes in
-    let q = size-large (a .expiry) (a .key-bytes) (a .value-bytes) (c .enum-told .given .0 .0) (ap sizeOutcome (sym (c .enum-told .given .1)) ∙ encoded-record-bytes .ensures) in
+    let q = size-large _ _ _ (c .enum-told .given .0 .0) (ap sizeOutcome (sym (c .enum-told .given .1)) ∙ encoded-record-bytes .ensures) in
     let n : a .rest < recordSize (a .expiry) (a .key-bytes) (a .value-bytes) = omega (arith, q, c .before .before .before .fits .rest .fits) in
     sym (lt-leb _ _ n)
 
@@ -32,7 +32,7 @@ returns-2 c =
     let b = c .before .before .before in
     let a = b .before .args in
     let told = c .before .size .given in
-    ap (λ (n : ℕ). leb n (a .rest)) (size-told (a .expiry) (a .key-bytes) (a .value-bytes) (told .0 .0) (ap sizeOutcome (sym (told .1)) ∙ b .encoded-record-bytes .ensures))
+    ap (λ (n : ℕ). leb n (a .rest)) (size-told _ _ _ (told .0 .0) (ap sizeOutcome (sym (told .1)) ∙ b .encoded-record-bytes .ensures))
 
 pub record-fits-spec : {M : Type 1} → statement M
 record-fits-spec =

@@ -1,7 +1,6 @@
 -- `setting_fits` meets its contract. Assumes nothing.
-use Rattle.sets.proofs.Said.{said-no, said-yes}
-use Rattle.sets.proofs.Said.{said-no, said-yes}
 use Rattle.sets.specs.Questions.{settingFits}
+use Rattle.sets.proofs.Said.{said-no, said-yes}
 use borrow.Author.Needs.{needs}
 use Rattle.sets.proofs.questions.setting_fits.Statement.{statement}
 use Rattle.sets.proofs.questions.setting_fits.Tie as tie

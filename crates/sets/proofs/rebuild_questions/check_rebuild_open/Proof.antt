@@ -82,7 +82,7 @@ add-if4 : tie.Need-add-if4
 add-if4 c =
     let b = c .before .before .before .before .before in
     let a = from1 b .args in
-    let few = source-areas-asked (a .source) (a .source-starts .now) (a .source-lengths .now) (a .arena-len) (held b) .few in
+    let few = source-areas-asked _ _ _ _ (held b) .few in
     omega (arith, few, c .before .before .before .if2 .left, segments c, kept-most (a .used-source-segments .now), segment-most (a .copied-record-capacity))
 
 returns-4 : tie.Need-returns-4

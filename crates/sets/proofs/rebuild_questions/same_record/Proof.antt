@@ -1,11 +1,7 @@
 -- `same_record` meets its contract. Assumes nothing.
-use mathlib.Core.Path.{sym, ap, _∙_}
 use borrow.Author.Tests.{eq-eqb, ne-eqb}
-use Rattle.sets.proofs.Said.{said-no, said-yes}
-use Prim.Native.Nat.{ℕ}
-use mathlib.Core.List.{List}
-use Rattle.records.specs.Area.{sameBytes}
 use Rattle.sets.specs.Rebuild.{holdsRecord}
+use Rattle.sets.proofs.Said.{said-no, said-yes}
 use borrow.Author.Needs.{needs}
 use Rattle.sets.proofs.rebuild_questions.same_record.Statement.{statement}
 use Rattle.sets.proofs.rebuild_questions.same_record.Tie as tie
@@ -23,10 +19,8 @@ same-bytes-requires c κs = search needs
 returns-2 : tie.Need-returns-2
 unfolding holdsRecord
 returns-2 c =
-    let a = c .before .before .before .before .before .before .before .before .before .args in
-    let if1 = c .before .before .before .before .if1 in
-    let value-slice = c .before .before .value-slice in
-    rw (eq-eqb _ _ (if1 .left), ap (λ (l : List ℕ). sameBytes l (a .key .now)) (sym (value-slice .ensures)) ∙ said-no (c .before .same-bytes .ensures) (c .if2 .taken))
+    let v = c .before .before in
+    rw (eq-eqb _ _ (v .before .before .if1 .left), ← v .value-slice .ensures, said-no (c .before .same-bytes .ensures) (c .if2 .taken))
 
 value-slice-requires-2 : tie.Need-value-slice-requires-2
 value-slice-requires-2 c κs = search needs
@@ -37,13 +31,10 @@ same-bytes-requires-2 c κs = search needs
 returns-3 : tie.Need-returns-3
 unfolding holdsRecord
 returns-3 c =
-    let a = c .before .before .before .before .before .before .before .before .before .before .before .before .args in
-    let if1 = c .before .before .before .before .before .before .before .if1 in
-    let value-slice = c .before .before .before .before .before .value-slice in
-    let same-bytes = c .before .before .before .before .same-bytes in
-    let if2 = c .before .before .before .if2 in
-    rw (eq-eqb _ _ (if1 .left), ap (λ (l : List ℕ). sameBytes l (a .key .now)) (sym (value-slice .ensures)) ∙ said-yes (same-bytes .ensures) (if2 .left))
-    (c .same-bytes2 .ensures ∙ ap (λ (l : List ℕ). sameBytes l (a .value .now)) (c .before .value-slice2 .ensures))
+    let b = c .before .before .before in
+    let v = b .before .before in
+    rw (eq-eqb _ _ (v .before .before .if1 .left), ← v .value-slice .ensures, said-yes (b .before .same-bytes .ensures) (b .if2 .left), ← c .before .value-slice2 .ensures)
+    (c .same-bytes2 .ensures)
 
 pub same-record-spec : {M : Type 1} → statement M
 same-record-spec =

@@ -54,9 +54,8 @@ segments-inside-requires : tie.Need-segments-inside-requires
 segments-inside-requires c κs =
     let b = c .before .before in
     let d = b .before .before in
-    let a = from b .args in
-    let held = areas-256 (length (a .starts .now)) (length (a .lengths .now)) (segments b) in
-    let few = set-segments (a .source) (said-yes (d .before .fits2 .ensures) (d .if1 .left)) .1 in
+    let held = areas-256 _ _ (segments b) in
+    let few = set-segments _ (said-yes (d .before .fits2 .ensures) (d .if1 .left)) .1 in
     (omega (arith, held .0, few), omega (arith, held .1, few))
 
 returns-4 : tie.Need-returns-4

@@ -1,9 +1,9 @@
 -- `areas_hold` meets its contract. Assumes nothing.
-use borrow.Author.Tests.{le-leb, lt-leb}
-use Rattle.sets.proofs.Said.{said-no, said-yes}
-use Rattle.sets.specs.Build.{areasHoldBuilder}
-use Prim.Native.Nat.{_-_, _*_, _≤_, _<_}
+use Prim.Native.Nat.{_*_, _≤_, _<_}
 use native.Mathlib.Omega.{arith}
+use borrow.Author.Tests.{le-leb, lt-leb}
+use Rattle.sets.specs.Build.{areasHoldBuilder}
+use Rattle.sets.proofs.Said.{said-no, said-yes}
 use borrow.Author.Needs.{needs}
 use Rattle.sets.proofs.builder.SegmentCacheBuilder.areas_hold.Statement.{statement}
 use Rattle.sets.proofs.builder.SegmentCacheBuilder.areas_hold.Tie as tie
@@ -13,9 +13,7 @@ fits-requires c κs = search needs
 
 returns : tie.Need-returns
 unfolding areasHoldBuilder
-returns c =
-    let a = c .before .before .args in
-    rw (said-no (c .before .fits2 .ensures) (c .if1 .taken))
+returns c = rw (said-no (c .before .fits2 .ensures) (c .if1 .taken))
 
 returns-2 : tie.Need-returns-2
 unfolding areasHoldBuilder

@@ -1,6 +1,5 @@
 -- `finish` meets its contract. Assumes nothing.
 use mathlib.Core.Path.{_≡_, sym, ap, _∙_}
-use lib.ListN.{length}
 use Rattle.index.specs.Segments.{splitResult}
 use Rattle.index.specs.declared.segments.SplitAnswer.{SplitAnswer}
 use Rattle.sets.specs.Questions.{checkNumber}
@@ -13,6 +12,10 @@ use Rattle.sets.proofs.builder.SegmentCacheBuilder.finish.Tie as tie
 -- the start, from where all questions but the last are answered yes
 abbrev from : tie.After-enum-told → tie.Start
 from c = c .before .before .before .before .before .before .before .before .before
+
+-- the split, from after its areas are lent back
+abbrev split : tie.After-slice-known7 → tie.After-split-record-segments
+split c = c .before .before .before .before .before .before
 
 check-finish-requires : tie.Need-check-finish-requires
 check-finish-requires c κs = search needs
@@ -30,10 +33,8 @@ yes c = sym (c .before .before .check-finish .ensures) ∙ ap checkNumber (c .en
 
 returns : tie.Need-returns
 returns c =
-    let a = c .before .before .before .before .before .before .before .before .before .before .args in
     let told = c .before .refusal .given in
-    finish-stopped (a .self) (a .target) (a .index .now) (a .starts .now) (a .lengths .now) (a .scratch .now) (a .arena .now) (told .0 .0)
-    (sym (ap checkNumber (told .1)) ∙ c .before .before .before .check-finish .ensures)
+    finish-stopped _ _ _ _ _ _ _ (told .0 .0) (sym (ap checkNumber (told .1)) ∙ c .before .before .before .check-finish .ensures)
 
 enum-told : tie.Need-enum-told
 enum-told c = search needs
@@ -52,9 +53,8 @@ pack-index-requires c κs = search needs
 
 into-cache-requires : tie.Need-into-cache-requires
 into-cache-requires c κs =
-    let t = c .before .before .before .before .before .before .before .before .before .before .before .before .before .before .before .before .before .before .before .before in
-    let a = from t .args in
-    finish-asked (a .self) (a .target) (a .index .now) (length (a .starts .now)) (length (a .lengths .now)) (length (a .scratch .now)) (length (a .arena .now)) (yes t) .areas .numbers .inside
+    let t = split (c .before .before .before .before .before .before .before .before .before .before) .before .before .before .before in
+    finish-asked _ _ _ _ _ _ _ (yes t) .areas .numbers .inside
 
 same-length-2 : tie.Need-same-length-2
 same-length-2 c = search needs
@@ -67,13 +67,11 @@ same-length-4 c = search needs
 
 returns-2 : tie.Need-returns-2
 returns-2 c =
-    let t = c .before .before .before .before .before .before .before .before .before .before .before .before .before in
-    let a = from t .args in
-    let w = c .before .before .before .before .before .before .before .before .before .split-record-segments in
+    let d = split (c .before .before .before) in
+    let w = d .split-record-segments in
     let told = c .before .refusal2 .given in
     let split-it = ap (λ (r : SplitAnswer). splitResult r (w .last .0) (w .last .1 .1 .1 .1 .0) (w .last .1 .1 .1 .1 .1 .0)) (sym (told .1)) ∙ w .ensures in
-    split-refused (a .self) (a .target) (a .index .now) (a .starts .now) (a .lengths .now) (a .scratch .now) (a .arena .now) (w .last .0) (w .last .1 .1 .1 .1 .0) (w .last .1 .1 .1 .1 .1 .0)
-    (told .0 .0) (yes t) split-it
+    split-refused _ _ _ _ _ _ _ _ _ _ (told .0 .0) (yes (d .before .before .before .before)) split-it
 
 same-length-5 : tie.Need-same-length-5
 same-length-5 c = search needs
@@ -89,14 +87,14 @@ same-length-8 c = search needs
 
 returns-3 : tie.Need-returns-3
 returns-3 c =
-    let t = c .before .before .before .before .before .before .before .before .before .before .before .before .before .before .before .before .before .before .before .before .before in
-    let a = from t .args in
-    let w = c .before .before .before .before .before .before .before .before .before .before .before .before .before .before .before .before .before .split-record-segments in
-    let told = c .before .before .before .before .before .before .before .before .before .segments .given in
+    let k = c .before .before .before .before .before in
+    let g = k .before .before .before .before in
+    let d = split (g .before .before) in
+    let w = d .split-record-segments in
+    let told = g .segments .given in
     let split-it = ap (λ (r : SplitAnswer). splitResult r (w .last .0) (w .last .1 .1 .1 .1 .0) (w .last .1 .1 .1 .1 .1 .0)) (sym (told .1)) ∙ w .ensures in
-    let p = c .before .before .before .before .before .pack-index .ensures in
-    split-made (a .self) (a .target) (a .index .now) (a .starts .now) (a .lengths .now) (a .scratch .now) (a .arena .now) (w .last .0) (w .last .1 .1 .1 .1 .0) (w .last .1 .1 .1 .1 .1 .0)
-    (told .0 .0) (c .into-cache .result) _ _ (yes t) split-it (c .into-cache .ensures) (p .0) (p .1)
+    let p = k .pack-index .ensures in
+    split-made _ _ _ _ _ _ _ _ _ _ (told .0 .0) _ _ _ (yes (d .before .before .before .before)) split-it (c .into-cache .ensures) (p .0) (p .1)
 
 pub finish-spec : {M : Type 1} → statement M
 finish-spec =

@@ -33,9 +33,7 @@ held : (c : tie.Else1) → let a = from c .args in areasHoldBuilder (a .self) (l
 held c = said-yes (c .before .areas-hold .ensures) (c .if1 .left)
 
 filled : (c : tie.Else4) → let a = from (first c) .args in a .self .filled ≤ length (a .arena .now)
-filled c =
-    let a = from (first c) .args in
-    builder-areas-asked (a .self) (length (a .index .now)) (length (a .arena .now)) (held (first c)) .filled-held
+filled c = builder-areas-asked _ _ _ (held (first c)) .filled-held
 
 yes1 : (c : tie.Else1) → Yes 1 (from c)
 unfolding askPush
@@ -78,10 +76,7 @@ returns-4 c =
     sym (yes3 (c .before .before) ∙ rw (le-ltb (self .«inserted_entries») (self .«expected_entries») (c .if4 .taken)))
 
 slice-aggregate-find-build-slot : tie.Need-slice-aggregate-find-build-slot
-slice-aggregate-find-build-slot c =
-    let b = c .before .before in
-    let a = from (first b) .args in
-    sym (length-take-le (a .self .filled) (a .arena .now) (filled b))
+slice-aggregate-find-build-slot c = sym (length-take-le _ _ (filled (c .before .before)))
 
 find-build-slot-requires : tie.Need-find-build-slot-requires
 find-build-slot-requires c κs = search needs

@@ -23,8 +23,7 @@ from c = c .before .before .before .before .before .before .before .before
 abbrev asks : tie.Start → ℕ
 asks s =
     let a = s .args in
-    firstNo
-    (askPush (a .self) (a .hash) (a .key .now) (length (a .value .now)) (a .ttl) (a .index .now) (length (a .filter .now)) (a .arena .now))
+    firstNo (askPush (a .self) (a .hash) (a .key .now) (length (a .value .now)) (a .ttl) (a .index .now) (length (a .filter .now)) (a .arena .now))
 
 -- its plan has a place for the record
 placed : (c : tie.After-slot) → let s = from (c .before .before) in let a = s .args in
@@ -49,10 +48,10 @@ push-at-requires c κs =
     let s = from (b .before .before) in
     let a = s .args in
     let p = placed b in
-    let q = push-asked (a .self) (a .hash) (a .key .now) (length (a .value .now)) (a .ttl) (a .index .now) (length (a .filter .now)) (a .arena .now) (p .0) in
+    let q = push-asked _ _ _ _ _ _ _ _ (p .0) in
     let n = q .areas .numbers in
     let few : a .self .«inserted_entries» ≤ 1_048_576 = omega (arith, n .announced, counts-records _ _ _ _ (n .counts)) in
-    let at = found-inside _ (a .index .now) (a .self .«bucket_count») (a .hash) _ (s .fits .hash .fits) (q .areas .index-holds) (q .place ∙ ap Empty (p .1)) in
+    let at = found-inside _ _ _ _ _ (s .fits .hash .fits) (q .areas .index-holds) (q .place ∙ ap Empty (p .1)) in
     (q .fits, q .areas .arena-short, at, q .announced, omega (arith, n .key-bytes), omega (arith, n .value-bytes))
 
 same-length : tie.Need-same-length

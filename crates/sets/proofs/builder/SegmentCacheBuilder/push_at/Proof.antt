@@ -3,12 +3,12 @@ use mathlib.Core.Path.{_≡_, ap, _∙_}
 use Prim.Native.Nat.{ℕ, _-_}
 use native.Mathlib.Omega.{arith}
 use lib.ListN.{length}
-use borrow.Author.Needs.{needs}
 use borrow.Rule.Slice.PartMut.{putMid}
 use Rattle.records.specs.Area.{pasted}
 use Rattle.records.specs.Record.{recordBytes, recordSize}
 use Rattle.index.specs.Word.{wordOf}
-use Rattle.sets.proofs.Appends.{appended-home, appended-size, push-left, size-holds}
+use Rattle.sets.proofs.Appends.{appended, push-left, size-holds}
+use borrow.Author.Needs.{needs}
 use Rattle.sets.proofs.builder.SegmentCacheBuilder.push_at.Statement.{statement}
 use Rattle.sets.proofs.builder.SegmentCacheBuilder.push_at.Tie as tie
 
@@ -17,19 +17,13 @@ abbrev from : tie.After-append-record → tie.Start
 from c = c .before .before .before .before .before .before .before .before
 
 -- the record is written whole
-size : (c : tie.After-append-record) → let a = from c .args in
-    c .append-record .result ≡ recordSize (a .self .config .expiry) (length (a .key .now)) (length (a .value .now))
-size c =
+wrote : (c : tie.After-append-record) → let a = from c .args in
+    (c .append-record .result ≡ recordSize (a .self .config .expiry) (length (a .key .now)) (length (a .value .now)))
+    × (putMid (a .self .filled) (length (a .arena .now) - a .self .filled) (a .arena .now) (c .append-record .last .0)
+    ≡ pasted (a .self .filled) (recordBytes (a .self .config .expiry) (a .key .now) (a .value .now) (a .expires-at)) (a .arena .now))
+wrote c =
     let a = from c .args in
-    appended-size (a .self .config .expiry) (a .key .now) (a .value .now) (a .expires-at) (a .self .filled) (a .arena .now) (from c .pre .0) (c .append-record .result)
-    (c .append-record .ensures .0)
-
-home : (c : tie.After-append-record) → let a = from c .args in
-    putMid (a .self .filled) (length (a .arena .now) - a .self .filled) (a .arena .now) (c .append-record .last .0)
-    ≡ pasted (a .self .filled) (recordBytes (a .self .config .expiry) (a .key .now) (a .value .now) (a .expires-at)) (a .arena .now)
-home c =
-    let a = from c .args in
-    appended-home (a .self .config .expiry) (a .key .now) (a .value .now) (a .expires-at) (a .self .filled) (a .arena .now) (from c .pre .0) (c .append-record .last .0)
+    appended (a .self .config .expiry) (a .key .now) (a .value .now) (a .expires-at) (a .self .filled) (a .arena .now) (from c .pre .0) _ _ (c .append-record .ensures .0)
     (c .append-record .ensures .1)
 
 sub-append-record : tie.Need-sub-append-record
@@ -65,7 +59,7 @@ grown-requires c κs =
     let a = from w .args in
     let pre = from w .pre in
     let holds = size-holds (a .self .config .expiry) (length (a .key .now)) (length (a .value .now)) in
-    (pre .3, omega (arith, size w, pre .0, pre .1), pre .4, pre .5, omega (arith, size w, holds))
+    (pre .3, omega (arith, wrote w .0, pre .0, pre .1), pre .4, pre .5, omega (arith, wrote w .0, holds))
 
 same-length : tie.Need-same-length
 same-length c = search needs
@@ -83,7 +77,7 @@ returns c =
     let tag = ap (λ (t : ℕ). wordOf t (a .self .filled)) (c .before .before .before .before .before .before .hash-tag .ensures) in
     let word = c .before .before .before .before .before .encode-index-word .ensures ∙ tag in
     push-left (a .slot) (a .expires-at) (a .self) (a .hash) (a .key .now) (a .value .now) (a .index .now) (a .filter .now) (a .arena .now)
-    (w .append-record .result) (c .grown .result) _ _ _ (size w) (home w) (c .grown .ensures) word (c .before .before .before .mark-displaced .ensures)
+    (w .append-record .result) (c .grown .result) _ _ _ (wrote w .0) (wrote w .1) (c .grown .ensures) word (c .before .before .before .mark-displaced .ensures)
 
 pub push-at-spec : {M : Type 1} → statement M
 push-at-spec =

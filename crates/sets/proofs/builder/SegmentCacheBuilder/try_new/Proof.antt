@@ -18,10 +18,7 @@ from c = c .before .before .before .before .before .before .before .before
 -- where no question is answered no, what they tell
 asked : (c : tie.After-enum-told) → let a = from c .args in
     OpenAsked (a .config) (a .entry-count) (length (a .index .now)) (length (a .filter .now)) (length (a .starts .now)) (length (a .lengths .now)) (length (a .arena .now))
-asked c =
-    let a = from c .args in
-    open-asked (a .config) (a .entry-count) (length (a .index .now)) (length (a .filter .now)) (length (a .starts .now)) (length (a .lengths .now)) (length (a .arena .now))
-    (sym (c .before .before .check-open .ensures) ∙ ap checkNumber (c .enum-told .given .1))
+asked c = open-asked _ _ _ _ _ _ _ (sym (c .before .before .check-open .ensures) ∙ ap checkNumber (c .enum-told .given .1))
 
 check-open-requires : tie.Need-check-open-requires
 check-open-requires c κs = search needs
@@ -68,9 +65,8 @@ returns-2 c =
     let v = w .before .before .before .before in
     let o = v .before .before .before in
     let b = o .before in
-    let a = from b .args in
     rw (sym (b .before .before .check-open .ensures) ∙ ap checkNumber (b .enum-told .given .1))
-    (open-left (a .config) (a .entry-count) (a .index .now) (a .filter .now) _ _ _ (o .opened-builder .ensures) (v .clear-words .ensures) (w .clear-words2 .ensures))
+    (open-left _ _ _ _ _ _ _ (o .opened-builder .ensures) (v .clear-words .ensures) (w .clear-words2 .ensures))
 
 pub try-new-spec : {M : Type 1} → statement M
 try-new-spec =

@@ -38,10 +38,8 @@ mark-live-requires c κs =
     let y = c .before .before in
     let f = y .before .before in
     let b = f .before .before in
-    let s = b .before .before .before .before .before .before .before .before in
-    let a = s .args in
-    lookup-slot (a .self) (a .hash) (a .key .now) (a .index .now) (a .filter .now) (a .starts .now) (a .lengths .now) (a .arena .now) (y .answer .given .0 .0)
-    (s .fits .hash .fits) (said-yes (b .before .lookup-areas-hold .ensures) (b .if1 .left)) (sym (f .find .ensures) ∙ y .answer .given .1)
+    let fits = b .before .before .before .before .before .before .before .before .fits in
+    lookup-slot _ _ _ _ _ _ _ _ _ (fits .hash .fits) (said-yes (b .before .lookup-areas-hold .ensures) (b .if1 .left)) (sym (f .find .ensures) ∙ y .answer .given .1)
 
 live-value-requires : tie.Need-live-value-requires
 live-value-requires c κs = search needs

@@ -34,10 +34,7 @@ view-requires : tie.Need-view-requires
 view-requires c κs = search needs
 
 next-entry-requires : tie.Need-next-entry-requires
-next-entry-requires c κs =
-    let b = c .before in
-    let a = from b .args in
-    set-index (a .self) (length (a .index .now)) (length (a .starts .now)) (length (a .lengths .now)) (length (a .arena .now)) (held b)
+next-entry-requires c κs = set-index _ _ _ _ _ (held (c .before))
 
 enum-known-next : tie.Need-enum-known-next
 enum-known-next c = search needs

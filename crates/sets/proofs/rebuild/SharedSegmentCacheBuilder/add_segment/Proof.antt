@@ -1,10 +1,17 @@
 -- `add_segment` meets its contract. Assumes nothing.
 use mathlib.Core.Path.{refl, sym, _∙_}
+use Prim.Native.Nat.{_<_}
 use native.Mathlib.Omega.{arith}
 use Rattle.sets.proofs.RebuildSteps.{adds-below}
 use borrow.Author.Needs.{needs}
 use Rattle.sets.proofs.rebuild.SharedSegmentCacheBuilder.add_segment.Statement.{statement}
 use Rattle.sets.proofs.rebuild.SharedSegmentCacheBuilder.add_segment.Tie as tie
+
+-- the segment that it adds has a place
+few : (c : tie.After-retained) → c .retained .result < 256
+few c =
+    let b = c .before .before in
+    omega (arith, adds-below _ (sym (b .before .adds-segment .ensures) ∙ b .if1 .taken) (b .before .before .before .before .pre .2), c .retained .ensures)
 
 adds-segment-requires : tie.Need-adds-segment-requires
 adds-segment-requires c κs = search needs
@@ -16,23 +23,13 @@ mul-starts : tie.Need-mul-starts
 mul-starts c = search needs
 
 slice-write-starts : tie.Need-slice-write-starts
-slice-write-starts c =
-    let a = c .before .before .before .before .before .before .args in
-    let adds-segment = c .before .before .before .adds-segment in
-    let if1 = c .before .before .if1 in
-    let few = adds-below (a .self) (sym (adds-segment .ensures) ∙ if1 .taken) (c .before .before .before .before .before .before .pre .2) in
-    omega (arith, few, c .retained .ensures)
+slice-write-starts c = omega (arith, few c)
 
 mul-lengths : tie.Need-mul-lengths
 mul-lengths c = search needs
 
 slice-write-lengths : tie.Need-slice-write-lengths
-slice-write-lengths c =
-    let a = c .before .before .before .before .before .before .args in
-    let adds-segment = c .before .before .before .adds-segment in
-    let if1 = c .before .before .if1 in
-    let few = adds-below (a .self) (sym (adds-segment .ensures) ∙ if1 .taken) (c .before .before .before .before .before .before .pre .2) in
-    omega (arith, few, c .retained .ensures)
+slice-write-lengths c = omega (arith, few c)
 
 same-length : tie.Need-same-length
 same-length c = search needs
@@ -42,9 +39,8 @@ same-length-2 c = search needs
 
 returns : tie.Need-returns
 returns c =
-    let adds-segment = c .before .before .before .adds-segment in
-    let if1 = c .before .before .if1 in
-    rw (sym (adds-segment .ensures) ∙ if1 .taken, c .retained .ensures) (refl, refl)
+    let b = c .before .before in
+    rw (sym (b .before .adds-segment .ensures) ∙ b .if1 .taken, c .retained .ensures) (refl, refl)
 
 returns-2 : tie.Need-returns-2
 returns-2 c = rw (sym (c .before .adds-segment .ensures) ∙ c .if1 .left) (refl, refl)

@@ -72,14 +72,13 @@ retained-requires c κs = search needs
 add-segments-inside : tie.Need-add-segments-inside
 add-segments-inside c =
     let b = c .before .before in
-    let a = from (b .before .before .before .before) .args in
-    omega (arith, arena-held (rebuildFilled (a .self)) (a .arena-len) (said-yes (b .before .arena-holds-both .ensures) (b .if4 .left)))
+    omega (arith, arena-held _ _ (said-yes (b .before .arena-holds-both .ensures) (b .if4 .left)))
 
 segments-inside-requires : tie.Need-segments-inside-requires
 segments-inside-requires c κs =
     let b = c .before .before .before .before in
     let a = from (b .before .before) .args in
-    let held = areas-256 (length (a .starts .now)) (length (a .lengths .now)) (segments b) in
+    let held = areas-256 _ _ (segments b) in
     let few : c .retained .result ≤ 256 = omega (arith, c .retained .ensures, retained-256 (a .self .kept)) in
     (omega (arith, held .0), omega (arith, held .1))
 

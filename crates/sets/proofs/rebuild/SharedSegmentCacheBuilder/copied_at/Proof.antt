@@ -3,13 +3,13 @@ use mathlib.Core.Path.{_≡_}
 use Prim.Native.Nat.{_+_, _-_, _*_, _^_}
 use native.Mathlib.Omega.{arith}
 use lib.ListN.{length}
-use borrow.Author.Needs.{needs}
 use borrow.Rule.Slice.PartMut.{putMid}
 use Rattle.records.specs.Area.{pasted}
 use Rattle.records.specs.Record.{recordBytes}
 use Rattle.sets.specs.Rebuild.{copiedLocation, copiedSize, rebuildFilled}
-use Rattle.sets.proofs.Appends.{appended-home, appended-size, size-holds}
+use Rattle.sets.proofs.Appends.{appended, size-holds}
 use Rattle.sets.proofs.RebuildSteps.{copied-left}
+use borrow.Author.Needs.{needs}
 use Rattle.sets.proofs.rebuild.SharedSegmentCacheBuilder.copied_at.Statement.{statement}
 use Rattle.sets.proofs.rebuild.SharedSegmentCacheBuilder.copied_at.Tie as tie
 
@@ -18,18 +18,13 @@ abbrev from : tie.After-append-record → tie.Start
 from c = c .before .before .before .before .before .before .before .before .before
 
 -- the record is written whole
-size : (c : tie.After-append-record) → let a = from c .args in c .append-record .result ≡ copiedSize (a .self) (length (a .key .now)) (length (a .value .now))
-size c =
+wrote : (c : tie.After-append-record) → let a = from c .args in
+    (c .append-record .result ≡ copiedSize (a .self) (length (a .key .now)) (length (a .value .now)))
+    × (putMid (rebuildFilled (a .self)) (length (a .arena .now) - rebuildFilled (a .self)) (a .arena .now) (c .append-record .last .0)
+    ≡ pasted (rebuildFilled (a .self)) (recordBytes (a .self .config .expiry) (a .key .now) (a .value .now) (a .expires-at)) (a .arena .now))
+wrote c =
     let a = from c .args in
-    appended-size (a .self .config .expiry) (a .key .now) (a .value .now) (a .expires-at) (rebuildFilled (a .self)) (a .arena .now) (from c .pre .0) (c .append-record .result)
-    (c .append-record .ensures .0)
-
-home : (c : tie.After-append-record) → let a = from c .args in
-    putMid (rebuildFilled (a .self)) (length (a .arena .now) - rebuildFilled (a .self)) (a .arena .now) (c .append-record .last .0)
-    ≡ pasted (rebuildFilled (a .self)) (recordBytes (a .self .config .expiry) (a .key .now) (a .value .now) (a .expires-at)) (a .arena .now)
-home c =
-    let a = from c .args in
-    appended-home (a .self .config .expiry) (a .key .now) (a .value .now) (a .expires-at) (rebuildFilled (a .self)) (a .arena .now) (from c .pre .0) (c .append-record .last .0)
+    appended (a .self .config .expiry) (a .key .now) (a .value .now) (a .expires-at) (rebuildFilled (a .self)) (a .arena .now) (from c .pre .0) _ _ (c .append-record .ensures .0)
     (c .append-record .ensures .1)
 
 add-filled : tie.Need-add-filled
@@ -65,7 +60,7 @@ copied-grown-requires c κs =
     let a = from w .args in
     let pre = from w .pre in
     let holds = size-holds (a .self .config .expiry) (length (a .key .now)) (length (a .value .now)) in
-    (pre .4, omega (arith, size w, pre .0, pre .1), omega (arith, size w, holds), pre .5, pre .6, pre .7)
+    (pre .4, omega (arith, wrote w .0, pre .0, pre .1), omega (arith, wrote w .0, holds), pre .5, pre .6, pre .7)
 
 same-length : tie.Need-same-length
 same-length c = search needs
@@ -78,13 +73,15 @@ same-length-3 c = search needs
 
 returns : tie.Need-returns
 returns c =
-    let w = c .before .before .before .before .before .before .before .before .before .before .before .before .before in
+    let p = c .before .before .before .before .before in
+    let k = p .before .before .before .before in
+    let w = k .before .before .before .before in
     let a = from w .args in
-    let counted = c .before .before .before .before .before .before .before .before .before .retained in
-    let word = c .before .before .before .before .before .push-index in
+    let counted = k .retained in
+    let word = p .push-index in
     let placed : counted .result * 2 ^ 32 + a .self .«copied_bytes» ≡ copiedLocation (a .self) = omega (arith, counted .ensures) in
     copied-left (a .slot) (a .expires-at) (a .self) (a .hash) (a .key .now) (a .value .now) (a .index .now) (a .filter .now) (a .arena .now)
-    (w .append-record .result) (c .copied-grown .result) _ _ _ _ (size w) (home w) (c .copied-grown .ensures) placed (word .ensures .0) (word .ensures .1)
+    (w .append-record .result) (c .copied-grown .result) _ _ _ _ (wrote w .0) (wrote w .1) (c .copied-grown .ensures) placed (word .ensures .0) (word .ensures .1)
 
 pub copied-at-spec : {M : Type 1} → statement M
 copied-at-spec =

@@ -20,10 +20,7 @@ from c = c .before .before .before .before .before .before .before .before .befo
 -- where no question is answered no, what they tell
 asked : (c : tie.After-enum-told) → let a = from c .args in
     RefinishAsked (a .self) (length (a .index .now)) (a .starts .now) (a .lengths .now) (length (a .scratch .now)) (length (a .arena .now))
-asked c =
-    let a = from c .args in
-    refinish-asked (a .self) (length (a .index .now)) (a .starts .now) (a .lengths .now) (length (a .scratch .now)) (length (a .arena .now))
-    (sym (c .before .before .check-finish .ensures) ∙ ap checkNumber (c .enum-told .given .1))
+asked c = refinish-asked _ _ _ _ _ _ (sym (c .before .before .check-finish .ensures) ∙ ap checkNumber (c .enum-told .given .1))
 
 check-finish-requires : tie.Need-check-finish-requires
 check-finish-requires c κs = search needs
@@ -59,7 +56,7 @@ add-segment-requires : tie.Need-add-segment-requires
 add-segment-requires c κs =
     let b = c .before .before .before .before in
     let q = asked b .areas in
-    (q .starts-hold, q .lengths-hold, adds-few (from b .args .self) (q .numbers .few))
+    (q .starts-hold, q .lengths-hold, adds-few _ (q .numbers .few))
 
 pack-index-requires : tie.Need-pack-index-requires
 pack-index-requires c κs = search needs
@@ -85,7 +82,7 @@ returns-2 c =
     let b = i .before .before in
     let a = from b .args in
     rw (sym (b .before .before .check-finish .ensures) ∙ ap checkNumber (b .enum-told .given .1))
-    (refinish-left (a .self) (a .index .now) (a .starts .now) (a .lengths .now) (a .scratch .now) _ _ _ _ (i .into-build .result)
+    (refinish-left (a .self) (a .index .now) (a .starts .now) (a .lengths .now) (a .scratch .now) _ _ _ _ _
     (i .into-build .ensures) (d .add-segment .ensures .0) (d .add-segment .ensures .1) (v .pack-index .ensures .0) (v .pack-index .ensures .1))
 
 pub finish-spec : {M : Type 1} → statement M

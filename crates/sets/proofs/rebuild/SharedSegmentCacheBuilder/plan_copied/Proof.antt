@@ -93,10 +93,7 @@ returns-5 c =
     (sym (yes4 (b .before .before) ∙ rw none (own-refused (told .given .0 .0) _ _ _)))
 
 plan-room-requires : tie.Need-plan-room-requires
-plan-room-requires c κs =
-    let b = first (c .before .before .before .before .before) in
-    let a = from b .args in
-    rebuild-areas-asked (a .self) (length (a .index .now)) (a .starts .now) (a .lengths .now) (a .arena-len) (held b) .filled-held
+plan-room-requires c κs = rebuild-areas-asked _ _ _ _ _ (held (first (c .before .before .before .before .before))) .filled-held
 
 returns-6 : tie.Need-returns-6
 unfolding planCopied askCopied planRoom askRoom

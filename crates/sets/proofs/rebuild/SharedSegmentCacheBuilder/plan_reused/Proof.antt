@@ -76,8 +76,7 @@ returns-4 c = sym (yes3 (c .before .before .before .before) ∙ rw (said-no (c .
 
 holds-record-requires : tie.Need-holds-record-requires
 holds-record-requires c κs =
-    let a = from (first c) .args in
-    let q = rebuild-areas-asked (a .self) (length (a .index .now)) (a .starts .now) (a .lengths .now) (length (a .arena .now)) (held (first c)) in
+    let q = rebuild-areas-asked _ _ _ _ _ (held (first c)) in
     (said-yes (c .before .is-kept .ensures) (c .if4 .left), omega (arith, q .filled-held, q .arena-short))
 
 returns-5 : tie.Need-returns-5

@@ -25,8 +25,7 @@ from c = c .before .before .before .before .before .before .before .before .befo
 abbrev asks : tie.Start → ℕ
 asks s =
     let a = s .args in
-    firstNo
-    (askReused (a .self) (a .hash) (a .key .now) (a .value .now) (a .source) (a .index .now) (length (a .filter .now)) (a .starts .now) (a .lengths .now) (a .arena .now))
+    firstNo (askReused (a .self) (a .hash) (a .key .now) (a .value .now) (a .source) (a .index .now) (length (a .filter .now)) (a .starts .now) (a .lengths .now) (a .arena .now))
 
 -- its plan has a place for the record
 placed : (c : tie.After-slot) → let s = from (c .before .before) in let a = s .args in
@@ -50,15 +49,11 @@ reused-at-requires c κs =
     let s = from (b .before .before) in
     let a = s .args in
     let p = placed b in
-    let q =
-    reused-asked (a .self) (a .hash) (a .key .now) (a .value .now) (a .source) (a .index .now) (length (a .filter .now)) (a .starts .now) (a .lengths .now) (a .arena .now)
-    (p .0) in
+    let q = reused-asked _ _ _ _ _ _ _ _ _ _ (p .0) in
     let n = q .areas .numbers in
     let few : a .self .«inserted_entries» ≤ 1_048_576 = omega (arith, n .announced, counts-records _ _ _ _ (n .counts)) in
-    let at = found-inside _ (a .index .now) (a .self .«bucket_count») (a .hash) _ (s .fits .hash .fits) (q .areas .index-holds) (q .place ∙ ap Empty (p .1)) in
-    let shown =
-    reused-record (a .key .now) (a .value .now) (a .source .«header_bytes») (a .arena .now) (keptView (a .self)) (a .starts .now) (a .lengths .now)
-    (movedLocation (a .self) (a .source .location) + 1) (q .holds) .3 in
+    let at = found-inside _ _ _ _ _ (s .fits .hash .fits) (q .areas .index-holds) (q .place ∙ ap Empty (p .1)) in
+    let shown = reused-record _ _ _ _ (keptView (a .self)) _ _ (movedLocation (a .self) (a .source .location) + 1) (q .holds) .3 in
     let short = q .areas .arena-short in
     (q .kept, at, q .announced, omega (arith, n .key-bytes), omega (arith, n .value-bytes), omega (arith, n .header-bytes))
 

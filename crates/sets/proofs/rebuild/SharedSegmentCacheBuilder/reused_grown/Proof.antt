@@ -1,6 +1,4 @@
 -- `reused_grown` meets its contract. Assumes nothing.
-use mathlib.Core.Path.{ap, _∙_}
-use Prim.Native.Nat.{ℕ, _+_, _%_, _^_}
 use Rattle.sets.proofs.RebuildSteps.{wraps}
 use borrow.Author.Needs.{needs}
 use Rattle.sets.proofs.rebuild.SharedSegmentCacheBuilder.reused_grown.Statement.{statement}
@@ -32,11 +30,10 @@ wrapping-add-usize-requires-4 c κs = search needs
 
 returns : tie.Need-returns
 returns c =
-    let a = c .before .before .before .before .before .before .before .before .args in
-    let headed = c .before .before .before .before .before .before .before .wrapping-add-usize .ensures in
-    let keyed = c .before .before .before .before .before .before .wrapping-add-usize2 .ensures ∙ ap (λ (n : ℕ). (n + a .key-bytes) % 2 ^ 64) headed in
-    let summed = c .wrapping-add-usize4 .ensures ∙ ap (λ (n : ℕ). (n + a .value-bytes) % 2 ^ 64) keyed in
-    rw (c .before .wrapping-add-usize3 .ensures, summed ∙ wraps (a .self .«reused_record_bytes») (a .header-bytes) (a .key-bytes) (a .value-bytes))
+    let b = c .before .before .before .before .before .before in
+    let a = b .before .before .args in
+    rw (c .before .wrapping-add-usize3 .ensures, c .wrapping-add-usize4 .ensures, b .wrapping-add-usize2 .ensures, b .before .wrapping-add-usize .ensures)
+    (rw (wraps (a .self .«reused_record_bytes») (a .header-bytes) (a .key-bytes) (a .value-bytes)))
 
 pub reused-grown-spec : {M : Type 1} → statement M
 reused-grown-spec =

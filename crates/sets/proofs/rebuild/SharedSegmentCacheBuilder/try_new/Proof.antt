@@ -2,9 +2,6 @@
 use mathlib.Core.Path.{_≡_, sym, ap, _∙_}
 use native.Mathlib.Omega.{arith}
 use lib.ListN.{length}
-use Rattle.records.specs.Area.{over}
-use Rattle.index.specs.Segments.{padded}
-use Rattle.sets.specs.Kept.{chosen}
 use Rattle.sets.specs.Questions.{bucketsIn, checkNumber}
 use Rattle.sets.specs.Rebuild.{afterRebuildOpen}
 use Rattle.sets.specs.declared.rebuild.SharedSegmentCacheBuilder.{SharedSegmentCacheBuilder}
@@ -26,11 +23,7 @@ told c = c .before .before .before .before .before .before .before .before .befo
 asked : (c : tie.After-enum-told) → let a = from c .args in
     ReopenAsked (a .source) (a .source-starts .now) (a .source-lengths .now) (length (a .arena .now)) (a .entry-count) (a .copied-record-capacity) (a .used-source-segments .now)
     (length (a .index .now)) (length (a .filter .now)) (length (a .starts .now)) (length (a .lengths .now))
-asked c =
-    let a = from c .args in
-    reopen-asked (a .source) (a .source-starts .now) (a .source-lengths .now) (length (a .arena .now)) (a .entry-count) (a .copied-record-capacity) (a .used-source-segments .now)
-    (length (a .index .now)) (length (a .filter .now)) (length (a .starts .now)) (length (a .lengths .now))
-    (sym (c .before .before .check-rebuild-open .ensures) ∙ ap checkNumber (c .enum-told .given .1))
+asked c = reopen-asked _ _ _ _ _ _ _ _ _ _ _ (sym (c .before .before .check-rebuild-open .ensures) ∙ ap checkNumber (c .enum-told .given .1))
 
 check-rebuild-open-requires : tie.Need-check-rebuild-open-requires
 check-rebuild-open-requires c κs = search needs
@@ -98,9 +91,7 @@ returns-2 c =
     let b = o .before in
     let a = from b .args in
     rw (sym (b .before .before .check-rebuild-open .ensures) ∙ ap checkNumber (b .enum-told .given .1))
-    (reopen-left (a .source) (a .entry-count) (a .used-source-segments .now) (a .source-now-tick) (a .index .now) (a .filter .now) _ _
-    (over (padded (chosen (a .used-source-segments .now) (a .source-starts .now))) (a .starts .now))
-    (over (padded (chosen (a .used-source-segments .now) (a .source-lengths .now))) (a .lengths .now)) _ _ _
+    (reopen-left (a .source) (a .entry-count) (a .used-source-segments .now) (a .source-now-tick) _ _ _ _ _ _ _ _ _
     (o .opened-rebuild .ensures) (v .clear-words .ensures) (w .clear-words2 .ensures) (x .keep-words .ensures) (y .keep-words2 .ensures))
 
 pub try-new-spec : {M : Type 1} → statement M
