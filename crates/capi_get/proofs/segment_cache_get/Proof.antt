@@ -10,30 +10,9 @@ returns : tie.Need-returns
 unfolding exportedGet
 returns c = rw (ne-eqb _ _ (c .if1 .taken))
 
-load-set-requires : tie.Need-load-set-requires
-load-set-requires c κs = search needs
-
-enum-known-state : tie.Need-enum-known-state
-enum-known-state c = search needs
-
-enum-told : tie.Need-enum-told
-enum-told c = search needs
-
 returns-2 : tie.Need-returns-2
 unfolding exportedGet
 returns-2 c = rw (eq-eqb _ _ (c .before .before .before .if1 .left), sym (c .before .before .load-set .ensures) ∙ c .enum-told .given .1)
-
-get-at-tick-requires : tie.Need-get-at-tick-requires
-get-at-tick-requires c κs = search needs
-
-tell-get-requires : tie.Need-tell-get-requires
-tell-get-requires c κs = search needs
-
-same-length : tie.Need-same-length
-same-length c = search needs
-
-same-length-2 : tie.Need-same-length-2
-same-length-2 c = search needs
 
 returns-3 : tie.Need-returns-3
 unfolding exportedGet
@@ -50,12 +29,12 @@ segment-cache-get-spec =
     tie.close
     (tie.spec
     returns
-    load-set-requires
-    enum-known-state
-    enum-told
+    (λ c κs. search needs)
+    (λ c. search needs)
+    (λ c. search needs)
     returns-2
-    get-at-tick-requires
-    tell-get-requires
-    same-length
-    same-length-2
+    (λ c κs. search needs)
+    (λ c κs. search needs)
+    (λ c. search needs)
+    (λ c. search needs)
     returns-3)

@@ -10,27 +10,9 @@ returns : tie.Need-returns
 unfolding exportedProbe
 returns c = rw (ne-eqb _ _ (c .if1 .taken))
 
-load-set-requires : tie.Need-load-set-requires
-load-set-requires c κs = search needs
-
-enum-known-state : tie.Need-enum-known-state
-enum-known-state c = search needs
-
-enum-told : tie.Need-enum-told
-enum-told c = search needs
-
 returns-2 : tie.Need-returns-2
 unfolding exportedProbe
 returns-2 c = rw (eq-eqb _ _ (c .before .before .before .if1 .left), sym (c .before .before .load-set .ensures) ∙ c .enum-told .given .1)
-
-probe-hashed-at-tick-requires : tie.Need-probe-hashed-at-tick-requires
-probe-hashed-at-tick-requires c κs = search needs
-
-tell-record-requires : tie.Need-tell-record-requires
-tell-record-requires c κs = search needs
-
-same-length : tie.Need-same-length
-same-length c = search needs
 
 returns-3 : tie.Need-returns-3
 unfolding exportedProbe
@@ -47,11 +29,11 @@ segment-cache-probe-spec =
     tie.close
     (tie.spec
     returns
-    load-set-requires
-    enum-known-state
-    enum-told
+    (λ c κs. search needs)
+    (λ c. search needs)
+    (λ c. search needs)
     returns-2
-    probe-hashed-at-tick-requires
-    tell-record-requires
-    same-length
+    (λ c κs. search needs)
+    (λ c κs. search needs)
+    (λ c. search needs)
     returns-3)

@@ -14,18 +14,6 @@ returns-2 : tie.Need-returns-2
 unfolding exportedPush
 returns-2 c = rw (eq-eqb _ _ (c .before .if1 .left), ne-eqb _ _ (c .if2 .taken))
 
-load-builder-requires : tie.Need-load-builder-requires
-load-builder-requires c κs = search needs
-
-enum-known-state : tie.Need-enum-known-state
-enum-known-state c = search needs
-
-enum-told : tie.Need-enum-told
-enum-told c = search needs
-
-same-length : tie.Need-same-length
-same-length c = search needs
-
 returns-3 : tie.Need-returns-3
 unfolding exportedPush
 returns-3 c =
@@ -33,18 +21,6 @@ returns-3 c =
     let test₂ = load .before .before in
     let test = test₂ .before in
     rw (eq-eqb _ _ (test .if1 .left), eq-eqb _ _ (test₂ .if2 .left), sym (load .load-builder .ensures) ∙ c .enum-told .given .1)
-
-load-lifetime-requires : tie.Need-load-lifetime-requires
-load-lifetime-requires c κs = search needs
-
-enum-known-ttl : tie.Need-enum-known-ttl
-enum-known-ttl c = search needs
-
-enum-told-2 : tie.Need-enum-told-2
-enum-told-2 c = search needs
-
-same-length-2 : tie.Need-same-length-2
-same-length-2 c = search needs
 
 returns-4 : tie.Need-returns-4
 unfolding exportedPush
@@ -55,27 +31,6 @@ returns-4 c =
     let test₂ = load .before .before in
     let test = test₂ .before in
     rw (eq-eqb _ _ (test .if1 .left), eq-eqb _ _ (test₂ .if2 .left), sym (load .load-builder .ensures) ∙ opened .state .given .1, sym (life .load-lifetime .ensures) ∙ c .enum-told2 .given .1)
-
-push-requires : tie.Need-push-requires
-push-requires c κs = search needs
-
-tell-push-requires : tie.Need-tell-push-requires
-tell-push-requires c κs = search needs
-
-same-length-3 : tie.Need-same-length-3
-same-length-3 c = search needs
-
-same-length-4 : tie.Need-same-length-4
-same-length-4 c = search needs
-
-same-length-5 : tie.Need-same-length-5
-same-length-5 c = search needs
-
-same-length-6 : tie.Need-same-length-6
-same-length-6 c = search needs
-
-same-length-7 : tie.Need-same-length-7
-same-length-7 c = search needs
 
 returns-5 : tie.Need-returns-5
 unfolding exportedPush
@@ -103,21 +58,21 @@ segment-cache-push-spec =
     (tie.spec
     returns
     returns-2
-    load-builder-requires
-    enum-known-state
-    enum-told
-    same-length
+    (λ c κs. search needs)
+    (λ c. search needs)
+    (λ c. search needs)
+    (λ c. search needs)
     returns-3
-    load-lifetime-requires
-    enum-known-ttl
-    enum-told-2
-    same-length-2
+    (λ c κs. search needs)
+    (λ c. search needs)
+    (λ c. search needs)
+    (λ c. search needs)
     returns-4
-    push-requires
-    tell-push-requires
-    same-length-3
-    same-length-4
-    same-length-5
-    same-length-6
-    same-length-7
+    (λ c κs. search needs)
+    (λ c κs. search needs)
+    (λ c. search needs)
+    (λ c. search needs)
+    (λ c. search needs)
+    (λ c. search needs)
+    (λ c. search needs)
     returns-5)

@@ -10,30 +10,9 @@ returns : tie.Need-returns
 unfolding exportedTake
 returns c = rw (ne-eqb _ _ (c .if1 .taken))
 
-load-set-requires : tie.Need-load-set-requires
-load-set-requires c κs = search needs
-
-enum-known-state : tie.Need-enum-known-state
-enum-known-state c = search needs
-
-enum-told : tie.Need-enum-told
-enum-told c = search needs
-
 returns-2 : tie.Need-returns-2
 unfolding exportedTake
 returns-2 c = rw (eq-eqb _ _ (c .before .before .before .if1 .left), sym (c .before .before .load-set .ensures) ∙ c .enum-told .given .1)
-
-take-accessed-requires : tie.Need-take-accessed-requires
-take-accessed-requires c κs = search needs
-
-tell-take-requires : tie.Need-tell-take-requires
-tell-take-requires c κs = search needs
-
-same-length : tie.Need-same-length
-same-length c = search needs
-
-same-length-2 : tie.Need-same-length-2
-same-length-2 c = search needs
 
 returns-3 : tie.Need-returns-3
 unfolding exportedTake
@@ -50,12 +29,12 @@ segment-cache-take-accessed-spec =
     tie.close
     (tie.spec
     returns
-    load-set-requires
-    enum-known-state
-    enum-told
+    (λ c κs. search needs)
+    (λ c. search needs)
+    (λ c. search needs)
     returns-2
-    take-accessed-requires
-    tell-take-requires
-    same-length
-    same-length-2
+    (λ c κs. search needs)
+    (λ c κs. search needs)
+    (λ c. search needs)
+    (λ c. search needs)
     returns-3)

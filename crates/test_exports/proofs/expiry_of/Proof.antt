@@ -6,8 +6,5 @@ use Rattle.test_exports.proofs.expiry_of.Tie as tie
 returns : tie.Need-returns
 returns c = rw (c .if1 .taken)
 
-returns-2 : tie.Need-returns-2
-returns-2 c = search needs
-
 pub expiry-of-spec : {M : Type 1} → statement M
-expiry-of-spec = tie.close (tie.spec returns returns-2)
+expiry-of-spec = tie.close (tie.spec returns (λ c. search needs))

@@ -5,33 +5,6 @@ use borrow.Author.Needs.{needs}
 use Rattle.test_exports.proofs.test_encode_expiry.Statement.{statement}
 use Rattle.test_exports.proofs.test_encode_expiry.Tie as tie
 
-expiry-of-requires : tie.Need-expiry-of-requires
-expiry-of-requires c κs = search needs
-
-lifetime-of-requires : tie.Need-lifetime-of-requires
-lifetime-of-requires c κs = search needs
-
-encode-expiry-at-tick-requires : tie.Need-encode-expiry-at-tick-requires
-encode-expiry-at-tick-requires c κs = search needs
-
-enum-known-deadline : tie.Need-enum-known-deadline
-enum-known-deadline c = search needs
-
-cast-result : tie.Need-cast-result
-cast-result c = search needs
-
-enum-known-refusal : tie.Need-enum-known-refusal
-enum-known-refusal c = search needs
-
-number-requires : tie.Need-number-requires
-number-requires c κs = search needs
-
-cast-result-2 : tie.Need-cast-result-2
-cast-result-2 c = search needs
-
-add-result : tie.Need-add-result
-add-result c = search needs
-
 returns : tie.Need-returns
 unfolding codeOf
 returns c =
@@ -58,14 +31,14 @@ pub test-encode-expiry-spec : {M : Type 1} → statement M
 test-encode-expiry-spec =
     tie.close
     (tie.spec
-    expiry-of-requires
-    lifetime-of-requires
-    encode-expiry-at-tick-requires
-    enum-known-deadline
-    cast-result
-    enum-known-refusal
-    number-requires
-    cast-result-2
-    add-result
+    (λ c κs. search needs)
+    (λ c κs. search needs)
+    (λ c κs. search needs)
+    (λ c. search needs)
+    (λ c. search needs)
+    (λ c. search needs)
+    (λ c κs. search needs)
+    (λ c. search needs)
+    (λ c. search needs)
     returns
     returns-2)

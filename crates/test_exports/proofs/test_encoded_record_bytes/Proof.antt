@@ -6,33 +6,6 @@ use borrow.Author.Needs.{needs}
 use Rattle.test_exports.proofs.test_encoded_record_bytes.Statement.{statement}
 use Rattle.test_exports.proofs.test_encoded_record_bytes.Tie as tie
 
-expiry-of-requires : tie.Need-expiry-of-requires
-expiry-of-requires c κs = search needs
-
-encoded-record-bytes-requires : tie.Need-encoded-record-bytes-requires
-encoded-record-bytes-requires c κs = search needs
-
-enum-known-size : tie.Need-enum-known-size
-enum-known-size c = search needs
-
-slice-aggregate-put-words : tie.Need-slice-aggregate-put-words
-slice-aggregate-put-words c = search needs
-
-put-words-requires : tie.Need-put-words-requires
-put-words-requires c κs = search needs
-
-enum-known-refusal : tie.Need-enum-known-refusal
-enum-known-refusal c = search needs
-
-number-requires : tie.Need-number-requires
-number-requires c κs = search needs
-
-cast-result : tie.Need-cast-result
-cast-result c = search needs
-
-same-length : tie.Need-same-length
-same-length c = search needs
-
 returns : tie.Need-returns
 unfolding outcomeTold
 returns c =
@@ -52,14 +25,14 @@ pub test-encoded-record-bytes-spec : {M : Type 1} → statement M
 test-encoded-record-bytes-spec =
     tie.close
     (tie.spec
-    expiry-of-requires
-    encoded-record-bytes-requires
-    enum-known-size
-    slice-aggregate-put-words
-    put-words-requires
-    enum-known-refusal
-    number-requires
-    cast-result
-    same-length
+    (λ c κs. search needs)
+    (λ c κs. search needs)
+    (λ c. search needs)
+    (λ c. search needs)
+    (λ c κs. search needs)
+    (λ c. search needs)
+    (λ c κs. search needs)
+    (λ c. search needs)
+    (λ c. search needs)
     returns
     returns-2)

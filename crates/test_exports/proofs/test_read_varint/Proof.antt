@@ -7,26 +7,8 @@ use borrow.Author.Needs.{needs}
 use Rattle.test_exports.proofs.test_read_varint.Statement.{statement}
 use Rattle.test_exports.proofs.test_read_varint.Tie as tie
 
-read-varint-requires : tie.Need-read-varint-requires
-read-varint-requires c κs = search needs
-
-enum-known-value : tie.Need-enum-known-value
-enum-known-value c = search needs
-
-enum-told : tie.Need-enum-told
-enum-told c = search needs
-
 returns : tie.Need-returns
 returns c = rw (← (c .before .before .read-varint .ensures), c .enum-told .given .1) (ap (told false) (placed-none (c .before .before .before .before .before .args .out .now)))
-
-slice-aggregate-put-words : tie.Need-slice-aggregate-put-words
-slice-aggregate-put-words c = search needs
-
-put-words-requires : tie.Need-put-words-requires
-put-words-requires c κs = search needs
-
-same-length : tie.Need-same-length
-same-length c = search needs
 
 returns-2 : tie.Need-returns-2
 returns-2 c =
@@ -37,11 +19,11 @@ pub test-read-varint-spec : {M : Type 1} → statement M
 test-read-varint-spec =
     tie.close
     (tie.spec
-    read-varint-requires
-    enum-known-value
-    enum-told
+    (λ c κs. search needs)
+    (λ c. search needs)
+    (λ c. search needs)
     returns
-    slice-aggregate-put-words
-    put-words-requires
-    same-length
+    (λ c. search needs)
+    (λ c κs. search needs)
+    (λ c. search needs)
     returns-2)

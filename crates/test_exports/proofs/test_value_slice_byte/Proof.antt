@@ -6,15 +6,6 @@ use borrow.Author.Needs.{needs}
 use Rattle.test_exports.proofs.test_value_slice_byte.Statement.{statement}
 use Rattle.test_exports.proofs.test_value_slice_byte.Tie as tie
 
-value-slice-requires : tie.Need-value-slice-requires
-value-slice-requires c κs = search needs
-
-shared-slice-read-wide : tie.Need-shared-slice-read-wide
-shared-slice-read-wide c = search needs
-
-wide-requires : tie.Need-wide-requires
-wide-requires c κs = search needs
-
 returns : tie.Need-returns
 unfolding byteOr256
 returns c = rw (sym (c .before .before .before .value-slice .ensures), lt-ltb _ _ (c .before .before .if1 .taken)) (c .wide .ensures)
@@ -26,4 +17,4 @@ returns-2 c = rw (sym (c .before .value-slice .ensures), le-ltb _ _ (c .if1 .lef
 pub test-value-slice-byte-spec : {M : Type 1} → statement M
 test-value-slice-byte-spec =
     tie.close
-    (tie.spec value-slice-requires shared-slice-read-wide wide-requires returns returns-2)
+    (tie.spec (λ c κs. search needs) (λ c. search needs) (λ c κs. search needs) returns returns-2)

@@ -5,11 +5,8 @@ use borrow.Author.Needs.{needs}
 use Rattle.test_exports.proofs.test_value_slice_len.Statement.{statement}
 use Rattle.test_exports.proofs.test_value_slice_len.Tie as tie
 
-value-slice-requires : tie.Need-value-slice-requires
-value-slice-requires c κs = search needs
-
 returns : tie.Need-returns
 returns c = ap length (c .value-slice .ensures)
 
 pub test-value-slice-len-spec : {M : Type 1} → statement M
-test-value-slice-len-spec = tie.close (tie.spec value-slice-requires returns)
+test-value-slice-len-spec = tie.close (tie.spec (λ c κs. search needs) returns)

@@ -5,12 +5,6 @@ use borrow.Author.Needs.{needs}
 use Rattle.book.proofs.calls.make_clear.Statement.{statement}
 use Rattle.book.proofs.calls.make_clear.Tie as tie
 
-take-accessed-requires : tie.Need-take-accessed-requires
-take-accessed-requires c κs = search needs
-
-same-length : tie.Need-same-length
-same-length c = search needs
-
 returns : tie.Need-returns
 returns c =
     let a = c .before .before .before .before .before .before .before .before .before .before .args in
@@ -19,4 +13,4 @@ returns c =
     (m .ensures, make-clear (setWith (a .cache) areas) (a .arena .now) (a .hash) (a .key .now) (m .result) (m .last .1 .1 .1 .0) (m .ensures))
 
 pub make-clear-spec : {M : Type 1} → statement M
-make-clear-spec = tie.close (tie.spec take-accessed-requires same-length returns)
+make-clear-spec = tie.close (tie.spec (λ c κs. search needs) (λ c. search needs) returns)

@@ -5,18 +5,6 @@ use borrow.Author.Needs.{needs}
 use Rattle.book.proofs.calls.make_copy.Statement.{statement}
 use Rattle.book.proofs.calls.make_copy.Tie as tie
 
-push-copied-requires : tie.Need-push-copied-requires
-push-copied-requires c κs = search needs
-
-same-length : tie.Need-same-length
-same-length c = search needs
-
-same-length-2 : tie.Need-same-length-2
-same-length-2 c = search needs
-
-same-length-3 : tie.Need-same-length-3
-same-length-3 c = search needs
-
 returns : tie.Need-returns
 returns c =
     let a = c .before .before .before .before .before .before .before .before .before .before .before .before .before .before .before .before .before .args in
@@ -27,4 +15,4 @@ returns c =
 
 pub make-copy-spec : {M : Type 1} → statement M
 make-copy-spec =
-    tie.close (tie.spec push-copied-requires same-length same-length-2 same-length-3 returns)
+    tie.close (tie.spec (λ c κs. search needs) (λ c. search needs) (λ c. search needs) (λ c. search needs) returns)

@@ -5,21 +5,6 @@ use borrow.Author.Needs.{needs}
 use Rattle.book.proofs.calls.make_finish.Statement.{statement}
 use Rattle.book.proofs.calls.make_finish.Tie as tie
 
-finish-requires : tie.Need-finish-requires
-finish-requires c κs = search needs
-
-same-length : tie.Need-same-length
-same-length c = search needs
-
-same-length-2 : tie.Need-same-length-2
-same-length-2 c = search needs
-
-same-length-3 : tie.Need-same-length-3
-same-length-3 c = search needs
-
-same-length-4 : tie.Need-same-length-4
-same-length-4 c = search needs
-
 returns : tie.Need-returns
 returns c =
     let a = c .before .before .before .before .before .before .before .before .before .before .before .before .before .before .before .before .before .before .before .args in
@@ -31,4 +16,4 @@ returns c =
 pub make-finish-spec : {M : Type 1} → statement M
 make-finish-spec =
     tie.close
-    (tie.spec finish-requires same-length same-length-2 same-length-3 same-length-4 returns)
+    (tie.spec (λ c κs. search needs) (λ c. search needs) (λ c. search needs) (λ c. search needs) (λ c. search needs) returns)

@@ -5,12 +5,6 @@ use borrow.Author.Needs.{needs}
 use Rattle.book.proofs.calls.make_lookup.Statement.{statement}
 use Rattle.book.proofs.calls.make_lookup.Tie as tie
 
-get-at-tick-requires : tie.Need-get-at-tick-requires
-get-at-tick-requires c κs = search needs
-
-same-length : tie.Need-same-length
-same-length c = search needs
-
 returns : tie.Need-returns
 returns c =
     let a = c .before .before .before .before .before .before .before .before .before .before .args in
@@ -19,4 +13,4 @@ returns c =
     (m .ensures, make-lookup (setWith (a .cache) areas) (a .arena .now) (a .hash) (a .key .now) (a .now-tick) (m .result) (m .last .1 .1 .1 .1 .0) (m .ensures))
 
 pub make-lookup-spec : {M : Type 1} → statement M
-make-lookup-spec = tie.close (tie.spec get-at-tick-requires same-length returns)
+make-lookup-spec = tie.close (tie.spec (λ c κs. search needs) (λ c. search needs) returns)

@@ -5,15 +5,6 @@ use borrow.Author.Needs.{needs}
 use Rattle.book.proofs.calls.make_open.Statement.{statement}
 use Rattle.book.proofs.calls.make_open.Tie as tie
 
-try-new-requires : tie.Need-try-new-requires
-try-new-requires c κs = search needs
-
-same-length : tie.Need-same-length
-same-length c = search needs
-
-same-length-2 : tie.Need-same-length-2
-same-length-2 c = search needs
-
 returns : tie.Need-returns
 returns c =
     let a = c .before .before .before .before .before .before .before .before .before .before .before .before .args in
@@ -22,4 +13,4 @@ returns c =
     (m .ensures, make-open (a .config) (a .entry-count) (a .arena .now) areas (m .result) (m .last .1 .1 .0) (m .last .1 .1 .1 .0) (m .ensures))
 
 pub make-open-spec : {M : Type 1} → statement M
-make-open-spec = tie.close (tie.spec try-new-requires same-length same-length-2 returns)
+make-open-spec = tie.close (tie.spec (λ c κs. search needs) (λ c. search needs) (λ c. search needs) returns)

@@ -5,9 +5,6 @@ use borrow.Author.Needs.{needs}
 use Rattle.book.proofs.calls.make_peek.Statement.{statement}
 use Rattle.book.proofs.calls.make_peek.Tie as tie
 
-peek-at-tick-requires : tie.Need-peek-at-tick-requires
-peek-at-tick-requires c κs = search needs
-
 returns : tie.Need-returns
 returns c =
     let a = c .before .before .before .before .before .before .before .args in
@@ -16,4 +13,4 @@ returns c =
     (m .ensures, make-peek (setWith (a .cache) areas) (a .arena .now) (a .hash) (a .key .now) (a .now-tick) (m .result) (a .index .now) (m .ensures))
 
 pub make-peek-spec : {M : Type 1} → statement M
-make-peek-spec = tie.close (tie.spec peek-at-tick-requires returns)
+make-peek-spec = tie.close (tie.spec (λ c κs. search needs) returns)

@@ -5,9 +5,6 @@ use borrow.Author.Needs.{needs}
 use Rattle.book.proofs.calls.make_probe.Statement.{statement}
 use Rattle.book.proofs.calls.make_probe.Tie as tie
 
-probe-hashed-at-tick-requires : tie.Need-probe-hashed-at-tick-requires
-probe-hashed-at-tick-requires c κs = search needs
-
 returns : tie.Need-returns
 returns c =
     let a = c .before .before .before .before .before .before .before .args in
@@ -16,4 +13,4 @@ returns c =
     (m .ensures, make-probe (setWith (a .cache) areas) (a .arena .now) (a .hash) (a .key .now) (a .now-tick) (m .result) (m .ensures .0))
 
 pub make-probe-spec : {M : Type 1} → statement M
-make-probe-spec = tie.close (tie.spec probe-hashed-at-tick-requires returns)
+make-probe-spec = tie.close (tie.spec (λ c κs. search needs) returns)

@@ -5,18 +5,6 @@ use borrow.Author.Needs.{needs}
 use Rattle.book.proofs.calls.make_push.Statement.{statement}
 use Rattle.book.proofs.calls.make_push.Tie as tie
 
-push-requires : tie.Need-push-requires
-push-requires c κs = search needs
-
-same-length : tie.Need-same-length
-same-length c = search needs
-
-same-length-2 : tie.Need-same-length-2
-same-length-2 c = search needs
-
-same-length-3 : tie.Need-same-length-3
-same-length-3 c = search needs
-
 returns : tie.Need-returns
 returns c =
     let a = c .before .before .before .before .before .before .before .before .before .before .before .before .before .before .before .before .before .args in
@@ -26,4 +14,4 @@ returns c =
     (m .ensures, make-push (a .builder) areas (a .arena .now) (a .hash) (a .key .now) (a .value .now) (a .ttl) (m .result) (left .0) (left .1 .0) (left .1 .1 .0) (m .ensures))
 
 pub make-push-spec : {M : Type 1} → statement M
-make-push-spec = tie.close (tie.spec push-requires same-length same-length-2 same-length-3 returns)
+make-push-spec = tie.close (tie.spec (λ c κs. search needs) (λ c. search needs) (λ c. search needs) (λ c. search needs) returns)

@@ -5,21 +5,6 @@ use borrow.Author.Needs.{needs}
 use Rattle.book.proofs.calls.make_reopen.Statement.{statement}
 use Rattle.book.proofs.calls.make_reopen.Tie as tie
 
-try-new-requires : tie.Need-try-new-requires
-try-new-requires c κs = search needs
-
-same-length : tie.Need-same-length
-same-length c = search needs
-
-same-length-2 : tie.Need-same-length-2
-same-length-2 c = search needs
-
-same-length-3 : tie.Need-same-length-3
-same-length-3 c = search needs
-
-same-length-4 : tie.Need-same-length-4
-same-length-4 c = search needs
-
 returns : tie.Need-returns
 returns c =
     let k = c .before .before .before .before .before .before .before .before in
@@ -36,4 +21,4 @@ returns c =
 pub make-reopen-spec : {M : Type 1} → statement M
 make-reopen-spec =
     tie.close
-    (tie.spec try-new-requires same-length same-length-2 same-length-3 same-length-4 returns)
+    (tie.spec (λ c κs. search needs) (λ c. search needs) (λ c. search needs) (λ c. search needs) (λ c. search needs) returns)

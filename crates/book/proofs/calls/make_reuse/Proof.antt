@@ -5,15 +5,6 @@ use borrow.Author.Needs.{needs}
 use Rattle.book.proofs.calls.make_reuse.Statement.{statement}
 use Rattle.book.proofs.calls.make_reuse.Tie as tie
 
-push-reused-requires : tie.Need-push-reused-requires
-push-reused-requires c κs = search needs
-
-same-length : tie.Need-same-length
-same-length c = search needs
-
-same-length-2 : tie.Need-same-length-2
-same-length-2 c = search needs
-
 returns : tie.Need-returns
 returns c =
     let a = c .before .before .before .before .before .before .before .before .before .before .before .before .before .before .args in
@@ -22,4 +13,4 @@ returns c =
     (m .ensures, make-reuse (a .builder) areas (a .arena .now) (a .hash) (a .key .now) (a .value .now) (a .source) (m .result) (m .last .1 .1 .1 .1 .1 .0) (m .last .1 .1 .1 .1 .1 .1 .0) (m .ensures))
 
 pub make-reuse-spec : {M : Type 1} → statement M
-make-reuse-spec = tie.close (tie.spec push-reused-requires same-length same-length-2 returns)
+make-reuse-spec = tie.close (tie.spec (λ c κs. search needs) (λ c. search needs) (λ c. search needs) returns)

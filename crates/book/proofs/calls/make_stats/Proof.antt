@@ -5,9 +5,6 @@ use borrow.Author.Needs.{needs}
 use Rattle.book.proofs.calls.make_stats.Statement.{statement}
 use Rattle.book.proofs.calls.make_stats.Tie as tie
 
-stats-requires : tie.Need-stats-requires
-stats-requires c κs = search needs
-
 returns : tie.Need-returns
 returns c =
     let a = c .before .before .before .before .before .before .args in
@@ -16,4 +13,4 @@ returns c =
     (m .ensures, make-stats (setWith (a .cache) areas) (a .arena .now) (m .result) (m .ensures))
 
 pub make-stats-spec : {M : Type 1} → statement M
-make-stats-spec = tie.close (tie.spec stats-requires returns)
+make-stats-spec = tie.close (tie.spec (λ c κs. search needs) returns)

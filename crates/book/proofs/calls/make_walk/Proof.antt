@@ -5,9 +5,6 @@ use borrow.Author.Needs.{needs}
 use Rattle.book.proofs.calls.make_walk.Statement.{statement}
 use Rattle.book.proofs.calls.make_walk.Tie as tie
 
-next-physical-entry-at-tick-requires : tie.Need-next-physical-entry-at-tick-requires
-next-physical-entry-at-tick-requires c κs = search needs
-
 returns : tie.Need-returns
 returns c =
     let a = c .before .before .before .before .before .before .args in
@@ -16,4 +13,4 @@ returns c =
     (m .ensures, make-walk (setWith (a .cache) areas) (a .arena .now) (a .from) (a .now-tick) (m .result) (m .ensures .0))
 
 pub make-walk-spec : {M : Type 1} → statement M
-make-walk-spec = tie.close (tie.spec next-physical-entry-at-tick-requires returns)
+make-walk-spec = tie.close (tie.spec (λ c κs. search needs) returns)

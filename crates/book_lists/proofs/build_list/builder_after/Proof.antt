@@ -7,12 +7,6 @@ use borrow.Author.Needs.{needs}
 use Rattle.book_lists.proofs.build_list.builder_after.Statement.{statement}
 use Rattle.book_lists.proofs.build_list.builder_after.Tie as tie
 
-enum-known-pushed : tie.Need-enum-known-pushed
-enum-known-pushed c = search needs
-
-enum-known-pushed-2 : tie.Need-enum-known-pushed-2
-enum-known-pushed-2 c = search needs
-
 returns : tie.Need-returns
 returns c = ap (λ (p : PushAnswer). builderIn (pushReply p)) (sym (c .before .pushed .given .1))
 
@@ -20,4 +14,4 @@ returns-2 : tie.Need-returns-2
 returns-2 c = ap (λ (p : PushAnswer). builderIn (pushReply p)) (sym (c .before .pushed2 .given .1))
 
 pub builder-after-spec : {M : Type 1} → statement M
-builder-after-spec = tie.close (tie.spec enum-known-pushed enum-known-pushed-2 returns returns-2)
+builder-after-spec = tie.close (tie.spec (λ c. search needs) (λ c. search needs) returns returns-2)

@@ -8,33 +8,6 @@ use borrow.Author.Needs.{needs}
 use Rattle.book_lists.proofs.build_list.push_twice.Statement.{statement}
 use Rattle.book_lists.proofs.build_list.push_twice.Tie as tie
 
-make-push-requires : tie.Need-make-push-requires
-make-push-requires c κs = search needs
-
-builder-after-requires : tie.Need-builder-after-requires
-builder-after-requires c κs = search needs
-
-push-once-requires : tie.Need-push-once-requires
-push-once-requires c κs = search needs
-
-same-length : tie.Need-same-length
-same-length c = search needs
-
-same-length-2 : tie.Need-same-length-2
-same-length-2 c = search needs
-
-same-length-3 : tie.Need-same-length-3
-same-length-3 c = search needs
-
-same-length-4 : tie.Need-same-length-4
-same-length-4 c = search needs
-
-same-length-5 : tie.Need-same-length-5
-same-length-5 c = search needs
-
-same-length-6 : tie.Need-same-length-6
-same-length-6 c = search needs
-
 returns : tie.Need-returns
 returns c =
     let k = c .before .before .before .before .before .before .before .before .before .before .before .before in
@@ -51,13 +24,13 @@ pub push-twice-spec : {M : Type 1} → statement M
 push-twice-spec =
     tie.close
     (tie.spec
-    make-push-requires
-    builder-after-requires
-    push-once-requires
-    same-length
-    same-length-2
-    same-length-3
-    same-length-4
-    same-length-5
-    same-length-6
+    (λ c κs. search needs)
+    (λ c κs. search needs)
+    (λ c κs. search needs)
+    (λ c. search needs)
+    (λ c. search needs)
+    (λ c. search needs)
+    (λ c. search needs)
+    (λ c. search needs)
+    (λ c. search needs)
     returns)

@@ -8,33 +8,6 @@ use borrow.Author.Needs.{needs}
 use Rattle.book_lists.proofs.rebuild_list.copy_and_finish.Statement.{statement}
 use Rattle.book_lists.proofs.rebuild_list.copy_and_finish.Tie as tie
 
-make-copy-requires : tie.Need-make-copy-requires
-make-copy-requires c κs = search needs
-
-rebuild-after-requires : tie.Need-rebuild-after-requires
-rebuild-after-requires c κs = search needs
-
-refinish-and-ask-requires : tie.Need-refinish-and-ask-requires
-refinish-and-ask-requires c κs = search needs
-
-same-length : tie.Need-same-length
-same-length c = search needs
-
-same-length-2 : tie.Need-same-length-2
-same-length-2 c = search needs
-
-same-length-3 : tie.Need-same-length-3
-same-length-3 c = search needs
-
-same-length-4 : tie.Need-same-length-4
-same-length-4 c = search needs
-
-same-length-5 : tie.Need-same-length-5
-same-length-5 c = search needs
-
-same-length-6 : tie.Need-same-length-6
-same-length-6 c = search needs
-
 returns : tie.Need-returns
 returns c = λ source.
     let k = c .before .before .before .before .before .before .before .before in
@@ -50,13 +23,13 @@ pub copy-and-finish-spec : {M : Type 1} → statement M
 copy-and-finish-spec =
     tie.close
     (tie.spec
-    make-copy-requires
-    rebuild-after-requires
-    refinish-and-ask-requires
-    same-length
-    same-length-2
-    same-length-3
-    same-length-4
-    same-length-5
-    same-length-6
+    (λ c κs. search needs)
+    (λ c κs. search needs)
+    (λ c κs. search needs)
+    (λ c. search needs)
+    (λ c. search needs)
+    (λ c. search needs)
+    (λ c. search needs)
+    (λ c. search needs)
+    (λ c. search needs)
     returns)

@@ -9,30 +9,6 @@ use borrow.Author.Needs.{needs}
 use Rattle.book_lists.proofs.rebuild_list.rebuild_and_ask.Statement.{statement}
 use Rattle.book_lists.proofs.rebuild_list.rebuild_and_ask.Tie as tie
 
-make-reopen-requires : tie.Need-make-reopen-requires
-make-reopen-requires c κs = search needs
-
-enum-known-builder : tie.Need-enum-known-builder
-enum-known-builder c = search needs
-
-enum-told : tie.Need-enum-told
-enum-told c = search needs
-
-same-length : tie.Need-same-length
-same-length c = search needs
-
-same-length-2 : tie.Need-same-length-2
-same-length-2 c = search needs
-
-same-length-3 : tie.Need-same-length-3
-same-length-3 c = search needs
-
-same-length-4 : tie.Need-same-length-4
-same-length-4 c = search needs
-
-same-length-5 : tie.Need-same-length-5
-same-length-5 c = search needs
-
 returns : tie.Need-returns
 returns c =
     let k = c .before .before .before .before .before .before .before .before .before .before in
@@ -47,28 +23,10 @@ returns c =
     let w = worldOf (a .arena .now) idle (source ∷ []) in
     goes-on calls (reopenLeft w areas) (c .enum-told .given .1) (m .ensures .1 idle (source ∷ []) refl)
 
-reuse-and-copy-requires : tie.Need-reuse-and-copy-requires
-reuse-and-copy-requires c κs = search needs
-
 same-length-6 : tie.Need-same-length-6
 same-length-6 c =
     let k = c .before .before .before .before .before .before .before .before .before .before .before in
     k .index2 .given ∙ k .before .before .before .before .before .before .before .before .before .before .before .before .before .before .before .before .before .before .index .given
-
-same-length-7 : tie.Need-same-length-7
-same-length-7 c = search needs
-
-same-length-8 : tie.Need-same-length-8
-same-length-8 c = search needs
-
-same-length-9 : tie.Need-same-length-9
-same-length-9 c = search needs
-
-same-length-10 : tie.Need-same-length-10
-same-length-10 c = search needs
-
-same-length-11 : tie.Need-same-length-11
-same-length-11 c = search needs
 
 returns-2 : tie.Need-returns-2
 returns-2 c =
@@ -90,20 +48,20 @@ pub rebuild-and-ask-spec : {M : Type 1} → statement M
 rebuild-and-ask-spec =
     tie.close
     (tie.spec
-    make-reopen-requires
-    enum-known-builder
-    enum-told
-    same-length
-    same-length-2
-    same-length-3
-    same-length-4
-    same-length-5
+    (λ c κs. search needs)
+    (λ c. search needs)
+    (λ c. search needs)
+    (λ c. search needs)
+    (λ c. search needs)
+    (λ c. search needs)
+    (λ c. search needs)
+    (λ c. search needs)
     returns
-    reuse-and-copy-requires
+    (λ c κs. search needs)
     same-length-6
-    same-length-7
-    same-length-8
-    same-length-9
-    same-length-10
-    same-length-11
+    (λ c. search needs)
+    (λ c. search needs)
+    (λ c. search needs)
+    (λ c. search needs)
+    (λ c. search needs)
     returns-2)

@@ -9,27 +9,6 @@ use borrow.Author.Needs.{needs}
 use Rattle.book_lists.proofs.rebuild_list.refinish_and_ask.Statement.{statement}
 use Rattle.book_lists.proofs.rebuild_list.refinish_and_ask.Tie as tie
 
-make-refinish-requires : tie.Need-make-refinish-requires
-make-refinish-requires c κs = search needs
-
-enum-known-build : tie.Need-enum-known-build
-enum-known-build c = search needs
-
-enum-told : tie.Need-enum-told
-enum-told c = search needs
-
-same-length : tie.Need-same-length
-same-length c = search needs
-
-same-length-2 : tie.Need-same-length-2
-same-length-2 c = search needs
-
-same-length-3 : tie.Need-same-length-3
-same-length-3 c = search needs
-
-same-length-4 : tie.Need-same-length-4
-same-length-4 c = search needs
-
 returns : tie.Need-returns
 returns c = λ source.
     let k = c .before .before .before .before .before .before .before .before .before .before in
@@ -38,21 +17,6 @@ returns c = λ source.
     let calls = lookup 1 (a .asked-key .now) (a .asked-hash) (a .now-tick) ∷ [] in
     let areas = areasOf (m .last .1 .0) (a .filter .now) (m .last .1 .1 .1 .0) (m .last .1 .1 .1 .1 .0) in
     goes-on calls (refinishLeft (source ∷ []) (a .arena .now) areas) (c .enum-told .given .1) (m .ensures .1 (source ∷ []))
-
-ask-requires : tie.Need-ask-requires
-ask-requires c κs = search needs
-
-same-length-5 : tie.Need-same-length-5
-same-length-5 c = search needs
-
-same-length-6 : tie.Need-same-length-6
-same-length-6 c = search needs
-
-same-length-7 : tie.Need-same-length-7
-same-length-7 c = search needs
-
-same-length-8 : tie.Need-same-length-8
-same-length-8 c = search needs
 
 returns-2 : tie.Need-returns-2
 returns-2 c = λ source.
@@ -69,17 +33,17 @@ pub refinish-and-ask-spec : {M : Type 1} → statement M
 refinish-and-ask-spec =
     tie.close
     (tie.spec
-    make-refinish-requires
-    enum-known-build
-    enum-told
-    same-length
-    same-length-2
-    same-length-3
-    same-length-4
+    (λ c κs. search needs)
+    (λ c. search needs)
+    (λ c. search needs)
+    (λ c. search needs)
+    (λ c. search needs)
+    (λ c. search needs)
+    (λ c. search needs)
     returns
-    ask-requires
-    same-length-5
-    same-length-6
-    same-length-7
-    same-length-8
+    (λ c κs. search needs)
+    (λ c. search needs)
+    (λ c. search needs)
+    (λ c. search needs)
+    (λ c. search needs)
     returns-2)

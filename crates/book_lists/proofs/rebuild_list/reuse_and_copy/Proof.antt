@@ -8,33 +8,6 @@ use borrow.Author.Needs.{needs}
 use Rattle.book_lists.proofs.rebuild_list.reuse_and_copy.Statement.{statement}
 use Rattle.book_lists.proofs.rebuild_list.reuse_and_copy.Tie as tie
 
-make-reuse-requires : tie.Need-make-reuse-requires
-make-reuse-requires c κs = search needs
-
-rebuild-after-requires : tie.Need-rebuild-after-requires
-rebuild-after-requires c κs = search needs
-
-copy-and-finish-requires : tie.Need-copy-and-finish-requires
-copy-and-finish-requires c κs = search needs
-
-same-length : tie.Need-same-length
-same-length c = search needs
-
-same-length-2 : tie.Need-same-length-2
-same-length-2 c = search needs
-
-same-length-3 : tie.Need-same-length-3
-same-length-3 c = search needs
-
-same-length-4 : tie.Need-same-length-4
-same-length-4 c = search needs
-
-same-length-5 : tie.Need-same-length-5
-same-length-5 c = search needs
-
-same-length-6 : tie.Need-same-length-6
-same-length-6 c = search needs
-
 returns : tie.Need-returns
 returns c = λ source.
     let k = c .before .before .before .before .before .before .before .before .before .before .before .before in
@@ -51,13 +24,13 @@ pub reuse-and-copy-spec : {M : Type 1} → statement M
 reuse-and-copy-spec =
     tie.close
     (tie.spec
-    make-reuse-requires
-    rebuild-after-requires
-    copy-and-finish-requires
-    same-length
-    same-length-2
-    same-length-3
-    same-length-4
-    same-length-5
-    same-length-6
+    (λ c κs. search needs)
+    (λ c κs. search needs)
+    (λ c κs. search needs)
+    (λ c. search needs)
+    (λ c. search needs)
+    (λ c. search needs)
+    (λ c. search needs)
+    (λ c. search needs)
+    (λ c. search needs)
     returns)

@@ -5,41 +5,8 @@ use borrow.Author.Needs.{needs}
 use Rattle.capi.proofs.answers.tell_get.Statement.{statement}
 use Rattle.capi.proofs.answers.tell_get.Tie as tie
 
-enum-known-answer : tie.Need-enum-known-answer
-enum-known-answer c = search needs
-
-slice-aggregate-copy-words : tie.Need-slice-aggregate-copy-words
-slice-aggregate-copy-words c = search needs
-
-copy-words-requires : tie.Need-copy-words-requires
-copy-words-requires c κs = search needs
-
-enum-told : tie.Need-enum-told
-enum-told c = search needs
-
-slice-aggregate-copy-words-2 : tie.Need-slice-aggregate-copy-words-2
-slice-aggregate-copy-words-2 c = search needs
-
-copy-words-requires-2 : tie.Need-copy-words-requires-2
-copy-words-requires-2 c κs = search needs
-
-enum-known-answer-2 : tie.Need-enum-known-answer-2
-enum-known-answer-2 c = search needs
-
-number-requires : tie.Need-number-requires
-number-requires c κs = search needs
-
-cast-result : tie.Need-cast-result
-cast-result c = search needs
-
-same-length : tie.Need-same-length
-same-length c = search needs
-
 returns : tie.Need-returns
 returns c = rw (c .before .before .before .before .before .before .answer .given .1) (ap (told 0) (c .before .before .copy-words .ensures))
-
-same-length-2 : tie.Need-same-length-2
-same-length-2 c = search needs
 
 returns-2 : tie.Need-returns-2
 returns-2 c = rw (c .before .before .before .before .before .enum-told .given .1) (ap (told 0) (c .before .before .copy-words2 .ensures))
@@ -51,17 +18,17 @@ pub tell-get-spec : {M : Type 1} → statement M
 tell-get-spec =
     tie.close
     (tie.spec
-    enum-known-answer
-    slice-aggregate-copy-words
-    copy-words-requires
-    enum-told
-    slice-aggregate-copy-words-2
-    copy-words-requires-2
-    enum-known-answer-2
-    number-requires
-    cast-result
-    same-length
+    (λ c. search needs)
+    (λ c. search needs)
+    (λ c κs. search needs)
+    (λ c. search needs)
+    (λ c. search needs)
+    (λ c κs. search needs)
+    (λ c. search needs)
+    (λ c κs. search needs)
+    (λ c. search needs)
+    (λ c. search needs)
     returns
-    same-length-2
+    (λ c. search needs)
     returns-2
     returns-3)

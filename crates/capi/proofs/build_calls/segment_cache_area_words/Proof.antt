@@ -10,27 +10,9 @@ returns : tie.Need-returns
 unfolding exportedAreaWords
 returns c = rw (ne-eqb _ _ (c .if1 .taken))
 
-load-setting-requires : tie.Need-load-setting-requires
-load-setting-requires c κs = search needs
-
-enum-known-config : tie.Need-enum-known-config
-enum-known-config c = search needs
-
-enum-told : tie.Need-enum-told
-enum-told c = search needs
-
 returns-2 : tie.Need-returns-2
 unfolding exportedAreaWords
 returns-2 c = rw (eq-eqb _ _ (c .before .before .before .if1 .left), sym (c .before .before .load-setting .ensures) ∙ c .enum-told .given .1)
-
-area-words-requires : tie.Need-area-words-requires
-area-words-requires c κs = search needs
-
-tell-area-words-requires : tie.Need-tell-area-words-requires
-tell-area-words-requires c κs = search needs
-
-same-length : tie.Need-same-length
-same-length c = search needs
 
 returns-3 : tie.Need-returns-3
 unfolding exportedAreaWords
@@ -47,11 +29,11 @@ segment-cache-area-words-spec =
     tie.close
     (tie.spec
     returns
-    load-setting-requires
-    enum-known-config
-    enum-told
+    (λ c κs. search needs)
+    (λ c. search needs)
+    (λ c. search needs)
     returns-2
-    area-words-requires
-    tell-area-words-requires
-    same-length
+    (λ c κs. search needs)
+    (λ c κs. search needs)
+    (λ c. search needs)
     returns-3)

@@ -35,15 +35,6 @@ returns : tie.Need-returns
 unfolding exportedSize
 returns c = rw (ne-eqb _ _ (c .if1 .taken))
 
-load-setting-requires : tie.Need-load-setting-requires
-load-setting-requires c κs = search needs
-
-enum-known-config : tie.Need-enum-known-config
-enum-known-config c = search needs
-
-enum-told : tie.Need-enum-told
-enum-told c = search needs
-
 returns-2 : tie.Need-returns-2
 unfolding exportedSize
 returns-2 c = rw (eq-eqb _ _ (c .before .before .before .if1 .left), sym (c .before .before .load-setting .ensures) ∙ c .enum-told .given .1)
@@ -59,15 +50,6 @@ returns-3 c =
     let length-is = eq-eqb _ _ (c .before .before .before .before .before .before .if1 .left) in
     let loaded = sym (c .before .before .before .before .before .load-setting .ensures) ∙ c .before .before .before .config .given .1 in
     rw (length-is, loaded, ← (c .before .width-refusal .ensures)) (refuses (c .before .width-refusal .result) _ _ (c .if2 .taken))
-
-encoded-record-bytes-requires : tie.Need-encoded-record-bytes-requires
-encoded-record-bytes-requires c κs = search needs
-
-tell-size-requires : tie.Need-tell-size-requires
-tell-size-requires c κs = search needs
-
-same-length : tie.Need-same-length
-same-length c = search needs
 
 returns-4 : tie.Need-returns-4
 unfolding exportedSize
@@ -90,13 +72,13 @@ segment-cache-encoded-record-bytes-spec =
     tie.close
     (tie.spec
     returns
-    load-setting-requires
-    enum-known-config
-    enum-told
+    (λ c κs. search needs)
+    (λ c. search needs)
+    (λ c. search needs)
     returns-2
     width-refusal-requires
     returns-3
-    encoded-record-bytes-requires
-    tell-size-requires
-    same-length
+    (λ c κs. search needs)
+    (λ c κs. search needs)
+    (λ c. search needs)
     returns-4)

@@ -10,39 +10,9 @@ returns : tie.Need-returns
 unfolding exportedFinish
 returns c = rw (ne-eqb _ _ (c .if1 .taken))
 
-load-builder-requires : tie.Need-load-builder-requires
-load-builder-requires c κs = search needs
-
-enum-known-state : tie.Need-enum-known-state
-enum-known-state c = search needs
-
-enum-told : tie.Need-enum-told
-enum-told c = search needs
-
 returns-2 : tie.Need-returns-2
 unfolding exportedFinish
 returns-2 c = rw (eq-eqb _ _ (c .before .before .before .if1 .left), sym (c .before .before .load-builder .ensures) ∙ c .enum-told .given .1)
-
-finish-requires : tie.Need-finish-requires
-finish-requires c κs = search needs
-
-tell-finish-requires : tie.Need-tell-finish-requires
-tell-finish-requires c κs = search needs
-
-same-length : tie.Need-same-length
-same-length c = search needs
-
-same-length-2 : tie.Need-same-length-2
-same-length-2 c = search needs
-
-same-length-3 : tie.Need-same-length-3
-same-length-3 c = search needs
-
-same-length-4 : tie.Need-same-length-4
-same-length-4 c = search needs
-
-same-length-5 : tie.Need-same-length-5
-same-length-5 c = search needs
 
 returns-3 : tie.Need-returns-3
 unfolding exportedFinish
@@ -59,15 +29,15 @@ segment-cache-finish-spec =
     tie.close
     (tie.spec
     returns
-    load-builder-requires
-    enum-known-state
-    enum-told
+    (λ c κs. search needs)
+    (λ c. search needs)
+    (λ c. search needs)
     returns-2
-    finish-requires
-    tell-finish-requires
-    same-length
-    same-length-2
-    same-length-3
-    same-length-4
-    same-length-5
+    (λ c κs. search needs)
+    (λ c κs. search needs)
+    (λ c. search needs)
+    (λ c. search needs)
+    (λ c. search needs)
+    (λ c. search needs)
+    (λ c. search needs)
     returns-3)

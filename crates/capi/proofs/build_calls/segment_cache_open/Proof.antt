@@ -10,33 +10,9 @@ returns : tie.Need-returns
 unfolding exportedOpen
 returns c = rw (ne-eqb _ _ (c .if1 .taken))
 
-load-setting-requires : tie.Need-load-setting-requires
-load-setting-requires c κs = search needs
-
-enum-known-config : tie.Need-enum-known-config
-enum-known-config c = search needs
-
-enum-told : tie.Need-enum-told
-enum-told c = search needs
-
 returns-2 : tie.Need-returns-2
 unfolding exportedOpen
 returns-2 c = rw (eq-eqb _ _ (c .before .before .before .if1 .left), sym (c .before .before .load-setting .ensures) ∙ c .enum-told .given .1)
-
-try-new-requires : tie.Need-try-new-requires
-try-new-requires c κs = search needs
-
-tell-open-requires : tie.Need-tell-open-requires
-tell-open-requires c κs = search needs
-
-same-length : tie.Need-same-length
-same-length c = search needs
-
-same-length-2 : tie.Need-same-length-2
-same-length-2 c = search needs
-
-same-length-3 : tie.Need-same-length-3
-same-length-3 c = search needs
 
 returns-3 : tie.Need-returns-3
 unfolding exportedOpen
@@ -53,13 +29,13 @@ segment-cache-open-spec =
     tie.close
     (tie.spec
     returns
-    load-setting-requires
-    enum-known-config
-    enum-told
+    (λ c κs. search needs)
+    (λ c. search needs)
+    (λ c. search needs)
     returns-2
-    try-new-requires
-    tell-open-requires
-    same-length
-    same-length-2
-    same-length-3
+    (λ c κs. search needs)
+    (λ c κs. search needs)
+    (λ c. search needs)
+    (λ c. search needs)
+    (λ c. search needs)
     returns-3)

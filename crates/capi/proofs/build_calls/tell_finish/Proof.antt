@@ -5,24 +5,6 @@ use borrow.Author.Needs.{needs}
 use Rattle.capi.proofs.build_calls.tell_finish.Statement.{statement}
 use Rattle.capi.proofs.build_calls.tell_finish.Tie as tie
 
-enum-known-answer : tie.Need-enum-known-answer
-enum-known-answer c = search needs
-
-store-set-requires : tie.Need-store-set-requires
-store-set-requires c κs = search needs
-
-enum-known-answer-2 : tie.Need-enum-known-answer-2
-enum-known-answer-2 c = search needs
-
-number-requires : tie.Need-number-requires
-number-requires c κs = search needs
-
-cast-result : tie.Need-cast-result
-cast-result c = search needs
-
-same-length : tie.Need-same-length
-same-length c = search needs
-
 returns : tie.Need-returns
 returns c = rw (c .before .before .before .before .before .answer .given .1) (ap (told 0) (c .before .before .store-set .ensures))
 
@@ -33,11 +15,11 @@ pub tell-finish-spec : {M : Type 1} → statement M
 tell-finish-spec =
     tie.close
     (tie.spec
-    enum-known-answer
-    store-set-requires
-    enum-known-answer-2
-    number-requires
-    cast-result
-    same-length
+    (λ c. search needs)
+    (λ c κs. search needs)
+    (λ c. search needs)
+    (λ c κs. search needs)
+    (λ c. search needs)
+    (λ c. search needs)
     returns
     returns-2)

@@ -5,24 +5,6 @@ use borrow.Author.Needs.{needs}
 use Rattle.capi.proofs.build_calls.tell_open.Statement.{statement}
 use Rattle.capi.proofs.build_calls.tell_open.Tie as tie
 
-enum-known-answer : tie.Need-enum-known-answer
-enum-known-answer c = search needs
-
-store-builder-requires : tie.Need-store-builder-requires
-store-builder-requires c κs = search needs
-
-enum-known-answer-2 : tie.Need-enum-known-answer-2
-enum-known-answer-2 c = search needs
-
-number-requires : tie.Need-number-requires
-number-requires c κs = search needs
-
-cast-result : tie.Need-cast-result
-cast-result c = search needs
-
-same-length : tie.Need-same-length
-same-length c = search needs
-
 returns : tie.Need-returns
 returns c = rw (c .before .before .before .before .before .answer .given .1) (ap (told 0) (c .before .before .store-builder .ensures))
 
@@ -33,11 +15,11 @@ pub tell-open-spec : {M : Type 1} → statement M
 tell-open-spec =
     tie.close
     (tie.spec
-    enum-known-answer
-    store-builder-requires
-    enum-known-answer-2
-    number-requires
-    cast-result
-    same-length
+    (λ c. search needs)
+    (λ c κs. search needs)
+    (λ c. search needs)
+    (λ c κs. search needs)
+    (λ c. search needs)
+    (λ c. search needs)
     returns
     returns-2)

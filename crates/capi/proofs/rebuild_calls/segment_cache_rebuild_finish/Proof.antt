@@ -14,15 +14,6 @@ returns-2 : tie.Need-returns-2
 unfolding exportedRebuildFinish
 returns-2 c = rw (eq-eqb _ _ (c .before .if1 .left), ne-eqb _ _ (c .if2 .taken))
 
-load-rebuild-requires : tie.Need-load-rebuild-requires
-load-rebuild-requires c κs = search needs
-
-enum-known-state : tie.Need-enum-known-state
-enum-known-state c = search needs
-
-enum-told : tie.Need-enum-told
-enum-told c = search needs
-
 returns-3 : tie.Need-returns-3
 unfolding exportedRebuildFinish
 returns-3 c =
@@ -30,30 +21,6 @@ returns-3 c =
     let test₂ = load .before in
     let test = test₂ .before in
     rw (eq-eqb _ _ (test .if1 .left), eq-eqb _ _ (test₂ .if2 .left), sym (load .load-rebuild .ensures) ∙ c .enum-told .given .1)
-
-finish-requires : tie.Need-finish-requires
-finish-requires c κs = search needs
-
-tell-rebuild-finish-requires : tie.Need-tell-rebuild-finish-requires
-tell-rebuild-finish-requires c κs = search needs
-
-same-length : tie.Need-same-length
-same-length c = search needs
-
-same-length-2 : tie.Need-same-length-2
-same-length-2 c = search needs
-
-same-length-3 : tie.Need-same-length-3
-same-length-3 c = search needs
-
-same-length-4 : tie.Need-same-length-4
-same-length-4 c = search needs
-
-same-length-5 : tie.Need-same-length-5
-same-length-5 c = search needs
-
-same-length-6 : tie.Need-same-length-6
-same-length-6 c = search needs
 
 returns-4 : tie.Need-returns-4
 unfolding exportedRebuildFinish
@@ -77,16 +44,16 @@ segment-cache-rebuild-finish-spec =
     (tie.spec
     returns
     returns-2
-    load-rebuild-requires
-    enum-known-state
-    enum-told
+    (λ c κs. search needs)
+    (λ c. search needs)
+    (λ c. search needs)
     returns-3
-    finish-requires
-    tell-rebuild-finish-requires
-    same-length
-    same-length-2
-    same-length-3
-    same-length-4
-    same-length-5
-    same-length-6
+    (λ c κs. search needs)
+    (λ c κs. search needs)
+    (λ c. search needs)
+    (λ c. search needs)
+    (λ c. search needs)
+    (λ c. search needs)
+    (λ c. search needs)
+    (λ c. search needs)
     returns-4)

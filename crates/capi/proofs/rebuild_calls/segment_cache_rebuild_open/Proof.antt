@@ -10,39 +10,9 @@ returns : tie.Need-returns
 unfolding exportedRebuildOpen
 returns c = rw (ne-eqb _ _ (c .if1 .taken))
 
-load-set-requires : tie.Need-load-set-requires
-load-set-requires c κs = search needs
-
-enum-known-source : tie.Need-enum-known-source
-enum-known-source c = search needs
-
-enum-told : tie.Need-enum-told
-enum-told c = search needs
-
 returns-2 : tie.Need-returns-2
 unfolding exportedRebuildOpen
 returns-2 c = rw (eq-eqb _ _ (c .before .before .before .if1 .left), sym (c .before .before .load-set .ensures) ∙ c .enum-told .given .1)
-
-try-new-requires : tie.Need-try-new-requires
-try-new-requires c κs = search needs
-
-tell-rebuild-open-requires : tie.Need-tell-rebuild-open-requires
-tell-rebuild-open-requires c κs = search needs
-
-same-length : tie.Need-same-length
-same-length c = search needs
-
-same-length-2 : tie.Need-same-length-2
-same-length-2 c = search needs
-
-same-length-3 : tie.Need-same-length-3
-same-length-3 c = search needs
-
-same-length-4 : tie.Need-same-length-4
-same-length-4 c = search needs
-
-same-length-5 : tie.Need-same-length-5
-same-length-5 c = search needs
 
 returns-3 : tie.Need-returns-3
 unfolding exportedRebuildOpen
@@ -58,15 +28,15 @@ segment-cache-rebuild-open-spec =
     tie.close
     (tie.spec
     returns
-    load-set-requires
-    enum-known-source
-    enum-told
+    (λ c κs. search needs)
+    (λ c. search needs)
+    (λ c. search needs)
     returns-2
-    try-new-requires
-    tell-rebuild-open-requires
-    same-length
-    same-length-2
-    same-length-3
-    same-length-4
-    same-length-5
+    (λ c κs. search needs)
+    (λ c κs. search needs)
+    (λ c. search needs)
+    (λ c. search needs)
+    (λ c. search needs)
+    (λ c. search needs)
+    (λ c. search needs)
     returns-3)

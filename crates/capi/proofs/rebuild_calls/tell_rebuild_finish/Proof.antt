@@ -5,33 +5,6 @@ use borrow.Author.Needs.{needs}
 use Rattle.capi.proofs.rebuild_calls.tell_rebuild_finish.Statement.{statement}
 use Rattle.capi.proofs.rebuild_calls.tell_rebuild_finish.Tie as tie
 
-enum-known-answer : tie.Need-enum-known-answer
-enum-known-answer c = search needs
-
-store-set-requires : tie.Need-store-set-requires
-store-set-requires c κs = search needs
-
-slice-aggregate-copy-words : tie.Need-slice-aggregate-copy-words
-slice-aggregate-copy-words c = search needs
-
-copy-words-requires : tie.Need-copy-words-requires
-copy-words-requires c κs = search needs
-
-enum-known-answer-2 : tie.Need-enum-known-answer-2
-enum-known-answer-2 c = search needs
-
-number-requires : tie.Need-number-requires
-number-requires c κs = search needs
-
-cast-result : tie.Need-cast-result
-cast-result c = search needs
-
-same-length : tie.Need-same-length
-same-length c = search needs
-
-same-length-2 : tie.Need-same-length-2
-same-length-2 c = search needs
-
 returns : tie.Need-returns
 returns c =
     let totals = c .before .before in
@@ -45,14 +18,14 @@ pub tell-rebuild-finish-spec : {M : Type 1} → statement M
 tell-rebuild-finish-spec =
     tie.close
     (tie.spec
-    enum-known-answer
-    store-set-requires
-    slice-aggregate-copy-words
-    copy-words-requires
-    enum-known-answer-2
-    number-requires
-    cast-result
-    same-length
-    same-length-2
+    (λ c. search needs)
+    (λ c κs. search needs)
+    (λ c. search needs)
+    (λ c κs. search needs)
+    (λ c. search needs)
+    (λ c κs. search needs)
+    (λ c. search needs)
+    (λ c. search needs)
+    (λ c. search needs)
     returns
     returns-2)

@@ -3,27 +3,6 @@ use borrow.Author.Needs.{needs}
 use Rattle.capi.proofs.stats_calls.number_of.Statement.{statement}
 use Rattle.capi.proofs.stats_calls.number_of.Tie as tie
 
-enum-told : tie.Need-enum-told
-enum-told c = search needs
-
-modeled-retained-bytes-requires : tie.Need-modeled-retained-bytes-requires
-modeled-retained-bytes-requires c κs = search needs
-
-enum-told-2 : tie.Need-enum-told-2
-enum-told-2 c = search needs
-
-modeled-overhead-bytes-requires : tie.Need-modeled-overhead-bytes-requires
-modeled-overhead-bytes-requires c κs = search needs
-
-enum-told-3 : tie.Need-enum-told-3
-enum-told-3 c = search needs
-
-index-load-bps-requires : tie.Need-index-load-bps-requires
-index-load-bps-requires c κs = search needs
-
-cast-result : tie.Need-cast-result
-cast-result c = search needs
-
 returns : tie.Need-returns
 returns c = rw (c .before .enum-told .given .1) (c .modeled-retained-bytes .ensures)
 
@@ -37,13 +16,13 @@ pub number-of-spec : {M : Type 1} → statement M
 number-of-spec =
     tie.close
     (tie.spec
-    enum-told
-    modeled-retained-bytes-requires
-    enum-told-2
-    modeled-overhead-bytes-requires
-    enum-told-3
-    index-load-bps-requires
-    cast-result
+    (λ c. search needs)
+    (λ c κs. search needs)
+    (λ c. search needs)
+    (λ c κs. search needs)
+    (λ c. search needs)
+    (λ c κs. search needs)
+    (λ c. search needs)
     returns
     returns-2
     returns-3)

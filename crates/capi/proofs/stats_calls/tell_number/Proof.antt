@@ -12,30 +12,9 @@ returns : tie.Need-returns
 unfolding exportedNumber
 returns c = rw (ne-eqb _ _ (c .if1 .taken))
 
-load-stats-requires : tie.Need-load-stats-requires
-load-stats-requires c κs = search needs
-
-enum-known-state : tie.Need-enum-known-state
-enum-known-state c = search needs
-
-enum-told : tie.Need-enum-told
-enum-told c = search needs
-
 returns-2 : tie.Need-returns-2
 unfolding exportedNumber
 returns-2 c = rw (eq-eqb _ _ (c .before .before .before .if1 .left), sym (c .before .before .load-stats .ensures) ∙ c .enum-told .given .1)
-
-number-of-requires : tie.Need-number-of-requires
-number-of-requires c κs = search needs
-
-slice-aggregate-copy-words : tie.Need-slice-aggregate-copy-words
-slice-aggregate-copy-words c = search needs
-
-copy-words-requires : tie.Need-copy-words-requires
-copy-words-requires c κs = search needs
-
-same-length : tie.Need-same-length
-same-length c = search needs
 
 returns-3 : tie.Need-returns-3
 unfolding exportedNumber
@@ -52,12 +31,12 @@ tell-number-spec =
     tie.close
     (tie.spec
     returns
-    load-stats-requires
-    enum-known-state
-    enum-told
+    (λ c κs. search needs)
+    (λ c. search needs)
+    (λ c. search needs)
     returns-2
-    number-of-requires
-    slice-aggregate-copy-words
-    copy-words-requires
-    same-length
+    (λ c κs. search needs)
+    (λ c. search needs)
+    (λ c κs. search needs)
+    (λ c. search needs)
     returns-3)

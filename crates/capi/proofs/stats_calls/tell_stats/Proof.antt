@@ -5,27 +5,6 @@ use borrow.Author.Needs.{needs}
 use Rattle.capi.proofs.stats_calls.tell_stats.Statement.{statement}
 use Rattle.capi.proofs.stats_calls.tell_stats.Tie as tie
 
-enum-known-answer : tie.Need-enum-known-answer
-enum-known-answer c = search needs
-
-slice-aggregate-copy-words : tie.Need-slice-aggregate-copy-words
-slice-aggregate-copy-words c = search needs
-
-copy-words-requires : tie.Need-copy-words-requires
-copy-words-requires c κs = search needs
-
-enum-known-answer-2 : tie.Need-enum-known-answer-2
-enum-known-answer-2 c = search needs
-
-number-requires : tie.Need-number-requires
-number-requires c κs = search needs
-
-cast-result : tie.Need-cast-result
-cast-result c = search needs
-
-same-length : tie.Need-same-length
-same-length c = search needs
-
 returns : tie.Need-returns
 returns c = rw (c .before .before .before .before .before .before .answer .given .1) (ap (told 0) (c .before .before .copy-words .ensures))
 
@@ -36,12 +15,12 @@ pub tell-stats-spec : {M : Type 1} → statement M
 tell-stats-spec =
     tie.close
     (tie.spec
-    enum-known-answer
-    slice-aggregate-copy-words
-    copy-words-requires
-    enum-known-answer-2
-    number-requires
-    cast-result
-    same-length
+    (λ c. search needs)
+    (λ c. search needs)
+    (λ c κs. search needs)
+    (λ c. search needs)
+    (λ c κs. search needs)
+    (λ c. search needs)
+    (λ c. search needs)
     returns
     returns-2)

@@ -5,15 +5,6 @@ use borrow.Author.Needs.{needs}
 use Rattle.capi.proofs.words.front_setting.Statement.{statement}
 use Rattle.capi.proofs.words.front_setting.Tie as tie
 
-shared-slice-read-flag : tie.Need-shared-slice-read-flag
-shared-slice-read-flag c = search needs
-
-shared-slice-read-packed : tie.Need-shared-slice-read-packed
-shared-slice-read-packed c = search needs
-
-shared-slice-read-bits : tie.Need-shared-slice-read-bits
-shared-slice-read-bits c = search needs
-
 returns : tie.Need-returns
 unfolding settingIn settingForm
 returns c = rw (lt-leb _ _ (c .if1 .taken))
@@ -25,27 +16,6 @@ returns-2 c = rw (le-leb _ _ (c .before .if1 .left), lt-leb _ _ (c .if2 .taken))
 returns-3 : tie.Need-returns-3
 unfolding settingIn settingForm
 returns-3 c = rw (le-leb _ _ (c .before .before .if1 .left), le-leb _ _ (c .before .if2 .left), lt-leb _ _ (c .if3 .taken))
-
-shared-slice-read-capped-nanos : tie.Need-shared-slice-read-capped-nanos
-shared-slice-read-capped-nanos c = search needs
-
-capped-nanos-requires : tie.Need-capped-nanos-requires
-capped-nanos-requires c κs = search needs
-
-shared-slice-read-expiry-of : tie.Need-shared-slice-read-expiry-of
-shared-slice-read-expiry-of c = search needs
-
-expiry-of-requires : tie.Need-expiry-of-requires
-expiry-of-requires c κs = search needs
-
-shared-slice-read-capped-occupancy : tie.Need-shared-slice-read-capped-occupancy
-shared-slice-read-capped-occupancy c = search needs
-
-capped-occupancy-requires : tie.Need-capped-occupancy-requires
-capped-occupancy-requires c κs = search needs
-
-cast-t16 : tie.Need-cast-t16
-cast-t16 c = search needs
 
 returns-4 : tie.Need-returns-4
 unfolding settingIn settingForm
@@ -61,17 +31,17 @@ pub front-setting-spec : {M : Type 1} → statement M
 front-setting-spec =
     tie.close
     (tie.spec
-    shared-slice-read-flag
-    shared-slice-read-packed
-    shared-slice-read-bits
+    (λ c. search needs)
+    (λ c. search needs)
+    (λ c. search needs)
     returns
     returns-2
     returns-3
-    shared-slice-read-capped-nanos
-    capped-nanos-requires
-    shared-slice-read-expiry-of
-    expiry-of-requires
-    shared-slice-read-capped-occupancy
-    capped-occupancy-requires
-    cast-t16
+    (λ c. search needs)
+    (λ c κs. search needs)
+    (λ c. search needs)
+    (λ c κs. search needs)
+    (λ c. search needs)
+    (λ c κs. search needs)
+    (λ c. search needs)
     returns-4)

@@ -14,15 +14,6 @@ returns-2 : tie.Need-returns-2
 unfolding lifetimeIn
 returns-2 c = rw (ne-eqb _ _ (c .before .if1 .left), ne-eqb _ _ (c .if2 .taken))
 
-shared-slice-read-secs : tie.Need-shared-slice-read-secs
-shared-slice-read-secs c = search needs
-
-shared-slice-read-capped-nanos : tie.Need-shared-slice-read-capped-nanos
-shared-slice-read-capped-nanos c = search needs
-
-capped-nanos-requires : tie.Need-capped-nanos-requires
-capped-nanos-requires c κs = search needs
-
 returns-3 : tie.Need-returns-3
 unfolding lifetimeIn
 returns-3 c = rw (ne-eqb _ _ (c .before .before .before .before .if1 .left), eq-eqb _ _ (c .before .before .before .if2 .left), sym (c .capped-nanos .ensures))
@@ -33,7 +24,7 @@ load-lifetime-spec =
     (tie.spec
     returns
     returns-2
-    shared-slice-read-secs
-    shared-slice-read-capped-nanos
-    capped-nanos-requires
+    (λ c. search needs)
+    (λ c. search needs)
+    (λ c κs. search needs)
     returns-3)

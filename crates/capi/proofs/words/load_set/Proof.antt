@@ -10,45 +10,9 @@ returns : tie.Need-returns
 unfolding setIn
 returns c = rw (ne-eqb _ _ (c .if1 .taken))
 
-front-setting-requires : tie.Need-front-setting-requires
-front-setting-requires c κs = search needs
-
-enum-known-config : tie.Need-enum-known-config
-enum-known-config c = search needs
-
-enum-told : tie.Need-enum-told
-enum-told c = search needs
-
 returns-2 : tie.Need-returns-2
 unfolding setIn
 returns-2 c = rw (eq-eqb _ _ (c .before .before .before .if1 .left), sym (c .before .before .front-setting .ensures) ∙ c .enum-told .given .1)
-
-shared-slice-read-t7 : tie.Need-shared-slice-read-t7
-shared-slice-read-t7 c = search needs
-
-shared-slice-read-t9 : tie.Need-shared-slice-read-t9
-shared-slice-read-t9 c = search needs
-
-shared-slice-read-t12 : tie.Need-shared-slice-read-t12
-shared-slice-read-t12 c = search needs
-
-shared-slice-read-t15 : tie.Need-shared-slice-read-t15
-shared-slice-read-t15 c = search needs
-
-shared-slice-read-t18 : tie.Need-shared-slice-read-t18
-shared-slice-read-t18 c = search needs
-
-shared-slice-read-t21 : tie.Need-shared-slice-read-t21
-shared-slice-read-t21 c = search needs
-
-shared-slice-read-t24 : tie.Need-shared-slice-read-t24
-shared-slice-read-t24 c = search needs
-
-shared-slice-read-t27 : tie.Need-shared-slice-read-t27
-shared-slice-read-t27 c = search needs
-
-shared-slice-read-t30 : tie.Need-shared-slice-read-t30
-shared-slice-read-t30 c = search needs
 
 returns-3 : tie.Need-returns-3
 unfolding setIn
@@ -63,17 +27,17 @@ load-set-spec =
     tie.close
     (tie.spec
     returns
-    front-setting-requires
-    enum-known-config
-    enum-told
+    (λ c κs. search needs)
+    (λ c. search needs)
+    (λ c. search needs)
     returns-2
-    shared-slice-read-t7
-    shared-slice-read-t9
-    shared-slice-read-t12
-    shared-slice-read-t15
-    shared-slice-read-t18
-    shared-slice-read-t21
-    shared-slice-read-t24
-    shared-slice-read-t27
-    shared-slice-read-t30
+    (λ c. search needs)
+    (λ c. search needs)
+    (λ c. search needs)
+    (λ c. search needs)
+    (λ c. search needs)
+    (λ c. search needs)
+    (λ c. search needs)
+    (λ c. search needs)
+    (λ c. search needs)
     returns-3)

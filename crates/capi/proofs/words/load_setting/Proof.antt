@@ -9,12 +9,9 @@ returns : tie.Need-returns
 unfolding settingAlone
 returns c = rw (ne-eqb _ _ (c .if1 .taken))
 
-front-setting-requires : tie.Need-front-setting-requires
-front-setting-requires c κs = search needs
-
 returns-2 : tie.Need-returns-2
 unfolding settingAlone
 returns-2 c = rw (eq-eqb _ _ (c .before .if1 .left)) (c .front-setting .ensures)
 
 pub load-setting-spec : {M : Type 1} → statement M
-load-setting-spec = tie.close (tie.spec returns front-setting-requires returns-2)
+load-setting-spec = tie.close (tie.spec returns (λ c κs. search needs) returns-2)

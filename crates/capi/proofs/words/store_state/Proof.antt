@@ -8,52 +8,10 @@ use borrow.Author.Needs.{needs}
 use Rattle.capi.proofs.words.store_state.Statement.{statement}
 use Rattle.capi.proofs.words.store_state.Tie as tie
 
-add-if1 : tie.Need-add-if1
-add-if1 c = search needs
-
 returns : tie.Need-returns
 returns c =
     let a = c .before .before .before .args in
     sym (stored-out (settingBefore (a .config) (a .rest .now)) (a .out .now) (omega arith))
-
-expiry-flag-requires : tie.Need-expiry-flag-requires
-expiry-flag-requires c κs = search needs
-
-tick-secs-requires : tie.Need-tick-secs-requires
-tick-secs-requires c κs = search needs
-
-tick-nanos-requires : tie.Need-tick-nanos-requires
-tick-nanos-requires c κs = search needs
-
-flag-of-requires : tie.Need-flag-of-requires
-flag-of-requires c κs = search needs
-
-cast-t17 : tie.Need-cast-t17
-cast-t17 c = search needs
-
-cast-t18 : tie.Need-cast-t18
-cast-t18 c = search needs
-
-slice-aggregate-copy-words : tie.Need-slice-aggregate-copy-words
-slice-aggregate-copy-words c = search needs
-
-copy-words-requires : tie.Need-copy-words-requires
-copy-words-requires c κs = search needs
-
-sub-copy-words : tie.Need-sub-copy-words
-sub-copy-words c = search needs
-
-part-copy-words-start : tie.Need-part-copy-words-start
-part-copy-words-start c = search needs
-
-part-copy-words-end : tie.Need-part-copy-words-end
-part-copy-words-end c = search needs
-
-copy-words-requires-2 : tie.Need-copy-words-requires-2
-copy-words-requires-2 c κs = search needs
-
-same-length : tie.Need-same-length
-same-length c = search needs
 
 returns-2 : tie.Need-returns-2
 returns-2 c =
@@ -71,19 +29,19 @@ pub store-state-spec : {M : Type 1} → statement M
 store-state-spec =
     tie.close
     (tie.spec
-    add-if1
+    (λ c. search needs)
     returns
-    expiry-flag-requires
-    tick-secs-requires
-    tick-nanos-requires
-    flag-of-requires
-    cast-t17
-    cast-t18
-    slice-aggregate-copy-words
-    copy-words-requires
-    sub-copy-words
-    part-copy-words-start
-    part-copy-words-end
-    copy-words-requires-2
-    same-length
+    (λ c κs. search needs)
+    (λ c κs. search needs)
+    (λ c κs. search needs)
+    (λ c κs. search needs)
+    (λ c. search needs)
+    (λ c. search needs)
+    (λ c. search needs)
+    (λ c κs. search needs)
+    (λ c. search needs)
+    (λ c. search needs)
+    (λ c. search needs)
+    (λ c κs. search needs)
+    (λ c. search needs)
     returns-2)

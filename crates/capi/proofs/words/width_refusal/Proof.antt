@@ -6,21 +6,9 @@ use borrow.Author.Needs.{needs}
 use Rattle.capi.proofs.words.width_refusal.Statement.{statement}
 use Rattle.capi.proofs.words.width_refusal.Tie as tie
 
-shared-slice-read-tick-nanos-fit : tie.Need-shared-slice-read-tick-nanos-fit
-shared-slice-read-tick-nanos-fit c = search needs
-
-shared-slice-read-tick-nanos-fit-2 : tie.Need-shared-slice-read-tick-nanos-fit-2
-shared-slice-read-tick-nanos-fit-2 c = search needs
-
-tick-nanos-fit-requires : tie.Need-tick-nanos-fit-requires
-tick-nanos-fit-requires c κs = search needs
-
 returns : tie.Need-returns
 unfolding askWidths
 returns c = rw (sym (c .before .tick-nanos-fit .ensures) ∙ not-true _ (c .if1 .taken))
-
-shared-slice-read-if2 : tie.Need-shared-slice-read-if2
-shared-slice-read-if2 c = search needs
 
 returns-2 : tie.Need-returns-2
 unfolding askWidths
@@ -34,10 +22,10 @@ pub width-refusal-spec : {M : Type 1} → statement M
 width-refusal-spec =
     tie.close
     (tie.spec
-    shared-slice-read-tick-nanos-fit
-    shared-slice-read-tick-nanos-fit-2
-    tick-nanos-fit-requires
+    (λ c. search needs)
+    (λ c. search needs)
+    (λ c κs. search needs)
     returns
-    shared-slice-read-if2
+    (λ c. search needs)
     returns-2
     returns-3)

@@ -6,17 +6,11 @@ use borrow.Author.Needs.{needs}
 use Rattle.hash_parts.proofs.duration.checked_mul.Statement.{statement}
 use Rattle.hash_parts.proofs.duration.checked_mul.Tie as tie
 
-cast-part : tie.Need-cast-part
-cast-part c = search needs
-
 mul-part : tie.Need-mul-part
 mul-part c = omega (arith, part-fits (c .before .args .duration .nanos) (c .before .args .times) 4294967295 (omega arith) (omega arith))
 
 sub-if1 : tie.Need-sub-if1
 sub-if1 c = omega (arith, part-fits (c .before .args .duration .nanos) (c .before .args .times) 4294967295 (omega arith) (omega arith))
-
-div-if1 : tie.Need-div-if1
-div-if1 c = search needs
 
 returns : tie.Need-returns
 returns c =
@@ -41,9 +35,6 @@ add-t7 c =
     let u = secs-fit (a .duration) (a .times) (a .duration .nanos * a .times / 1_000_000_000) 0xffff_ffff_ffff_ffff (p .0) (c .if1 .left) in
     omega arith
 
-cast-t10 : tie.Need-cast-t10
-cast-t10 c = search needs
-
 returns-2 : tie.Need-returns-2
 returns-2 c =
     let a = c .before .before .args in
@@ -55,4 +46,4 @@ returns-2 c =
 pub checked-mul-spec : {M : Type 1} → statement M
 checked-mul-spec =
     tie.close
-    (tie.spec cast-part mul-part sub-if1 div-if1 returns mul-t6 add-t7 cast-t10 returns-2)
+    (tie.spec (λ c. search needs) mul-part sub-if1 (λ c. search needs) returns mul-t6 add-t7 (λ c. search needs) returns-2)

@@ -8,14 +8,8 @@ use borrow.Author.Needs.{needs}
 use Rattle.hash_parts.proofs.duration.covers.Statement.{statement}
 use Rattle.hash_parts.proofs.duration.covers.Tie as tie
 
-cast-part : tie.Need-cast-part
-cast-part c = search needs
-
 mul-part : tie.Need-mul-part
 mul-part c = omega (arith, part-fits (c .before .args .tick .nanos) (c .before .args .ticks) 65534 (omega arith) (c .before .pre .1))
-
-cast-nanos : tie.Need-cast-nanos
-cast-nanos c = search needs
 
 returns : tie.Need-returns
 returns c =
@@ -23,23 +17,11 @@ returns c =
     let p = c .before .before .before .before .pre in
     sym (le-leb _ _ (covers-carry (a .tick .secs) (a .tick .nanos) (a .ticks) (a .lifetime .secs) (a .lifetime .nanos) (p .0) (c .before .if1 .taken) (c .if2 .taken)))
 
-sub-result : tie.Need-sub-result
-sub-result c = search needs
-
-sub-result-2 : tie.Need-sub-result-2
-sub-result-2 c = search needs
-
-div-result : tie.Need-div-result
-div-result c = search needs
-
 returns-2 : tie.Need-returns-2
 returns-2 c =
     let a = c .before .before .before .before .before .args in
     let p = c .before .before .before .before .before .pre in
     covers-rest (a .tick .secs) (a .tick .nanos) (a .ticks) (a .lifetime .secs) (a .lifetime .nanos) (p .0) (c .before .before .if1 .taken) (c .before .if2 .left)
-
-div-quotient : tie.Need-div-quotient
-div-quotient c = search needs
 
 returns-3 : tie.Need-returns-3
 returns-3 c =
@@ -47,23 +29,8 @@ returns-3 c =
     let p = c .before .before .before .before .before .pre in
     sym (lt-leb _ _ (covers-not (a .tick .secs) (a .tick .nanos) (a .ticks) (a .lifetime .secs) (a .lifetime .nanos) (p .0) (c .before .before .if1 .left) (c .if3 .taken)))
 
-sub-more : tie.Need-sub-more
-sub-more c = search needs
-
-sub-more-2 : tie.Need-sub-more-2
-sub-more-2 c = search needs
-
-rem-result : tie.Need-rem-result
-rem-result c = search needs
-
 add-result : tie.Need-add-result
 add-result c = omega (arith, mod-lt (c .before .before .before .before .before .args .lifetime .secs) (c .before .before .before .before .before .pre .0))
-
-div-result-2 : tie.Need-div-result-2
-div-result-2 c = search needs
-
-sub-result-3 : tie.Need-sub-result-3
-sub-result-3 c = search needs
 
 returns-4 : tie.Need-returns-4
 returns-4 c =
@@ -75,20 +42,20 @@ pub covers-spec : {M : Type 1} → statement M
 covers-spec =
     tie.close
     (tie.spec
-    cast-part
+    (λ c. search needs)
     mul-part
-    cast-nanos
+    (λ c. search needs)
     returns
-    sub-result
-    sub-result-2
-    div-result
+    (λ c. search needs)
+    (λ c. search needs)
+    (λ c. search needs)
     returns-2
-    div-quotient
+    (λ c. search needs)
     returns-3
-    sub-more
-    sub-more-2
-    rem-result
+    (λ c. search needs)
+    (λ c. search needs)
+    (λ c. search needs)
     add-result
-    div-result-2
-    sub-result-3
+    (λ c. search needs)
+    (λ c. search needs)
     returns-4)

@@ -12,19 +12,10 @@ returns c =
     let a = c .before .args in
     deadline-out (a .base) (nanosOf (a .lifetime)) (nanosOf (a .tick)) (omega arith)
 
-ticks-of-requires : tie.Need-ticks-of-requires
-ticks-of-requires c κs = search needs
-
 returns-2 : tie.Need-returns-2
 returns-2 c =
     let a = c .before .before .before .args in
     deadline-out (a .base) (nanosOf (a .lifetime)) (nanosOf (a .tick)) (omega (arith, c .before .ticks-of .ensures))
-
-add-t9 : tie.Need-add-t9
-add-t9 c = search needs
-
-cast-t10 : tie.Need-cast-t10
-cast-t10 c = search needs
 
 returns-3 : tie.Need-returns-3
 returns-3 c =
@@ -33,4 +24,4 @@ returns-3 c =
 
 pub deadline-at-spec : {M : Type 1} → statement M
 deadline-at-spec =
-    tie.close (tie.spec returns ticks-of-requires returns-2 add-t9 cast-t10 returns-3)
+    tie.close (tie.spec returns (λ c κs. search needs) returns-2 (λ c. search needs) (λ c. search needs) returns-3)

@@ -7,28 +7,13 @@ use borrow.Author.Needs.{needs}
 use Rattle.hash_parts.proofs.duration.encode_expiry_at_tick.Statement.{statement}
 use Rattle.hash_parts.proofs.duration.encode_expiry_at_tick.Tie as tie
 
-enum-known-ttl : tie.Need-enum-known-ttl
-enum-known-ttl c = search needs
-
-enum-told : tie.Need-enum-told
-enum-told c = search needs
-
 returns : tie.Need-returns
 unfolding encodedExpiry
 returns c = rw (c .enum-told .given .1)
 
-enum-known-expiry : tie.Need-enum-known-expiry
-enum-known-expiry c = search needs
-
-enum-told-2 : tie.Need-enum-told-2
-enum-told-2 c = search needs
-
 returns-2 : tie.Need-returns-2
 unfolding encodedExpiry
 returns-2 c = rw (c .before .before .before .ttl .given .1, c .enum-told2 .given .1)
-
-is-zero-requires : tie.Need-is-zero-requires
-is-zero-requires c κs = search needs
 
 returns-3 : tie.Need-returns-3
 unfolding encodedExpiry
@@ -53,13 +38,13 @@ pub encode-expiry-at-tick-spec : {M : Type 1} → statement M
 encode-expiry-at-tick-spec =
     tie.close
     (tie.spec
-    enum-known-ttl
-    enum-told
+    (λ c. search needs)
+    (λ c. search needs)
     returns
-    enum-known-expiry
-    enum-told-2
+    (λ c. search needs)
+    (λ c. search needs)
     returns-2
-    is-zero-requires
+    (λ c κs. search needs)
     returns-3
     deadline-at-requires
     returns-4)

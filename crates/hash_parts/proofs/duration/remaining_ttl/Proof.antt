@@ -13,21 +13,9 @@ returns-2 : tie.Need-returns-2
 unfolding remaining
 returns-2 c = simp (ne-eqb _ _ (c .before .if1 .left), le-leb _ _ (c .if2 .taken))
 
-enum-known-expiry : tie.Need-enum-known-expiry
-enum-known-expiry c = search needs
-
-enum-told : tie.Need-enum-told
-enum-told c = search needs
-
 returns-3 : tie.Need-returns-3
 unfolding remaining
 returns-3 c = rw (c .enum-told .given .1) (simp (ne-eqb _ _ (c .before .before .before .if1 .left), lt-leb _ _ (c .before .before .if2 .left)))
-
-sub-checked-mul : tie.Need-sub-checked-mul
-sub-checked-mul c = search needs
-
-checked-mul-requires : tie.Need-checked-mul-requires
-checked-mul-requires c κs = search needs
 
 returns-4 : tie.Need-returns-4
 unfolding remaining
@@ -41,9 +29,9 @@ remaining-ttl-spec =
     (tie.spec
     returns
     returns-2
-    enum-known-expiry
-    enum-told
+    (λ c. search needs)
+    (λ c. search needs)
     returns-3
-    sub-checked-mul
-    checked-mul-requires
+    (λ c. search needs)
+    (λ c κs. search needs)
     returns-4)

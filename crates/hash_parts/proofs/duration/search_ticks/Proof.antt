@@ -16,17 +16,11 @@ Inv-loop lifetime tick limit short₀ enough₀ short enough =
 abbrev μ-loop : tie.MeasureT-loop
 μ-loop lifetime tick limit short₀ enough₀ short enough = enough - short
 
-is-zero-requires : tie.Need-is-zero-requires Inv-loop μ-loop
-is-zero-requires c κs = tt
-
 returns : tie.Need-returns Inv-loop μ-loop
 returns c =
     let a = c .before .before .args in
     let z : nanosOf (a .lifetime) ≡ 0 = eqb-true _ _ (sym (c .before .is-zero .ensures) ∙ c .if1 .taken) in
     rw z (ceil-zero (nanosOf (a .tick)) (a .limit) (c .before .before .pre .0))
-
-add-enough : tie.Need-add-enough Inv-loop μ-loop
-add-enough c = omega arith
 
 loop-holds : tie.Need-loop-holds Inv-loop μ-loop
 loop-holds c =
@@ -34,25 +28,13 @@ loop-holds c =
     let n : nanosOf (a .lifetime) ≡ 0 → ⊥ = eqb-false _ _ (sym (c .before .is-zero .ensures) ∙ c .if1 .left) in
     (rw (mul-zero (nanosOf (a .tick))) (omega arith), λ (h : a .limit + 1 ≤ a .limit). absurd (omega arith), omega arith, omega arith)
 
-add-loop : tie.Need-add-loop Inv-loop μ-loop
-add-loop c = omega arith
-
-add-middle : tie.Need-add-middle Inv-loop μ-loop
-add-middle c = omega arith
-
 covers-requires : tie.Need-covers-requires Inv-loop μ-loop
 covers-requires c κs = omega (arith, c .before .before .before .before .pre)
-
-loop-less : tie.Need-loop-less Inv-loop μ-loop
-loop-less c = omega arith
 
 loop-again : tie.Need-loop-again Inv-loop μ-loop
 loop-again c =
     let i = c .before .before .before .loop .inv in
     (i .0, λ h. leb-true _ _ (sym (c .before .covers .ensures) ∙ c .if2 .taken), omega arith, omega arith)
-
-loop-less-2 : tie.Need-loop-less-2 Inv-loop μ-loop
-loop-less-2 c = omega arith
 
 loop-again-2 : tie.Need-loop-again-2 Inv-loop μ-loop
 loop-again-2 c =
@@ -71,15 +53,15 @@ search-ticks-spec =
     (tie.spec
     Inv-loop
     μ-loop
-    is-zero-requires
+    (λ c κs. tt)
     returns
-    add-enough
+    (λ c. omega arith)
     loop-holds
-    add-loop
-    add-middle
+    (λ c. omega arith)
+    (λ c. omega arith)
     covers-requires
-    loop-less
+    (λ c. omega arith)
     loop-again
-    loop-less-2
+    (λ c. omega arith)
     loop-again-2
     returns-2)

@@ -4,15 +4,9 @@ use borrow.Author.Needs.{needs}
 use Rattle.hash_parts.proofs.hash.mixed_hash.Statement.{statement}
 use Rattle.hash_parts.proofs.hash.mixed_hash.Tie as tie
 
-rotate-left-27-requires : tie.Need-rotate-left-27-requires
-rotate-left-27-requires c κs = search needs
-
-wrapping-mul-requires : tie.Need-wrapping-mul-requires
-wrapping-mul-requires c κs = search needs
-
 returns : tie.Need-returns
 unfolding mixedHash
 returns c = cc
 
 pub mixed-hash-spec : {M : Type 1} → statement M
-mixed-hash-spec = tie.close (tie.spec rotate-left-27-requires wrapping-mul-requires returns)
+mixed-hash-spec = tie.close (tie.spec (λ c κs. search needs) (λ c κs. search needs) returns)

@@ -5,11 +5,8 @@ use borrow.Author.Needs.{needs}
 use Rattle.hash_parts.proofs.hash.reduce_hash.Statement.{statement}
 use Rattle.hash_parts.proofs.hash.reduce_hash.Tie as tie
 
-upper-product-requires : tie.Need-upper-product-requires
-upper-product-requires c κs = search needs
-
 returns : tie.Need-returns
 returns c = (c .upper-product .ensures, omega (arith, first-bucket-below (c .before .args .hash) (c .before .args .buckets) (c .before .fits .hash .fits)))
 
 pub reduce-hash-spec : {M : Type 1} → statement M
-reduce-hash-spec = tie.close (tie.spec upper-product-requires returns)
+reduce-hash-spec = tie.close (tie.spec (λ c κs. search needs) returns)

@@ -6,9 +6,6 @@ use borrow.Author.Needs.{needs}
 use Rattle.hash_parts.proofs.hash.rotate_left_27.Statement.{statement}
 use Rattle.hash_parts.proofs.hash.rotate_left_27.Tie as tie
 
-mul-result : tie.Need-mul-result
-mul-result c = search needs
-
 add-result : tie.Need-add-result
 add-result c = omega (arith, shr-lt 27 37 (c .fits .hash .fits))
 
@@ -17,4 +14,4 @@ unfolding rotated
 returns c = omega arith
 
 pub rotate-left-27-spec : {M : Type 1} → statement M
-rotate-left-27-spec = tie.close (tie.spec mul-result add-result returns)
+rotate-left-27-spec = tie.close (tie.spec (λ c. search needs) add-result returns)

@@ -21,12 +21,6 @@ mul-middle-2 c = let h = halves (c .fits .a .fits) (c .fits .b .fits) in omega a
 add-middle-2 : tie.Need-add-middle-2
 add-middle-2 c = let h = halves (c .fits .a .fits) (c .fits .b .fits) in omega arith
 
-mul-result : tie.Need-mul-result
-mul-result c = search needs
-
-add-result : tie.Need-add-result
-add-result c = search needs
-
 returns : tie.Need-returns
 returns c = sym (lower-half (c .args .a) (c .args .b))
 
@@ -39,6 +33,6 @@ wrapping-mul-spec =
     add-middle
     mul-middle-2
     add-middle-2
-    mul-result
-    add-result
+    (λ c. search needs)
+    (λ c. search needs)
     returns)

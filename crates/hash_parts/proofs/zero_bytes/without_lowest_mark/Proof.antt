@@ -11,13 +11,10 @@ use Rattle.hash_parts.proofs.zero_bytes.without_lowest_mark.Tie as tie
 returns : tie.Need-returns
 returns c = sym (ap withoutLowest (c .if1 .taken) ∙ cleared-none)
 
-sub-result : tie.Need-sub-result
-sub-result c = search needs
-
 returns-2 : tie.Need-returns-2
 returns-2 c =
     let some : 0 < c .before .args .word = omega arith in
     cleared-right (c .before .args .word) some (c .before .fits .word .fits)
 
 pub without-lowest-mark-spec : {M : Type 1} → statement M
-without-lowest-mark-spec = tie.close (tie.spec returns sub-result returns-2)
+without-lowest-mark-spec = tie.close (tie.spec returns (λ c. search needs) returns-2)

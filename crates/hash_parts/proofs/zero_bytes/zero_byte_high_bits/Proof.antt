@@ -8,9 +8,6 @@ use borrow.Author.Needs.{needs}
 use Rattle.hash_parts.proofs.zero_bytes.zero_byte_high_bits.Statement.{statement}
 use Rattle.hash_parts.proofs.zero_bytes.zero_byte_high_bits.Tie as tie
 
-wrapping-add-u64-requires : tie.Need-wrapping-add-u64-requires
-wrapping-add-u64-requires c κs = search needs
-
 returns : tie.Need-returns
 unfolding zeroMarks zeroBytes
 returns c =
@@ -19,4 +16,4 @@ returns c =
     ∙ test-right 8 v (c .before .fits .value .fits)
 
 pub zero-byte-high-bits-spec : {M : Type 1} → statement M
-zero-byte-high-bits-spec = tie.close (tie.spec wrapping-add-u64-requires returns)
+zero-byte-high-bits-spec = tie.close (tie.spec (λ c κs. search needs) returns)

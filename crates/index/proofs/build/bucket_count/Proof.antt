@@ -38,12 +38,6 @@ returns c = let a = c .before .args in no-records (a .records) (a .occupied) (c 
 returns-2 : tie.Need-returns-2
 returns-2 c = let a = c .before .before .args in no-occupancy (a .records) (a .occupied) (c .if2 .taken)
 
-sub-result : tie.Need-sub-result
-sub-result c = search needs
-
-div-result : tie.Need-div-result
-div-result c = search needs
-
 add-result : tie.Need-add-result
 add-result c = let a = c .before .before .args in omega (arith, div-le-self (a .records - 1) (a .occupied))
 
@@ -52,4 +46,4 @@ returns-3 c = let a = c .before .before .args in some-records (a .records) (a .o
 
 pub bucket-count-spec : {M : Type 1} → statement M
 bucket-count-spec =
-    tie.close (tie.spec returns returns-2 sub-result div-result add-result returns-3)
+    tie.close (tie.spec returns returns-2 (λ c. search needs) (λ c. search needs) add-result returns-3)

@@ -18,17 +18,8 @@ Inv-loop index bucket records expiry key tag slot₀ left₀ slot left =
 abbrev μ-loop : tie.MeasureT-loop
 μ-loop index bucket records expiry key tag slot₀ left₀ slot left = left
 
-mul-slot : tie.Need-mul-slot Inv-loop μ-loop
-mul-slot c = omega arith
-
 loop-holds : tie.Need-loop-holds Inv-loop μ-loop
 loop-holds c = (omega arith, rw (mul-comm (c .before .before .before .args .bucket) 8))
-
-mul-word : tie.Need-mul-word Inv-loop μ-loop
-mul-word c = omega arith
-
-shared-slice-read-word : tie.Need-shared-slice-read-word Inv-loop μ-loop
-shared-slice-read-word c = omega arith
 
 returns : tie.Need-returns Inv-loop μ-loop
 returns c =
@@ -40,9 +31,6 @@ returns c =
     (c .before .before .loop-test .taken) (omega arith) (c .if1 .taken))
     ∙ l .loop .inv .1
 
-holds-key-requires : tie.Need-holds-key-requires Inv-loop μ-loop
-holds-key-requires c κs = search needs
-
 returns-2 : tie.Need-returns-2 Inv-loop μ-loop
 returns-2 c =
     let l = c .before .before .before .before .before in
@@ -52,15 +40,6 @@ returns-2 c =
     (slot-same t (a .index .now) (l .loop .left) (l .loop .slot) Full
     (c .before .before .before .before .loop-test .taken) (omega arith) (c .before .before .if1 .left) (sym (c .before .holds-key .ensures) ∙ c .if2 .taken))
     ∙ l .loop .inv .1
-
-add-slot : tie.Need-add-slot Inv-loop μ-loop
-add-slot c = omega arith
-
-sub-left : tie.Need-sub-left Inv-loop μ-loop
-sub-left c = omega arith
-
-loop-less : tie.Need-loop-less Inv-loop μ-loop
-loop-less c = omega arith
 
 loop-again : tie.Need-loop-again Inv-loop μ-loop
 loop-again c =
@@ -87,15 +66,15 @@ build-slot-in-bucket-spec =
     (tie.spec
     Inv-loop
     μ-loop
-    mul-slot
+    (λ c. omega arith)
     loop-holds
-    mul-word
-    shared-slice-read-word
+    (λ c. omega arith)
+    (λ c. omega arith)
     returns
-    holds-key-requires
+    (λ c κs. search needs)
     returns-2
-    add-slot
-    sub-left
-    loop-less
+    (λ c. omega arith)
+    (λ c. omega arith)
+    (λ c. omega arith)
     loop-again
     returns-3)

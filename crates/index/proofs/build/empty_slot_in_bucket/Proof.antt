@@ -16,17 +16,8 @@ Inv-loop index bucket slot₀ left₀ slot left =
 abbrev μ-loop : tie.MeasureT-loop
 μ-loop index bucket slot₀ left₀ slot left = left
 
-mul-slot : tie.Need-mul-slot Inv-loop μ-loop
-mul-slot c = omega arith
-
 loop-holds : tie.Need-loop-holds Inv-loop μ-loop
 loop-holds c = (omega arith, rw (mul-comm (c .args .bucket) 8))
-
-mul-if1 : tie.Need-mul-if1 Inv-loop μ-loop
-mul-if1 c = omega arith
-
-shared-slice-read-if1 : tie.Need-shared-slice-read-if1 Inv-loop μ-loop
-shared-slice-read-if1 c = omega arith
 
 returns : tie.Need-returns Inv-loop μ-loop
 returns c =
@@ -36,15 +27,6 @@ returns c =
     (slot-vacant never (a .index .now) (l .loop .left) (l .loop .slot) Full
     (c .before .before .loop-test .taken) (omega arith) (c .if1 .taken))
     ∙ l .loop .inv .1
-
-add-slot : tie.Need-add-slot Inv-loop μ-loop
-add-slot c = omega arith
-
-sub-left : tie.Need-sub-left Inv-loop μ-loop
-sub-left c = omega arith
-
-loop-less : tie.Need-loop-less Inv-loop μ-loop
-loop-less c = omega arith
 
 loop-again : tie.Need-loop-again Inv-loop μ-loop
 loop-again c =
@@ -68,13 +50,13 @@ empty-slot-in-bucket-spec =
     (tie.spec
     Inv-loop
     μ-loop
-    mul-slot
+    (λ c. omega arith)
     loop-holds
-    mul-if1
-    shared-slice-read-if1
+    (λ c. omega arith)
+    (λ c. omega arith)
     returns
-    add-slot
-    sub-left
-    loop-less
+    (λ c. omega arith)
+    (λ c. omega arith)
+    (λ c. omega arith)
     loop-again
     returns-2)

@@ -27,12 +27,6 @@ returns c =
     let t = holdsKey (buildRecord (a .expiry) (a .records .now)) (a .key .now) (tagOf (a .hash)) in
     ap slotOutcome (sym (slots-short t (a .index .now) (a .buckets) (a .hash) (c .if1 .taken)))
 
-hash-tag-requires : tie.Need-hash-tag-requires Inv-loop μ-loop
-hash-tag-requires c κs = search needs
-
-reduce-hash-requires : tie.Need-reduce-hash-requires Inv-loop μ-loop
-reduce-hash-requires c κs = search needs
-
 loop-holds : tie.Need-loop-holds Inv-loop μ-loop
 loop-holds c =
     let a = c .before .before .before .before .before .before .args in
@@ -44,12 +38,6 @@ loop-holds c =
           (sym (c .before .hash-tag .ensures))
           ∙ rw e (buckets-first t (a .index .now) (a .buckets) (a .hash) (omega arith) (omega arith)),
     )
-
-build-slot-in-bucket-requires : tie.Need-build-slot-in-bucket-requires Inv-loop μ-loop
-build-slot-in-bucket-requires c κs = omega arith
-
-enum-told : tie.Need-enum-told Inv-loop μ-loop
-enum-told c = search needs
 
 -- the arm is left by the variants 0 and 1, and `Full` is the variant 2
 returns-2 : tie.Need-returns-2 Inv-loop μ-loop
@@ -65,15 +53,6 @@ returns-2 c =
     ∙ sym (buckets-found t (a .index .now) (a .buckets) (l .loop .left) (l .loop .bucket)
     (c .before .before .loop-test .taken) (λ f. other (e ∙ f)))
     ∙ sym (l .loop .inv .2))
-
-next-bucket-requires : tie.Need-next-bucket-requires Inv-loop μ-loop
-next-bucket-requires c κs = search needs
-
-sub-left : tie.Need-sub-left Inv-loop μ-loop
-sub-left c = omega arith
-
-loop-less : tie.Need-loop-less Inv-loop μ-loop
-loop-less c = omega arith
 
 loop-again : tie.Need-loop-again Inv-loop μ-loop
 loop-again c =
@@ -102,14 +81,14 @@ find-build-slot-spec =
     Inv-loop
     μ-loop
     returns
-    hash-tag-requires
-    reduce-hash-requires
+    (λ c κs. search needs)
+    (λ c κs. search needs)
     loop-holds
-    build-slot-in-bucket-requires
-    enum-told
+    (λ c κs. omega arith)
+    (λ c. search needs)
     returns-2
-    next-bucket-requires
-    sub-left
-    loop-less
+    (λ c κs. search needs)
+    (λ c. omega arith)
+    (λ c. omega arith)
     loop-again
     returns-3)

@@ -23,20 +23,11 @@ abbrev μ-loop : tie.MeasureT-loop
 returns : tie.Need-returns Inv-loop μ-loop
 returns c = let a = c .before .before .args in ap slotOutcome (sym (slots-short never (a .index .now) (a .buckets) (a .hash) (c .if1 .taken)))
 
-reduce-hash-requires : tie.Need-reduce-hash-requires Inv-loop μ-loop
-reduce-hash-requires c κs = search needs
-
 loop-holds : tie.Need-loop-holds Inv-loop μ-loop
 loop-holds c =
     let a = c .before .before .before .args in
     let e : c .reduce-hash .result ≡ firstBucket (a .hash) (a .buckets) = c .reduce-hash .ensures .0 in
     (c .reduce-hash .ensures .1, omega arith, rw e (buckets-first never (a .index .now) (a .buckets) (a .hash) (omega arith) (omega arith)))
-
-empty-slot-in-bucket-requires : tie.Need-empty-slot-in-bucket-requires Inv-loop μ-loop
-empty-slot-in-bucket-requires c κs = omega arith
-
-enum-told : tie.Need-enum-told Inv-loop μ-loop
-enum-told c = search needs
 
 -- the arm is left by the variants 0 and 1, and `Full` is the variant 2
 returns-2 : tie.Need-returns-2 Inv-loop μ-loop
@@ -51,15 +42,6 @@ returns-2 c =
     ∙ sym (buckets-found never (a .index .now) (a .buckets) (l .loop .left) (l .loop .bucket)
     (c .before .before .loop-test .taken) (λ f. other (e ∙ f)))
     ∙ sym (l .loop .inv .2))
-
-next-bucket-requires : tie.Need-next-bucket-requires Inv-loop μ-loop
-next-bucket-requires c κs = search needs
-
-sub-left : tie.Need-sub-left Inv-loop μ-loop
-sub-left c = omega arith
-
-loop-less : tie.Need-loop-less Inv-loop μ-loop
-loop-less c = omega arith
 
 loop-again : tie.Need-loop-again Inv-loop μ-loop
 loop-again c =
@@ -86,13 +68,13 @@ find-empty-build-slot-spec =
     Inv-loop
     μ-loop
     returns
-    reduce-hash-requires
+    (λ c κs. search needs)
     loop-holds
-    empty-slot-in-bucket-requires
-    enum-told
+    (λ c κs. omega arith)
+    (λ c. search needs)
     returns-2
-    next-bucket-requires
-    sub-left
-    loop-less
+    (λ c κs. search needs)
+    (λ c. omega arith)
+    (λ c. omega arith)
     loop-again
     returns-3)

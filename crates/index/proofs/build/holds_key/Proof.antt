@@ -9,16 +9,10 @@ use Rattle.index.proofs.Slots.{other-tag, names-none, names-unreadable,
 use Rattle.index.proofs.build.holds_key.Statement.{statement}
 use Rattle.index.proofs.build.holds_key.Tie as tie
 
-index-tag-requires : tie.Need-index-tag-requires
-index-tag-requires c κs = search needs
-
 returns : tie.Need-returns
 returns c =
     let a = c .before .before .before .before .args in
     sym (other-tag (a .expiry) (a .records .now) (a .key .now) (a .tag) (a .word) (λ e. c .if1 .taken (c .before .index-tag .ensures ∙ e)))
-
-index-location-requires : tie.Need-index-location-requires
-index-location-requires c κs = search needs
 
 returns-2 : tie.Need-returns-2
 returns-2 c =
@@ -29,18 +23,6 @@ returns-2 c =
     (names-none (a .expiry) (a .records .now) (a .key .now) (a .tag) (a .word)
     (sym (t .before .index-tag .ensures) ∙ t .if1 .left) (i .index-location .result) (i .index-location .ensures) (c .if2 .taken))
 
-sub-record-at : tie.Need-sub-record-at
-sub-record-at c = search needs
-
-record-at-requires : tie.Need-record-at-requires
-record-at-requires c κs = search needs
-
-enum-known-record : tie.Need-enum-known-record
-enum-known-record c = search needs
-
-enum-told : tie.Need-enum-told
-enum-told c = search needs
-
 returns-3 : tie.Need-returns-3
 returns-3 c =
     let i = c .before .before .before .before in
@@ -50,12 +32,6 @@ returns-3 c =
     (names-unreadable (a .expiry) (a .records .now) (a .key .now) (a .tag) (a .word)
     (sym (t .before .index-tag .ensures) ∙ t .if1 .left) (i .index-location .result) (i .index-location .ensures) (omega arith)
     (sym (c .before .before .record-at .ensures) ∙ c .enum-told .given .1))
-
-value-slice-requires : tie.Need-value-slice-requires
-value-slice-requires c κs = search needs
-
-same-bytes-requires : tie.Need-same-bytes-requires
-same-bytes-requires c κs = search needs
 
 returns-4 : tie.Need-returns-4
 returns-4 c =
@@ -74,15 +50,15 @@ pub holds-key-spec : {M : Type 1} → statement M
 holds-key-spec =
     tie.close
     (tie.spec
-    index-tag-requires
+    (λ c κs. search needs)
     returns
-    index-location-requires
+    (λ c κs. search needs)
     returns-2
-    sub-record-at
-    record-at-requires
-    enum-known-record
-    enum-told
+    (λ c. search needs)
+    (λ c κs. search needs)
+    (λ c. search needs)
+    (λ c. search needs)
     returns-3
-    value-slice-requires
-    same-bytes-requires
+    (λ c κs. search needs)
+    (λ c κs. search needs)
     returns-4)

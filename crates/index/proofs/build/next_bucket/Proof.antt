@@ -9,17 +9,11 @@ use Rattle.index.proofs.build.next_bucket.Tie as tie
 returns : tie.Need-returns
 returns c = let a = c .before .args in sym (next-around (a .bucket) (a .buckets) (omega arith))
 
-add-if2 : tie.Need-add-if2
-add-if2 c = search needs
-
 returns-2 : tie.Need-returns-2
 returns-2 c = let a = c .before .before .args in sym (next-around (a .bucket) (a .buckets) (omega arith))
-
-add-result : tie.Need-add-result
-add-result c = search needs
 
 returns-3 : tie.Need-returns-3
 returns-3 c = let a = c .before .before .args in sym (next-on (a .bucket) (a .buckets) (omega arith))
 
 pub next-bucket-spec : {M : Type 1} → statement M
-next-bucket-spec = tie.close (tie.spec returns add-if2 returns-2 add-result returns-3)
+next-bucket-spec = tie.close (tie.spec returns (λ c. search needs) returns-2 (λ c. search needs) returns-3)

@@ -4,11 +4,8 @@ use Rattle.index.proofs.Filters.{one-shl}
 use Rattle.index.proofs.filter.bit.Statement.{statement}
 use Rattle.index.proofs.filter.bit.Tie as tie
 
-shl-result : tie.Need-shl-result
-shl-result c = search needs
-
 returns : tie.Need-returns
 returns c = one-shl (c .args .i) (c .pre)
 
 pub bit-spec : {M : Type 1} → statement M
-bit-spec = tie.close (tie.spec shl-result returns)
+bit-spec = tie.close (tie.spec (λ c. search needs) returns)

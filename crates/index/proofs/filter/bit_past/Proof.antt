@@ -6,15 +6,9 @@ use Rattle.index.specs.Filter.{bitPast}
 use Rattle.index.proofs.filter.bit_past.Statement.{statement}
 use Rattle.index.proofs.filter.bit_past.Tie as tie
 
-add-result : tie.Need-add-result
-add-result c = search needs
-
 returns : tie.Need-returns
 unfolding bitPast
 returns c = (simp (eq-eqb _ _ (c .if1 .taken)), omega arith)
-
-add-result-2 : tie.Need-add-result-2
-add-result-2 c = search needs
 
 returns-2 : tie.Need-returns-2
 unfolding bitPast
@@ -25,4 +19,4 @@ unfolding bitPast
 returns-3 c = (simp (ne-eqb _ _ (c .before .if1 .left), ne-eqb _ _ (c .if2 .left)), c .before .before .pre)
 
 pub bit-past-spec : {M : Type 1} → statement M
-bit-past-spec = tie.close (tie.spec add-result returns add-result-2 returns-2 returns-3)
+bit-past-spec = tie.close (tie.spec (λ c. search needs) returns (λ c. search needs) returns-2 returns-3)

@@ -14,12 +14,9 @@ returns-2 : tie.Need-returns-2
 unfolding displaced
 returns-2 c = simp (lt-leb _ _ (c .before .if1 .left)) (omega arith)
 
-add-result : tie.Need-add-result
-add-result c = search needs
-
 returns-3 : tie.Need-returns-3
 unfolding displaced
 returns-3 c = simp (lt-leb _ _ (c .before .if1 .left))
 
 pub bucket-displacement-spec : {M : Type 1} → statement M
-bucket-displacement-spec = tie.close (tie.spec returns returns-2 add-result returns-3)
+bucket-displacement-spec = tie.close (tie.spec returns returns-2 (λ c. search needs) returns-3)

@@ -9,12 +9,6 @@ use borrow.Author.Needs.{needs}
 use Rattle.index.proofs.filter.mark_displaced.Statement.{statement}
 use Rattle.index.proofs.filter.mark_displaced.Tie as tie
 
-reduce-hash-requires : tie.Need-reduce-hash-requires
-reduce-hash-requires c κs = search needs
-
-bucket-displacement-requires : tie.Need-bucket-displacement-requires
-bucket-displacement-requires c κs = search needs
-
 returns : tie.Need-returns
 unfolding displacedMarked
 returns c =
@@ -23,12 +17,6 @@ returns c =
     c .before .bucket-displacement .ensures ∙ ap (λ (x : ℕ). displaced x (a .slot / 8) (a .buckets)) (c .before .before .reduce-hash .ensures .0) in
     let l : displaced (firstBucket (a .hash) (a .buckets)) (a .slot / 8) (a .buckets) < 2 = omega arith in
     simp (lt-leb _ _ l)
-
-mark-negative-filter-requires : tie.Need-mark-negative-filter-requires
-mark-negative-filter-requires c κs = search needs
-
-same-length : tie.Need-same-length
-same-length c = search needs
 
 returns-2 : tie.Need-returns-2
 unfolding displacedMarked
@@ -44,9 +32,9 @@ pub mark-displaced-spec : {M : Type 1} → statement M
 mark-displaced-spec =
     tie.close
     (tie.spec
-    reduce-hash-requires
-    bucket-displacement-requires
+    (λ c κs. search needs)
+    (λ c κs. search needs)
     returns
-    mark-negative-filter-requires
-    same-length
+    (λ c κs. search needs)
+    (λ c. search needs)
     returns-2)

@@ -11,24 +11,6 @@ returns c = let a = c .before .before .args in sym (marked-none (a .filter .now)
 returns-2 : tie.Need-returns-2
 returns-2 c = let a = c .before .before .before .args in sym (marked-short (a .filter .now) (a .words) (a .hash) (c .if2 .taken))
 
-negative-filter-location-requires : tie.Need-negative-filter-location-requires
-negative-filter-location-requires c κs = search needs
-
-mul-filter : tie.Need-mul-filter
-mul-filter c = search needs
-
-slice-read-filter : tie.Need-slice-read-filter
-slice-read-filter c = search needs
-
-mul-filter-2 : tie.Need-mul-filter-2
-mul-filter-2 c = search needs
-
-slice-write-filter : tie.Need-slice-write-filter
-slice-write-filter c = search needs
-
-same-length : tie.Need-same-length
-same-length c = search needs
-
 returns-3 : tie.Need-returns-3
 returns-3 c =
     let l = c .before .before in
@@ -41,10 +23,10 @@ mark-negative-filter-spec =
     (tie.spec
     returns
     returns-2
-    negative-filter-location-requires
-    mul-filter
-    slice-read-filter
-    mul-filter-2
-    slice-write-filter
-    same-length
+    (λ c κs. search needs)
+    (λ c. search needs)
+    (λ c. search needs)
+    (λ c. search needs)
+    (λ c. search needs)
+    (λ c. search needs)
     returns-3)

@@ -11,15 +11,6 @@ returns c = let a = c .before .before .args in sym (has-none (a .filter .now) (a
 returns-2 : tie.Need-returns-2
 returns-2 c = let a = c .before .before .before .args in sym (has-short (a .filter .now) (a .words) (a .hash) (c .if2 .taken))
 
-negative-filter-location-requires : tie.Need-negative-filter-location-requires
-negative-filter-location-requires c κs = search needs
-
-mul-result : tie.Need-mul-result
-mul-result c = search needs
-
-shared-slice-read-result : tie.Need-shared-slice-read-result
-shared-slice-read-result c = search needs
-
 returns-3 : tie.Need-returns-3
 returns-3 c =
     let l = c .before .before .before in
@@ -32,7 +23,7 @@ negative-filter-may-contain-spec =
     (tie.spec
     returns
     returns-2
-    negative-filter-location-requires
-    mul-result
-    shared-slice-read-result
+    (λ c κs. search needs)
+    (λ c. search needs)
+    (λ c. search needs)
     returns-3)

@@ -11,8 +11,5 @@ mul-result c = omega (arith, bits-fit (c .fits .records .fits) (c .fits .bits-pe
 add-result : tie.Need-add-result
 add-result c = omega (arith, bits-fit (c .fits .records .fits) (c .fits .bits-per-entry .fits))
 
-returns : tie.Need-returns
-returns c = search needs
-
 pub negative-filter-words-spec : {M : Type 1} → statement M
-negative-filter-words-spec = tie.close (tie.spec mul-result add-result returns)
+negative-filter-words-spec = tie.close (tie.spec mul-result add-result (λ c. search needs))

@@ -40,26 +40,11 @@ said c =
     ∙ ap (λ (x : IndexSlot). stepOf (look read (a .arena .now) (a .key .now) (keptTag (a .packed) (a .tag)) (8 * a .bucket + offset) x)) (c .before .bucket-slot .ensures)
     ∙ ap (says read (a .arena .now) (a .key .now) (a .packed) (a .tag) (a .buckets) (a .index .now) (a .bucket)) (c .before .before .lowest-marked-byte .ensures .0)
 
-kept-tag-requires : tie.Need-kept-tag-requires Inv-loop μ-loop
-kept-tag-requires c κs = tt
-
-candidate-marks-requires : tie.Need-candidate-marks-requires Inv-loop μ-loop
-candidate-marks-requires c κs = omega arith
-
 loop-holds : tie.Need-loop-holds Inv-loop μ-loop
 loop-holds c =
     let a = c .before .before .before .before .before .before .before .args in
     let read = recordIn (a .view) (a .arena .now) (a .starts .now) (a .lengths .now) in
     visiting-begins read (a .arena .now) (a .key .now) (a .packed) (a .tag) (a .buckets) (a .index .now) (a .bucket) _ (omega arith) (c .candidate-marks .ensures)
-
-lowest-marked-byte-requires : tie.Need-lowest-marked-byte-requires Inv-loop μ-loop
-lowest-marked-byte-requires c κs = tt
-
-mul-find-in-slot : tie.Need-mul-find-in-slot Inv-loop μ-loop
-mul-find-in-slot c = omega arith
-
-add-find-in-slot : tie.Need-add-find-in-slot Inv-loop μ-loop
-add-find-in-slot c = omega arith
 
 bucket-slot-requires : tie.Need-bucket-slot-requires Inv-loop μ-loop
 bucket-slot-requires c κs =
@@ -67,12 +52,6 @@ bucket-slot-requires c κs =
     let p = l .before .before .before .before .before .before .before .before .pre in
     let some : 0 < l .loop .candidates = omega arith in
     (p .0, p .1, omega (arith, c .lowest-marked-byte .ensures .0, visiting-below (l .loop .inv) some))
-
-find-in-slot-requires : tie.Need-find-in-slot-requires Inv-loop μ-loop
-find-in-slot-requires c κs = tt
-
-enum-told : tie.Need-enum-told Inv-loop μ-loop
-enum-told c = search needs
 
 returns : tie.Need-returns Inv-loop μ-loop
 returns c =
@@ -85,9 +64,6 @@ returns c =
     let n : r ≡ Next → ⊥ = λ (f : r ≡ Next). ⊎-elim (λ p. omega arith) (λ p. omega arith) (rw f at (c .match .keys2)) in
     bucket-step read (a .arena .now) (a .key .now) (a .packed) (a .tag) (a .buckets) (a .index .now) (a .bucket) r (visiting-hit (l .loop .inv) some (λ f. n (e ∙ f)) ∙ sym e) n
 
-without-lowest-mark-requires : tie.Need-without-lowest-mark-requires Inv-loop μ-loop
-without-lowest-mark-requires c κs = tt
-
 loop-less : tie.Need-loop-less Inv-loop μ-loop
 loop-less c =
     let l = c .before .before .before .before .before .before .before in
@@ -99,9 +75,6 @@ loop-again c =
     let l = c .before .before .before .before .before .before .before in
     let some : 0 < l .loop .candidates = omega arith in
     rw (c .without-lowest-mark .ensures) (visiting-on (l .loop .inv) some (sym (said (c .before .before .before)) ∙ c .before .enum-told .given .1))
-
-has-empty-requires : tie.Need-has-empty-requires Inv-loop μ-loop
-has-empty-requires c κs = omega arith
 
 returns-2 : tie.Need-returns-2 Inv-loop μ-loop
 returns-2 c =
@@ -125,19 +98,19 @@ find-in-bucket-spec =
     (tie.spec
     Inv-loop
     μ-loop
-    kept-tag-requires
-    candidate-marks-requires
+    (λ c κs. tt)
+    (λ c κs. omega arith)
     loop-holds
-    lowest-marked-byte-requires
-    mul-find-in-slot
-    add-find-in-slot
+    (λ c κs. tt)
+    (λ c. omega arith)
+    (λ c. omega arith)
     bucket-slot-requires
-    find-in-slot-requires
-    enum-told
+    (λ c κs. tt)
+    (λ c. search needs)
     returns
-    without-lowest-mark-requires
+    (λ c κs. tt)
     loop-less
     loop-again
-    has-empty-requires
+    (λ c κs. omega arith)
     returns-2
     returns-3)

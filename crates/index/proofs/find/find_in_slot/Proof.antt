@@ -39,12 +39,6 @@ compared c =
     let a = start (slot (entry c)) .args in
     sym (c .same-bytes .ensures ∙ ap (λ (l : List ℕ). sameBytes l (a .key .now)) (c .before .value-slice .ensures))
 
-enum-known-content : tie.Need-enum-known-content
-enum-known-content c = search needs
-
-enum-told : tie.Need-enum-told
-enum-told c = search needs
-
 returns : tie.Need-returns
 returns c =
     let s = c .before .before .before .before .before .before in
@@ -58,15 +52,6 @@ returns-2 c =
     let used = k .content .given in
     slot-other (read (start k)) (a .arena .now) (a .key .now) (a .tag) (a .slot) (a .content) (used .0 .0) (used .0 .1 .0) (used .1) (c .if1 .taken)
 
-record-at-location-requires : tie.Need-record-at-location-requires
-record-at-location-requires c κs = search needs
-
-enum-known-entry : tie.Need-enum-known-entry
-enum-known-entry c = search needs
-
-enum-told-2 : tie.Need-enum-told-2
-enum-told-2 c = search needs
-
 returns-3 : tie.Need-returns-3
 returns-3 c =
     let k = c .before .before .before .before .before in
@@ -75,12 +60,6 @@ returns-3 c =
     let unread = sym (c .before .before .record-at-location .ensures) ∙ c .enum-told2 .given .1 in
     slot-broken (read (start k)) (a .arena .now) (a .key .now) (a .tag) (a .slot) (a .content) (used .0 .0) (used .0 .1 .0) (used .1)
     (c .before .before .before .if1 .left) unread
-
-value-slice-requires : tie.Need-value-slice-requires
-value-slice-requires c κs = search needs
-
-same-bytes-requires : tie.Need-same-bytes-requires
-same-bytes-requires c κs = search needs
 
 returns-4 : tie.Need-returns-4
 returns-4 c =
@@ -102,15 +81,15 @@ pub find-in-slot-spec : {M : Type 1} → statement M
 find-in-slot-spec =
     tie.close
     (tie.spec
-    enum-known-content
-    enum-told
+    (λ c. search needs)
+    (λ c. search needs)
     returns
     returns-2
-    record-at-location-requires
-    enum-known-entry
-    enum-told-2
+    (λ c κs. search needs)
+    (λ c. search needs)
+    (λ c. search needs)
     returns-3
-    value-slice-requires
-    same-bytes-requires
+    (λ c κs. search needs)
+    (λ c κs. search needs)
     returns-4
     returns-5)

@@ -91,12 +91,6 @@ returns c =
     (find-short (a .view) (a .packed) (a .index .now) (a .buckets) (a .filter .now) (a .filter-words) (a .starts .now) (a .lengths .now) (a .arena .now)
     (a .key .now) (a .hash) (c .if1 .taken))
 
-hash-tag-requires : tie.Need-hash-tag-requires Inv-loop μ-loop
-hash-tag-requires c κs = tt
-
-reduce-hash-requires : tie.Need-reduce-hash-requires Inv-loop μ-loop
-reduce-hash-requires c κs = tt
-
 loop-holds : tie.Need-loop-holds Inv-loop μ-loop
 loop-holds c =
     let a = c .before .before .before .before .before .before .before .before .before .args in
@@ -105,12 +99,6 @@ loop-holds c =
     find-walks (a .view) (a .packed) (a .index .now) (a .buckets) (a .filter .now) (a .filter-words) (a .starts .now) (a .lengths .now) (a .arena .now)
     (a .key .now) (a .hash) (omega arith) (omega arith) in
     (e .1, omega arith, rw (e .0) whole, omega arith, λ (h : 0 < 0). absurd (omega arith))
-
-find-in-bucket-requires : tie.Need-find-in-bucket-requires Inv-loop μ-loop
-find-in-bucket-requires c κs = omega arith
-
-enum-known-step : tie.Need-enum-known-step Inv-loop μ-loop
-enum-known-step c = search needs
 
 returns-2 : tie.Need-returns-2 Inv-loop μ-loop
 returns-2 c =
@@ -121,9 +109,6 @@ returns-2 c =
     (l .loop .inv .2
     ∙ found-hit (s .args .packed) (may s) (looks s) (s .args .buckets) (l .loop .probe) (l .loop .left) (l .loop .bucket) (b .before .loop-test .taken) _
     (said b ∙ c .before .step .given .1))
-
-enum-told : tie.Need-enum-told Inv-loop μ-loop
-enum-told c = search needs
 
 returns-3 : tie.Need-returns-3 Inv-loop μ-loop
 returns-3 c =
@@ -138,9 +123,6 @@ returns-3 c =
     ∙ found-stop (s .args .packed) (may s) (looks s) (s .args .buckets) (l .loop .probe) (l .loop .left) (l .loop .bucket) (b .before .loop-test .taken)
     (said b ∙ stops r n m))
 
-ends-at-filter-requires : tie.Need-ends-at-filter-requires Inv-loop μ-loop
-ends-at-filter-requires c κs = tt
-
 returns-4 : tie.Need-returns-4 Inv-loop μ-loop
 returns-4 c =
     let f : Filtered = c .before in
@@ -151,18 +133,6 @@ returns-4 c =
     (l .loop .inv .2
     ∙ found-filtered (s .args .packed) (may s) (looks s) (s .args .buckets) (l .loop .probe) (l .loop .left) (l .loop .bucket) (b .before .loop-test .taken)
     (said b ∙ f .before .enum-told .given .1) (asked f ∙ c .if2 .taken))
-
-add-probe : tie.Need-add-probe Inv-loop μ-loop
-add-probe c = omega arith
-
-next-bucket-requires : tie.Need-next-bucket-requires Inv-loop μ-loop
-next-bucket-requires c κs = tt
-
-sub-left : tie.Need-sub-left Inv-loop μ-loop
-sub-left c = omega arith
-
-loop-less : tie.Need-loop-less Inv-loop μ-loop
-loop-less c = omega arith
 
 loop-again : tie.Need-loop-again Inv-loop μ-loop
 loop-again c =
@@ -191,19 +161,19 @@ find-record-spec =
     Inv-loop
     μ-loop
     returns
-    hash-tag-requires
-    reduce-hash-requires
+    (λ c κs. tt)
+    (λ c κs. tt)
     loop-holds
-    find-in-bucket-requires
-    enum-known-step
+    (λ c κs. omega arith)
+    (λ c. search needs)
     returns-2
-    enum-told
+    (λ c. search needs)
     returns-3
-    ends-at-filter-requires
+    (λ c κs. tt)
     returns-4
-    add-probe
-    next-bucket-requires
-    sub-left
-    loop-less
+    (λ c. omega arith)
+    (λ c κs. tt)
+    (λ c. omega arith)
+    (λ c. omega arith)
     loop-again
     returns-5)

@@ -8,14 +8,8 @@ use Rattle.index.proofs.find.marks_from.Tie as tie
 returns : tie.Need-returns
 returns c = rw (c .if1 .taken) no-marks
 
-mul-result : tie.Need-mul-result
-mul-result c = search needs
-
-shl-result : tie.Need-shl-result
-shl-result c = search needs
-
 returns-2 : tie.Need-returns-2
 returns-2 c = from-marks (c .before .args .slot) (omega arith)
 
 pub marks-from-spec : {M : Type 1} → statement M
-marks-from-spec = tie.close (tie.spec returns mul-result shl-result returns-2)
+marks-from-spec = tie.close (tie.spec returns (λ c. search needs) (λ c. search needs) returns-2)

@@ -22,26 +22,11 @@ loop-holds c =
     let e : 8 * a .bucket ≡ a .bucket * 8 = omega arith in
     (omega arith, ap (λ (n : ℕ). passedOver (a .tag) (map wordSlot (take 8 (drop n (a .index .now))))) e ∙ passed-begins (a .tag) (a .index .now) (a .bucket * 8))
 
-mul-word : tie.Need-mul-word Inv-loop μ-loop
-mul-word c = omega arith
-
-add-word : tie.Need-add-word Inv-loop μ-loop
-add-word c = omega arith
-
-mul-word-2 : tie.Need-mul-word-2 Inv-loop μ-loop
-mul-word-2 c = omega arith
-
-shared-slice-read-word : tie.Need-shared-slice-read-word Inv-loop μ-loop
-shared-slice-read-word c = omega arith
-
 returns : tie.Need-returns Inv-loop μ-loop
 returns c =
     let l = c .before .before .before in
     let a = l .before .before .args in
     (omega (arith, passed-empty (a .tag) (a .index .now) (a .bucket * 8) (l .loop .offset) (omega arith) (omega arith) (c .if1 .taken)), l .loop .inv .0)
-
-index-tag-requires : tie.Need-index-tag-requires Inv-loop μ-loop
-index-tag-requires c κs = tt
 
 returns-2 : tie.Need-returns-2 Inv-loop μ-loop
 returns-2 c =
@@ -49,12 +34,6 @@ returns-2 c =
     let a = l .before .before .args in
     let own = sym (c .before .index-tag .ensures) ∙ c .if2 .taken in
     (omega (arith, passed-own (a .tag) (a .index .now) (a .bucket * 8) (l .loop .offset) (omega arith) (omega arith) (c .before .before .if1 .left) own), l .loop .inv .0)
-
-add-offset : tie.Need-add-offset Inv-loop μ-loop
-add-offset c = omega arith
-
-loop-less : tie.Need-loop-less Inv-loop μ-loop
-loop-less c = omega arith
 
 loop-again : tie.Need-loop-again Inv-loop μ-loop
 loop-again c =
@@ -81,14 +60,14 @@ passed-over-spec =
     Inv-loop
     μ-loop
     loop-holds
-    mul-word
-    add-word
-    mul-word-2
-    shared-slice-read-word
+    (λ c. omega arith)
+    (λ c. omega arith)
+    (λ c. omega arith)
+    (λ c. omega arith)
     returns
-    index-tag-requires
+    (λ c κs. tt)
     returns-2
-    add-offset
-    loop-less
+    (λ c. omega arith)
+    (λ c. omega arith)
     loop-again
     returns-3)

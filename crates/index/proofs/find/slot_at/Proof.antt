@@ -16,13 +16,10 @@ returns-2 c =
     let a = c .before .before .before .args in
     sym (slot-past (a .packed) (a .buckets) (a .index .now) (a .slot) (omega arith) (omega arith))
 
-bucket-slot-requires : tie.Need-bucket-slot-requires
-bucket-slot-requires c κs = search needs
-
 returns-3 : tie.Need-returns-3
 returns-3 c =
     let a = c .before .before .before .before .args in
     c .bucket-slot .ensures ∙ sym (slot-in (a .packed) (a .buckets) (a .index .now) (a .slot) (omega arith) (omega arith))
 
 pub slot-at-spec : {M : Type 1} → statement M
-slot-at-spec = tie.close (tie.spec returns returns-2 bucket-slot-requires returns-3)
+slot-at-spec = tie.close (tie.spec returns returns-2 (λ c κs. search needs) returns-3)

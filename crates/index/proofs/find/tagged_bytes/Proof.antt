@@ -5,16 +5,10 @@ use Rattle.index.proofs.Candidates.{tagged-are}
 use Rattle.index.proofs.find.tagged_bytes.Statement.{statement}
 use Rattle.index.proofs.find.tagged_bytes.Tie as tie
 
-mul-repeated-tag : tie.Need-mul-repeated-tag
-mul-repeated-tag c = search needs
-
-zero-byte-high-bits-requires : tie.Need-zero-byte-high-bits-requires
-zero-byte-high-bits-requires c κs = search needs
-
 returns : tie.Need-returns
 returns c =
     let a = c .before .args in
     c .zero-byte-high-bits .ensures ∙ tagged-are (a .control) (a .tag) (c .before .fits .control .fits) (c .before .pre)
 
 pub tagged-bytes-spec : {M : Type 1} → statement M
-tagged-bytes-spec = tie.close (tie.spec mul-repeated-tag zero-byte-high-bits-requires returns)
+tagged-bytes-spec = tie.close (tie.spec (λ c. search needs) (λ c κs. search needs) returns)

@@ -6,14 +6,8 @@ use borrow.Author.Needs.{needs}
 use Rattle.index.proofs.packed.clear_control.Statement.{statement}
 use Rattle.index.proofs.packed.clear_control.Tie as tie
 
-mul-result : tie.Need-mul-result
-mul-result c = search needs
-
-shl-result : tie.Need-shl-result
-shl-result c = search needs
-
 returns : tie.Need-returns
 returns c = clear-is (c .args .control) (c .args .slot % 8) (c .fits .control .fits) (omega arith)
 
 pub clear-control-spec : {M : Type 1} → statement M
-clear-control-spec = tie.close (tie.spec mul-result shl-result returns)
+clear-control-spec = tie.close (tie.spec (λ c. search needs) (λ c. search needs) returns)

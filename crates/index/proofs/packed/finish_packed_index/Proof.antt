@@ -29,36 +29,12 @@ loop-holds c =
     let a = c .before .before .before .before .args in
     packing-begins (a .buckets) (a .index .now) (a .scratch .now) (omega arith) (omega arith)
 
-sub-left : tie.Need-sub-left Inv-loop μ-loop
-sub-left c = omega arith
-
-pack-bucket-requires : tie.Need-pack-bucket-requires Inv-loop μ-loop
-pack-bucket-requires c κs = omega arith
-
-mul-scratch : tie.Need-mul-scratch Inv-loop μ-loop
-mul-scratch c = search needs
-
-slice-write-scratch : tie.Need-slice-write-scratch Inv-loop μ-loop
-slice-write-scratch c = omega arith
-
-loop-less : tie.Need-loop-less Inv-loop μ-loop
-loop-less c = omega arith
-
 loop-again : tie.Need-loop-again Inv-loop μ-loop
 loop-again c =
     let l = c .before .before .before .before .before .loop in
     let p = c .before .before .pack-bucket in
     let b : ℕ = l .left - 1 in
     packing-next b (p .last .0) (set (l .scratch) b (p .result)) (l .inv) (omega arith) (p .ensures .1) (ap (set (l .scratch) b) (p .ensures .0))
-
-copy-words-requires : tie.Need-copy-words-requires Inv-loop μ-loop
-copy-words-requires c κs = omega arith
-
-same-length : tie.Need-same-length Inv-loop μ-loop
-same-length c = search needs
-
-same-length-2 : tie.Need-same-length-2 Inv-loop μ-loop
-same-length-2 c = search needs
 
 returns-3 : tie.Need-returns-3 Inv-loop μ-loop
 returns-3 c =
@@ -74,13 +50,13 @@ finish-packed-index-spec =
     returns
     returns-2
     loop-holds
-    sub-left
-    pack-bucket-requires
-    mul-scratch
-    slice-write-scratch
-    loop-less
+    (λ c. omega arith)
+    (λ c κs. omega arith)
+    (λ c. search needs)
+    (λ c. omega arith)
+    (λ c. omega arith)
     loop-again
-    copy-words-requires
-    same-length
-    same-length-2
+    (λ c κs. omega arith)
+    (λ c. search needs)
+    (λ c. search needs)
     returns-3)

@@ -8,24 +8,6 @@ use Rattle.index.proofs.packed.packed_reference.Tie as tie
 returns : tie.Need-returns
 returns c = (reference-empty (c .before .args .word) (c .if1 .taken), omega arith)
 
-index-tag-requires : tie.Need-index-tag-requires
-index-tag-requires c κs = search needs
-
-packed-secondary-tag-requires : tie.Need-packed-secondary-tag-requires
-packed-secondary-tag-requires c κs = search needs
-
-cast-result : tie.Need-cast-result
-cast-result c = search needs
-
-index-location-requires : tie.Need-index-location-requires
-index-location-requires c κs = search needs
-
-mul-result : tie.Need-mul-result
-mul-result c = search needs
-
-add-result : tie.Need-add-result
-add-result c = search needs
-
 returns-2 : tie.Need-returns-2
 returns-2 c =
     let k = c .before .before .before in
@@ -36,10 +18,10 @@ packed-reference-spec =
     tie.close
     (tie.spec
     returns
-    index-tag-requires
-    packed-secondary-tag-requires
-    cast-result
-    index-location-requires
-    mul-result
-    add-result
+    (λ c κs. search needs)
+    (λ c κs. search needs)
+    (λ c. search needs)
+    (λ c κs. search needs)
+    (λ c. search needs)
+    (λ c. search needs)
     returns-2)

@@ -6,15 +6,6 @@ use borrow.Author.Needs.{needs}
 use Rattle.index.proofs.packed.packed_reference_at.Statement.{statement}
 use Rattle.index.proofs.packed.packed_reference_at.Tie as tie
 
-mul-bits : tie.Need-mul-bits
-mul-bits c = search needs
-
-reference-front-requires : tie.Need-reference-front-requires
-reference-front-requires c κs = search needs
-
-shl-result : tie.Need-shl-result
-shl-result c = search needs
-
 add-result : tie.Need-add-result
 add-result c =
     let r =
@@ -28,4 +19,4 @@ returns c =
 
 pub packed-reference-at-spec : {M : Type 1} → statement M
 packed-reference-at-spec =
-    tie.close (tie.spec mul-bits reference-front-requires shl-result add-result returns)
+    tie.close (tie.spec (λ c. search needs) (λ c κs. search needs) (λ c. search needs) add-result returns)

@@ -11,26 +11,11 @@ use borrow.Author.Needs.{needs}
 use Rattle.index.proofs.packed.packed_slot.Statement.{statement}
 use Rattle.index.proofs.packed.packed_slot.Tie as tie
 
-mul-tag : tie.Need-mul-tag
-mul-tag c = search needs
-
-shr-tag : tie.Need-shr-tag
-shr-tag c = search needs
-
 returns : tie.Need-returns
 returns c =
     let a = c .before .args in
     let j : ℕ = a .slot % 8 in
     slot-empty (getD (bytesOf 8 (a .control)) j 0) (referenceIn (a .before) (a .word) j) (sym (byte-low (a .control) j (omega arith)) ∙ c .if1 .taken)
-
-packed-reference-at-requires : tie.Need-packed-reference-at-requires
-packed-reference-at-requires c κs = search needs
-
-mul-t10 : tie.Need-mul-t10
-mul-t10 c = search needs
-
-add-t12 : tie.Need-add-t12
-add-t12 c = search needs
 
 returns-2 : tie.Need-returns-2
 returns-2 c =
@@ -41,4 +26,4 @@ returns-2 c =
 pub packed-slot-spec : {M : Type 1} → statement M
 packed-slot-spec =
     tie.close
-    (tie.spec mul-tag shr-tag returns packed-reference-at-requires mul-t10 add-t12 returns-2)
+    (tie.spec (λ c. search needs) (λ c. search needs) returns (λ c κs. search needs) (λ c. search needs) (λ c. search needs) returns-2)

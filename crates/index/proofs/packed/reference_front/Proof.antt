@@ -8,14 +8,8 @@ use Rattle.index.proofs.packed.reference_front.Tie as tie
 returns : tie.Need-returns
 returns c = rw (c .if1 .taken) (omega arith)
 
-sub-result : tie.Need-sub-result
-sub-result c = search needs
-
-shr-result : tie.Need-shr-result
-shr-result c = search needs
-
 returns-2 : tie.Need-returns-2
 returns-2 c = upper-bits (c .before .args .before) (c .before .args .bits) (omega arith)
 
 pub reference-front-spec : {M : Type 1} → statement M
-reference-front-spec = tie.close (tie.spec returns sub-result shr-result returns-2)
+reference-front-spec = tie.close (tie.spec returns (λ c. search needs) (λ c. search needs) returns-2)

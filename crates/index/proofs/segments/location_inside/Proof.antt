@@ -10,9 +10,6 @@ use Rattle.index.proofs.segments.location_inside.Tie as tie
 returns : tie.Need-returns
 returns c = simp (eq-eqb _ _ (c .if1 .taken))
 
-index-location-requires : tie.Need-index-location-requires
-index-location-requires c κs = search needs
-
 returns-2 : tie.Need-returns-2
 returns-2 c =
     let w = c .before .before .before .args .word in
@@ -26,4 +23,4 @@ returns-3 c =
     simp (ne-eqb _ _ (c .before .before .if1 .left), ne-eqb (wordStored w) 0 h, c .before .index-location .ensures)
 
 pub location-inside-spec : {M : Type 1} → statement M
-location-inside-spec = tie.close (tie.spec returns index-location-requires returns-2 returns-3)
+location-inside-spec = tie.close (tie.spec returns (λ c κs. search needs) returns-2 returns-3)

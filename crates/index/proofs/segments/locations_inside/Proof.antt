@@ -22,20 +22,8 @@ returns c =
     let a = c .before .before .args in
     sym (locations-short (a .filled) (a .index .now) (a .buckets) (c .if1 .taken))
 
-mul-words : tie.Need-mul-words Inv-loop μ-loop
-mul-words c = omega arith
-
 loop-holds : tie.Need-loop-holds Inv-loop μ-loop
 loop-holds c = (omega arith, refl)
-
-mul-location-inside : tie.Need-mul-location-inside Inv-loop μ-loop
-mul-location-inside c = omega arith
-
-shared-slice-read-location-inside : tie.Need-shared-slice-read-location-inside Inv-loop μ-loop
-shared-slice-read-location-inside c = omega arith
-
-location-inside-requires : tie.Need-location-inside-requires Inv-loop μ-loop
-location-inside-requires c κs = tt
 
 returns-2 : tie.Need-returns-2 Inv-loop μ-loop
 returns-2 c =
@@ -50,12 +38,6 @@ returns-2 c =
     sym (inside-not (a .filled) words i (omega arith) e)
     ∙ l .loop .inv .1
     ∙ sym (locations-in (a .filled) (a .index .now) (a .buckets) (omega arith))
-
-add-i : tie.Need-add-i Inv-loop μ-loop
-add-i c = omega arith
-
-loop-less : tie.Need-loop-less Inv-loop μ-loop
-loop-less c = omega arith
 
 loop-again : tie.Need-loop-again Inv-loop μ-loop
 loop-again c =
@@ -86,13 +68,13 @@ locations-inside-spec =
     Inv-loop
     μ-loop
     returns
-    mul-words
+    (λ c. omega arith)
     loop-holds
-    mul-location-inside
-    shared-slice-read-location-inside
-    location-inside-requires
+    (λ c. omega arith)
+    (λ c. omega arith)
+    (λ c κs. tt)
     returns-2
-    add-i
-    loop-less
+    (λ c. omega arith)
+    (λ c. omega arith)
     loop-again
     returns-3)

@@ -7,9 +7,6 @@ use borrow.Author.Needs.{needs}
 use Rattle.index.proofs.segments.lower_start.Statement.{statement}
 use Rattle.index.proofs.segments.lower_start.Tie as tie
 
-index-location-requires : tie.Need-index-location-requires
-index-location-requires c κs = search needs
-
 returns : tie.Need-returns
 returns c =
     let a = c .before .before .args in
@@ -22,9 +19,6 @@ returns-2 c =
     let h : a .bound < wordStored (a .word) = omega arith in
     simp (lt-ltb (a .bound) (wordStored (a .word)) h) (omega arith)
 
-sub-result : tie.Need-sub-result
-sub-result c = search needs
-
 returns-3 : tie.Need-returns-3
 returns-3 c =
     let a = c .before .before .before .args in
@@ -33,4 +27,4 @@ returns-3 c =
 
 pub lower-start-spec : {M : Type 1} → statement M
 lower-start-spec =
-    tie.close (tie.spec index-location-requires returns returns-2 sub-result returns-3)
+    tie.close (tie.spec (λ c κs. search needs) returns returns-2 (λ c. search needs) returns-3)

@@ -21,28 +21,10 @@ returns c =
     let a = c .before .before .args in
     sym (start-short (a .index .now) (a .buckets) (a .bound) (c .if1 .taken))
 
-mul-words : tie.Need-mul-words Inv-loop μ-loop
-mul-words c = omega arith
-
 loop-holds : tie.Need-loop-holds Inv-loop μ-loop
 loop-holds c =
     let a = c .before .before .args in
     (omega arith, omega arith, omega (arith, next-start-most (take (8 * a .buckets) (a .index .now)) (a .bound)))
-
-mul-lower-start : tie.Need-mul-lower-start Inv-loop μ-loop
-mul-lower-start c = omega arith
-
-shared-slice-read-lower-start : tie.Need-shared-slice-read-lower-start Inv-loop μ-loop
-shared-slice-read-lower-start c = omega arith
-
-lower-start-requires : tie.Need-lower-start-requires Inv-loop μ-loop
-lower-start-requires c κs = tt
-
-add-i : tie.Need-add-i Inv-loop μ-loop
-add-i c = omega arith
-
-loop-less : tie.Need-loop-less Inv-loop μ-loop
-loop-less c = omega arith
 
 loop-again : tie.Need-loop-again Inv-loop μ-loop
 loop-again c =
@@ -75,12 +57,12 @@ next-start-spec =
     Inv-loop
     μ-loop
     returns
-    mul-words
+    (λ c. omega arith)
     loop-holds
-    mul-lower-start
-    shared-slice-read-lower-start
-    lower-start-requires
-    add-i
-    loop-less
+    (λ c. omega arith)
+    (λ c. omega arith)
+    (λ c κs. tt)
+    (λ c. omega arith)
+    (λ c. omega arith)
     loop-again
     returns-2)

@@ -21,15 +21,6 @@ returns-3 c =
     short-lengths (a .index .now) (a .buckets) (a .filled) (a .target) (a .starts .now) (a .lengths .now)
     (c .before .before .if1 .left) (c .before .if2 .left) (c .if3 .taken)
 
-write-starts-requires : tie.Need-write-starts-requires
-write-starts-requires c κs = search needs
-
-same-length : tie.Need-same-length
-same-length c = search needs
-
-same-length-2 : tie.Need-same-length-2
-same-length-2 c = search needs
-
 returns-4 : tie.Need-returns-4
 returns-4 c =
     let p = c .before .before .before in
@@ -54,15 +45,6 @@ write-lengths-requires c κs =
     (w .result) (w .last .1 .1 .1 .1 .0) (w .ensures .0) (w .ensures .1)
     few in
     (starts, few, q .if3 .left)
-
-same-length-3 : tie.Need-same-length-3
-same-length-3 c = search needs
-
-same-length-4 : tie.Need-same-length-4
-same-length-4 c = search needs
-
-same-length-5 : tie.Need-same-length-5
-same-length-5 c = search needs
 
 returns-5 : tie.Need-returns-5
 returns-5 c =
@@ -92,15 +74,6 @@ split-words-requires c κs =
     few in
     (omega (arith, q .before .before .if1 .left), starts, few)
 
-same-length-6 : tie.Need-same-length-6
-same-length-6 c = search needs
-
-same-length-7 : tie.Need-same-length-7
-same-length-7 c = search needs
-
-same-length-8 : tie.Need-same-length-8
-same-length-8 c = search needs
-
 returns-6 : tie.Need-returns-6
 returns-6 c =
     let m = c .before .before .before .before .before .before .before .before in
@@ -122,17 +95,17 @@ split-record-segments-spec =
     returns
     returns-2
     returns-3
-    write-starts-requires
-    same-length
-    same-length-2
+    (λ c κs. search needs)
+    (λ c. search needs)
+    (λ c. search needs)
     returns-4
     write-lengths-requires
-    same-length-3
-    same-length-4
-    same-length-5
+    (λ c. search needs)
+    (λ c. search needs)
+    (λ c. search needs)
     returns-5
     split-words-requires
-    same-length-6
-    same-length-7
-    same-length-8
+    (λ c. search needs)
+    (λ c. search needs)
+    (λ c. search needs)
     returns-6)

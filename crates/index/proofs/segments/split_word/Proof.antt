@@ -9,40 +9,10 @@ use borrow.Author.Needs.{needs}
 use Rattle.index.proofs.segments.split_word.Statement.{statement}
 use Rattle.index.proofs.segments.split_word.Tie as tie
 
-index-location-requires : tie.Need-index-location-requires
-index-location-requires c κs = search needs
-
 returns : tie.Need-returns
 returns c =
     let a = c .before .before .before .args in
     sym (split-none (take (a .count) (a .starts .now)) (a .word) (sym (c .before .index-location .ensures) ∙ c .if1 .taken))
-
-sub-location : tie.Need-sub-location
-sub-location c = search needs
-
-find-segment-requires : tie.Need-find-segment-requires
-find-segment-requires c κs = search needs
-
-mul-offset : tie.Need-mul-offset
-mul-offset c = search needs
-
-shared-slice-read-offset : tie.Need-shared-slice-read-offset
-shared-slice-read-offset c = search needs
-
-sub-offset : tie.Need-sub-offset
-sub-offset c = search needs
-
-index-tag-requires : tie.Need-index-tag-requires
-index-tag-requires c κs = search needs
-
-mul-encode-index-word : tie.Need-mul-encode-index-word
-mul-encode-index-word c = search needs
-
-add-encode-index-word : tie.Need-add-encode-index-word
-add-encode-index-word c = search needs
-
-encode-index-word-requires : tie.Need-encode-index-word-requires
-encode-index-word-requires c κs = search needs
 
 returns-2 : tie.Need-returns-2
 returns-2 c =
@@ -60,15 +30,15 @@ pub split-word-spec : {M : Type 1} → statement M
 split-word-spec =
     tie.close
     (tie.spec
-    index-location-requires
+    (λ c κs. search needs)
     returns
-    sub-location
-    find-segment-requires
-    mul-offset
-    shared-slice-read-offset
-    sub-offset
-    index-tag-requires
-    mul-encode-index-word
-    add-encode-index-word
-    encode-index-word-requires
+    (λ c. search needs)
+    (λ c κs. search needs)
+    (λ c. search needs)
+    (λ c. search needs)
+    (λ c. search needs)
+    (λ c κs. search needs)
+    (λ c. search needs)
+    (λ c. search needs)
+    (λ c κs. search needs)
     returns-2)

@@ -16,32 +16,11 @@ Inv-loop index₀ buckets starts count words i₀ index i =
 abbrev μ-loop : tie.MeasureT-loop
 μ-loop index₀ buckets starts count words i₀ index i = 8 * buckets - i
 
-mul-words : tie.Need-mul-words Inv-loop μ-loop
-mul-words c = omega arith
-
 loop-holds : tie.Need-loop-holds Inv-loop μ-loop
 loop-holds c = (omega arith, refl, refl)
 
-mul-split-word : tie.Need-mul-split-word Inv-loop μ-loop
-mul-split-word c = omega arith
-
-slice-read-split-word : tie.Need-slice-read-split-word Inv-loop μ-loop
-slice-read-split-word c = omega arith
-
 split-word-requires : tie.Need-split-word-requires Inv-loop μ-loop
 split-word-requires c κs = (c .before .before .before .before .before .pre .1, c .before .before .before .before .before .pre .2)
-
-mul-index : tie.Need-mul-index Inv-loop μ-loop
-mul-index c = omega arith
-
-slice-write-index : tie.Need-slice-write-index Inv-loop μ-loop
-slice-write-index c = omega arith
-
-add-i : tie.Need-add-i Inv-loop μ-loop
-add-i c = omega arith
-
-loop-less : tie.Need-loop-less Inv-loop μ-loop
-loop-less c = omega arith
 
 loop-again : tie.Need-loop-again Inv-loop μ-loop
 loop-again c =
@@ -55,9 +34,6 @@ loop-again c =
     let set-one = ap₂ (λ (t : List ℕ) (w : ℕ). set t i w) (l .loop .inv .1) e ∙ words-more f i words h in
     (omega arith, set-one, simp length-set (omega arith))
 
-same-length : tie.Need-same-length Inv-loop μ-loop
-same-length c = omega arith
-
 returns : tie.Need-returns Inv-loop μ-loop
 returns c =
     let l = c .before in
@@ -70,15 +46,15 @@ split-words-spec =
     (tie.spec
     Inv-loop
     μ-loop
-    mul-words
+    (λ c. omega arith)
     loop-holds
-    mul-split-word
-    slice-read-split-word
+    (λ c. omega arith)
+    (λ c. omega arith)
     split-word-requires
-    mul-index
-    slice-write-index
-    add-i
-    loop-less
+    (λ c. omega arith)
+    (λ c. omega arith)
+    (λ c. omega arith)
+    (λ c. omega arith)
     loop-again
-    same-length
+    (λ c. omega arith)
     returns)

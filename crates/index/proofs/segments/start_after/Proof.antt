@@ -20,20 +20,11 @@ returns-2 c =
     let words = take (8 * a .buckets) (a .index .now) in
     sym (after-within words (a .filled) (a .target) (a .last) (c .before .if1 .left) (omega arith))
 
-sub-if3 : tie.Need-sub-if3
-sub-if3 c = search needs
-
 returns-3 : tie.Need-returns-3
 returns-3 c =
     let a = c .before .before .before .before .args in
     let words = take (8 * a .buckets) (a .index .now) in
     sym (after-within words (a .filled) (a .target) (a .last) (c .before .before .if1 .left) (omega arith))
-
-add-next-start : tie.Need-add-next-start
-add-next-start c = search needs
-
-next-start-requires : tie.Need-next-start-requires
-next-start-requires c κs = search needs
 
 returns-4 : tie.Need-returns-4
 returns-4 c =
@@ -45,4 +36,4 @@ returns-4 c =
 pub start-after-spec : {M : Type 1} → statement M
 start-after-spec =
     tie.close
-    (tie.spec returns returns-2 sub-if3 returns-3 add-next-start next-start-requires returns-4)
+    (tie.spec returns returns-2 (λ c. search needs) returns-3 (λ c. search needs) (λ c κs. search needs) returns-4)

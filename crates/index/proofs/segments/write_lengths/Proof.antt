@@ -17,32 +17,11 @@ Inv-loop starts count filled lengths₀ last i₀ lengths i =
 abbrev μ-loop : tie.MeasureT-loop
 μ-loop starts count filled lengths₀ last i₀ lengths i = count - i
 
-clear-segments-requires : tie.Need-clear-segments-requires Inv-loop μ-loop
-clear-segments-requires c κs = omega arith
-
-sub-last : tie.Need-sub-last Inv-loop μ-loop
-sub-last c = omega arith
-
 loop-holds : tie.Need-loop-holds Inv-loop μ-loop
 loop-holds c =
     let a = c .before .before .before .before .before .before .args in
     let cleared = c .before .before .clear-segments in
     (omega arith, filling-none (lengthsOf (a .filled) (take (a .count) (a .starts .now))) (a .lengths .now) (cleared .last .0) (omega arith) (cleared .ensures))
-
-add-lengths : tie.Need-add-lengths Inv-loop μ-loop
-add-lengths c = omega arith
-
-mul-lengths : tie.Need-mul-lengths Inv-loop μ-loop
-mul-lengths c = omega arith
-
-shared-slice-read-lengths : tie.Need-shared-slice-read-lengths Inv-loop μ-loop
-shared-slice-read-lengths c = omega arith
-
-mul-lengths-2 : tie.Need-mul-lengths-2 Inv-loop μ-loop
-mul-lengths-2 c = omega arith
-
-shared-slice-read-lengths-2 : tie.Need-shared-slice-read-lengths-2 Inv-loop μ-loop
-shared-slice-read-lengths-2 c = omega arith
 
 sub-lengths : tie.Need-sub-lengths Inv-loop μ-loop
 sub-lengths c =
@@ -59,12 +38,6 @@ mul-lengths-3 c = omega (arith, filling-length (c .before .before .before .loop 
 slice-write-lengths : tie.Need-slice-write-lengths Inv-loop μ-loop
 slice-write-lengths c = omega (arith, filling-length (c .before .before .before .loop .inv .1), (c .before .before .before .loop .inv .1) .room)
 
-add-i : tie.Need-add-i Inv-loop μ-loop
-add-i c = omega arith
-
-loop-less : tie.Need-loop-less Inv-loop μ-loop
-loop-less c = omega arith
-
 loop-again : tie.Need-loop-again Inv-loop μ-loop
 loop-again c =
     let a = c .before .before .before .before .before .before .before .before .before .before .args in
@@ -75,18 +48,6 @@ loop-again c =
     let bytes = getD starts (i + 1) 0 - getD starts i 0 in
     let left = lengths-next starts (a .count) i given (a .filled) (omega arith) in
     (omega arith, filling-next bytes (lengthsOf (a .filled) (drop (i + 1) (take (a .count) starts))) (l .loop .inv .1) left (omega arith))
-
-mul-bytes-past : tie.Need-mul-bytes-past Inv-loop μ-loop
-mul-bytes-past c = omega arith
-
-shared-slice-read-bytes-past : tie.Need-shared-slice-read-bytes-past Inv-loop μ-loop
-shared-slice-read-bytes-past c = omega arith
-
-bytes-past-requires : tie.Need-bytes-past-requires Inv-loop μ-loop
-bytes-past-requires c κs = tt
-
-mul-lengths-4 : tie.Need-mul-lengths-4 Inv-loop μ-loop
-mul-lengths-4 c = omega arith
 
 slice-write-lengths-2 : tie.Need-slice-write-lengths-2 Inv-loop μ-loop
 slice-write-lengths-2 c = omega (arith, filling-length (c .before .before .before .loop .inv .1), (c .before .before .before .loop .inv .1) .room)
@@ -120,24 +81,24 @@ write-lengths-spec =
     (tie.spec
     Inv-loop
     μ-loop
-    clear-segments-requires
-    sub-last
+    (λ c κs. omega arith)
+    (λ c. omega arith)
     loop-holds
-    add-lengths
-    mul-lengths
-    shared-slice-read-lengths
-    mul-lengths-2
-    shared-slice-read-lengths-2
+    (λ c. omega arith)
+    (λ c. omega arith)
+    (λ c. omega arith)
+    (λ c. omega arith)
+    (λ c. omega arith)
     sub-lengths
     mul-lengths-3
     slice-write-lengths
-    add-i
-    loop-less
+    (λ c. omega arith)
+    (λ c. omega arith)
     loop-again
-    mul-bytes-past
-    shared-slice-read-bytes-past
-    bytes-past-requires
-    mul-lengths-4
+    (λ c. omega arith)
+    (λ c. omega arith)
+    (λ c κs. tt)
+    (λ c. omega arith)
     slice-write-lengths-2
     same-length
     returns)

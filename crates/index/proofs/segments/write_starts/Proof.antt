@@ -18,9 +18,6 @@ Inv-loop index buckets filled target starts₀ count₀ next₀ starts count nex
 abbrev μ-loop : tie.MeasureT-loop
 μ-loop index buckets filled target starts₀ count₀ next₀ starts count next = 256 - count
 
-clear-segments-requires : tie.Need-clear-segments-requires Inv-loop μ-loop
-clear-segments-requires c κs = omega arith
-
 loop-holds : tie.Need-loop-holds Inv-loop μ-loop
 loop-holds c =
     let a = c .before .before .before .before .before .before .args in
@@ -28,9 +25,6 @@ loop-holds c =
     let cleared = c .before .before .clear-segments in
     let f = filling-none (startsOf words (a .filled) (a .target)) (a .starts .now) (cleared .last .0) (omega arith) (cleared .ensures) in
     (omega arith, rw (← starts-from words (a .filled) (a .target)) f)
-
-add-result : tie.Need-add-result Inv-loop μ-loop
-add-result c = omega arith
 
 same-length : tie.Need-same-length Inv-loop μ-loop
 same-length c =
@@ -54,15 +48,6 @@ mul-starts c = omega (arith, filling-length (c .before .before .loop .inv .1))
 
 slice-write-starts : tie.Need-slice-write-starts Inv-loop μ-loop
 slice-write-starts c = omega (arith, filling-length (c .before .before .loop .inv .1), (c .before .before .loop .inv .1) .room)
-
-add-count : tie.Need-add-count Inv-loop μ-loop
-add-count c = omega arith
-
-start-after-requires : tie.Need-start-after-requires Inv-loop μ-loop
-start-after-requires c κs = omega arith
-
-loop-less : tie.Need-loop-less Inv-loop μ-loop
-loop-less c = omega arith
 
 loop-again : tie.Need-loop-again Inv-loop μ-loop
 loop-again c =
@@ -98,16 +83,16 @@ write-starts-spec =
     (tie.spec
     Inv-loop
     μ-loop
-    clear-segments-requires
+    (λ c κs. omega arith)
     loop-holds
-    add-result
+    (λ c. omega arith)
     same-length
     returns
     mul-starts
     slice-write-starts
-    add-count
-    start-after-requires
-    loop-less
+    (λ c. omega arith)
+    (λ c κs. omega arith)
+    (λ c. omega arith)
     loop-again
     same-length-2
     returns-2)

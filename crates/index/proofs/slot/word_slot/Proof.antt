@@ -9,15 +9,9 @@ returns : tie.Need-returns
 unfolding wordSlot
 returns c = rw (eq-eqb _ 0 (c .if1 .taken))
 
-index-tag-requires : tie.Need-index-tag-requires
-index-tag-requires c κs = search needs
-
-index-location-requires : tie.Need-index-location-requires
-index-location-requires c κs = search needs
-
 returns-2 : tie.Need-returns-2
 unfolding wordSlot
 returns-2 c = rw (ne-eqb _ 0 (c .before .before .if1 .left), c .index-location .ensures, c .before .index-tag .ensures)
 
 pub word-slot-spec : {M : Type 1} → statement M
-word-slot-spec = tie.close (tie.spec returns index-tag-requires index-location-requires returns-2)
+word-slot-spec = tie.close (tie.spec returns (λ c κs. search needs) (λ c κs. search needs) returns-2)

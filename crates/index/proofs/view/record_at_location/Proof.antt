@@ -12,9 +12,6 @@ returns c =
     let a = c .before .before .before .before .args in
     location-none (a .view) (a .arena .now) (a .starts .now) (a .lengths .now) (a .stored) (c .if1 .taken)
 
-sub-location : tie.Need-sub-location
-sub-location c = search needs
-
 returns-2 : tie.Need-returns-2
 returns-2 c =
     let a = c .before .before .before .before .before .before .args in
@@ -31,21 +28,6 @@ returns-4 c =
     location-outside (a .view) (a .arena .now) (a .starts .now) (a .lengths .now) (a .stored) (omega arith)
     (simp (lt-ltb _ _ (c .before .before .if2 .left), lt-ltb _ _ (c .before .if3 .left), le-ltb _ _ (c .if4 .taken)))
 
-mul-record-in-segment : tie.Need-mul-record-in-segment
-mul-record-in-segment c = search needs
-
-shared-slice-read-record-in-segment : tie.Need-shared-slice-read-record-in-segment
-shared-slice-read-record-in-segment c = search needs
-
-mul-record-in-segment-2 : tie.Need-mul-record-in-segment-2
-mul-record-in-segment-2 c = search needs
-
-shared-slice-read-record-in-segment-2 : tie.Need-shared-slice-read-record-in-segment-2
-shared-slice-read-record-in-segment-2 c = search needs
-
-record-in-segment-requires : tie.Need-record-in-segment-requires
-record-in-segment-requires c κs = search needs
-
 returns-5 : tie.Need-returns-5
 returns-5 c =
     let a = c .before .before .before .before .before .before .before .before .before .before .before .args in
@@ -57,13 +39,13 @@ record-at-location-spec =
     tie.close
     (tie.spec
     returns
-    sub-location
+    (λ c. search needs)
     returns-2
     returns-3
     returns-4
-    mul-record-in-segment
-    shared-slice-read-record-in-segment
-    mul-record-in-segment-2
-    shared-slice-read-record-in-segment-2
-    record-in-segment-requires
+    (λ c. search needs)
+    (λ c. search needs)
+    (λ c. search needs)
+    (λ c. search needs)
+    (λ c κs. search needs)
     returns-5)

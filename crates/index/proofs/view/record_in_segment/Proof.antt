@@ -11,9 +11,6 @@ use borrow.Author.Needs.{needs}
 use Rattle.index.proofs.view.record_in_segment.Statement.{statement}
 use Rattle.index.proofs.view.record_in_segment.Tie as tie
 
-least-requires : tie.Need-least-requires
-least-requires c κs = search needs
-
 returns : tie.Need-returns
 returns c =
     let a = c .before .before .before .args in
@@ -25,27 +22,6 @@ returns-2 c =
     let a = c .before .before .before .before .args in
     let e = length-take (a .view .filled) (a .arena .now) in
     segment-outside (a .view .expiry) (take (a .view .filled) (a .arena .now)) (a .start) (a .length) (a .location) (omega arith)
-
-add-stop : tie.Need-add-stop
-add-stop c = search needs
-
-sub-record-at : tie.Need-sub-record-at
-sub-record-at c = search needs
-
-part-record-at-start : tie.Need-part-record-at-start
-part-record-at-start c = search needs
-
-part-record-at-end : tie.Need-part-record-at-end
-part-record-at-end c = search needs
-
-record-at-requires : tie.Need-record-at-requires
-record-at-requires c κs = search needs
-
-enum-known-read : tie.Need-enum-known-read
-enum-known-read c = search needs
-
-enum-told : tie.Need-enum-told
-enum-told c = search needs
 
 returns-3 : tie.Need-returns-3
 returns-3 c =
@@ -82,16 +58,16 @@ pub record-in-segment-spec : {M : Type 1} → statement M
 record-in-segment-spec =
     tie.close
     (tie.spec
-    least-requires
+    (λ c κs. search needs)
     returns
     returns-2
-    add-stop
-    sub-record-at
-    part-record-at-start
-    part-record-at-end
-    record-at-requires
-    enum-known-read
-    enum-told
+    (λ c. search needs)
+    (λ c. search needs)
+    (λ c. search needs)
+    (λ c. search needs)
+    (λ c κs. search needs)
+    (λ c. search needs)
+    (λ c. search needs)
     returns-3
     moved-record-requires
     returns-4)

@@ -13,39 +13,12 @@ key-of : (c : tie.After-key-len) → let d = c .before .before .before .before i
     Decoding (a .key-text .now) (a .key .now) (d .decode-hex .last .1 .0) (c .key-len .given .0 .0)
 key-of c = decode-some _ _ _ _ (rw (c .key-len .given .1) at (c .before .before .before .before .decode-hex .ensures))
 
-decode-hex-requires : tie.Need-decode-hex-requires
-decode-hex-requires c κs = search needs
-
-enum-known-key-len : tie.Need-enum-known-key-len
-enum-known-key-len c = search needs
-
-enum-told : tie.Need-enum-told
-enum-told c = search needs
-
-same-length : tie.Need-same-length
-same-length c = search needs
-
 returns : tie.Need-returns
 unfolding answerText replyText
 returns c = rw (decode-none _ _ _ (rw (c .enum-told .given .1) at (c .before .before .before .before .decode-hex .ensures)))
 
-sub-get-value : tie.Need-sub-get-value
-sub-get-value c = search needs
-
-part-get-value-start : tie.Need-part-get-value-start
-part-get-value-start c = search needs
-
 part-get-value-end : tie.Need-part-get-value-end
 part-get-value-end c = omega (arith, key-of (c .before .before) .room)
-
-get-value-requires : tie.Need-get-value-requires
-get-value-requires c κs = search needs
-
-same-length-2 : tie.Need-same-length-2
-same-length-2 c = search needs
-
-same-length-3 : tie.Need-same-length-3
-same-length-3 c = search needs
 
 returns-2 : tie.Need-returns-2
 returns-2 c = let k = key-of (c .before .before .before .before .before .before .before) in rw (k .spelled, ← k .front) (c .before .before .get-value .ensures)
@@ -54,15 +27,15 @@ pub get-line-spec : {M : Type 1} → statement M
 get-line-spec =
     tie.close
     (tie.spec
-    decode-hex-requires
-    enum-known-key-len
-    enum-told
-    same-length
+    (λ c κs. search needs)
+    (λ c. search needs)
+    (λ c. search needs)
+    (λ c. search needs)
     returns
-    sub-get-value
-    part-get-value-start
+    (λ c. search needs)
+    (λ c. search needs)
     part-get-value-end
-    get-value-requires
-    same-length-2
-    same-length-3
+    (λ c κs. search needs)
+    (λ c. search needs)
+    (λ c. search needs)
     returns-2)

@@ -24,62 +24,8 @@ Inv-loop block₀ out₀ key₀ value₀ arena₀ index₀ filter₀ scratch₀ 
 abbrev μ-loop : tie.MeasureT-loop
 μ-loop block₀ out₀ key₀ value₀ arena₀ index₀ filter₀ scratch₀ starts₀ lengths₀ state₀ left₀ block out key value arena index filter scratch starts lengths state left = left
 
-loop-holds : tie.Need-loop-holds Inv-loop μ-loop
-loop-holds c = search needs
-
-slice-aggregate-take-turn : tie.Need-slice-aggregate-take-turn Inv-loop μ-loop
-slice-aggregate-take-turn c = search needs
-
-slice-aggregate-take-turn-2 : tie.Need-slice-aggregate-take-turn-2 Inv-loop μ-loop
-slice-aggregate-take-turn-2 c = search needs
-
-slice-aggregate-take-turn-3 : tie.Need-slice-aggregate-take-turn-3 Inv-loop μ-loop
-slice-aggregate-take-turn-3 c = search needs
-
-slice-aggregate-take-turn-4 : tie.Need-slice-aggregate-take-turn-4 Inv-loop μ-loop
-slice-aggregate-take-turn-4 c = search needs
-
-slice-aggregate-take-turn-5 : tie.Need-slice-aggregate-take-turn-5 Inv-loop μ-loop
-slice-aggregate-take-turn-5 c = search needs
-
-slice-aggregate-take-turn-6 : tie.Need-slice-aggregate-take-turn-6 Inv-loop μ-loop
-slice-aggregate-take-turn-6 c = search needs
-
-slice-aggregate-take-turn-7 : tie.Need-slice-aggregate-take-turn-7 Inv-loop μ-loop
-slice-aggregate-take-turn-7 c = search needs
-
-slice-aggregate-take-turn-8 : tie.Need-slice-aggregate-take-turn-8 Inv-loop μ-loop
-slice-aggregate-take-turn-8 c = search needs
-
-slice-aggregate-take-turn-9 : tie.Need-slice-aggregate-take-turn-9 Inv-loop μ-loop
-slice-aggregate-take-turn-9 c = search needs
-
-slice-aggregate-take-turn-10 : tie.Need-slice-aggregate-take-turn-10 Inv-loop μ-loop
-slice-aggregate-take-turn-10 c = search needs
-
-take-turn-requires : tie.Need-take-turn-requires Inv-loop μ-loop
-take-turn-requires c κs = search needs
-
-enum-known-next : tie.Need-enum-known-next Inv-loop μ-loop
-enum-known-next c = search needs
-
-enum-told : tie.Need-enum-told Inv-loop μ-loop
-enum-told c = search needs
-
-returns : tie.Need-returns Inv-loop μ-loop
-returns c = search needs
-
-sub-left : tie.Need-sub-left Inv-loop μ-loop
-sub-left c = search needs
-
-loop-less : tie.Need-loop-less Inv-loop μ-loop
-loop-less c = search needs
-
 loop-again : tie.Need-loop-again Inv-loop μ-loop
 loop-again c = search (needs, ap waitingIn (c .before .next .given .1))
-
-returns-2 : tie.Need-returns-2 Inv-loop μ-loop
-returns-2 c = search needs
 
 pub run-spec : {M : Type 1} → statement M
 run-spec =
@@ -87,22 +33,22 @@ run-spec =
     (tie.spec
     Inv-loop
     μ-loop
-    loop-holds
-    slice-aggregate-take-turn
-    slice-aggregate-take-turn-2
-    slice-aggregate-take-turn-3
-    slice-aggregate-take-turn-4
-    slice-aggregate-take-turn-5
-    slice-aggregate-take-turn-6
-    slice-aggregate-take-turn-7
-    slice-aggregate-take-turn-8
-    slice-aggregate-take-turn-9
-    slice-aggregate-take-turn-10
-    take-turn-requires
-    enum-known-next
-    enum-told
-    returns
-    sub-left
-    loop-less
+    (λ c. search needs)
+    (λ c. search needs)
+    (λ c. search needs)
+    (λ c. search needs)
+    (λ c. search needs)
+    (λ c. search needs)
+    (λ c. search needs)
+    (λ c. search needs)
+    (λ c. search needs)
+    (λ c. search needs)
+    (λ c. search needs)
+    (λ c κs. search needs)
+    (λ c. search needs)
+    (λ c. search needs)
+    (λ c. search needs)
+    (λ c. search needs)
+    (λ c. search needs)
     loop-again
-    returns-2)
+    (λ c. search needs))

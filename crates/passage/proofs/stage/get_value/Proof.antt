@@ -11,45 +11,21 @@ use borrow.Author.Needs.{needs}
 use Rattle.passage.proofs.stage.get_value.Statement.{statement}
 use Rattle.passage.proofs.stage.get_value.Tie as tie
 
-enum-known-stage : tie.Need-enum-known-stage
-enum-known-stage c = search needs
-
 returns : tie.Need-returns
 unfolding answerText replyText
 returns c = let a = c .before .before .before .before .before .before .before .args in
     let n : (f : FrozenSegmentCache) → a .stage ≡ Finished f → ⊥ = λ b (f : a .stage ≡ Finished b). ⊎-elim (λ p. omega arith) (λ p. omega arith) (rw f at (c .match .keys2)) in
     get-out (a .stage) (a .hash) (a .key .now) (a .tick) (a .index .now) (a .filter .now) (a .starts .now) (a .lengths .now) (a .arena .now) n
 
-get-at-tick-requires : tie.Need-get-at-tick-requires
-get-at-tick-requires c κs = search needs
-
-enum-known-span : tie.Need-enum-known-span
-enum-known-span c = search needs
-
-enum-told : tie.Need-enum-told
-enum-told c = search needs
-
-enum-known-error : tie.Need-enum-known-error
-enum-known-error c = search needs
-
-same-length : tie.Need-same-length
-same-length c = search needs
-
 returns-2 : tie.Need-returns-2
 unfolding answerText replyText getStep
 returns-2 c = let g = c .before .before .before .before .before in
     rw (g .before .before .before .stage .given .1, ← g .get-at-tick .ensures, c .before .span .given .1)
 
-same-length-2 : tie.Need-same-length-2
-same-length-2 c = search needs
-
 returns-3 : tie.Need-returns-3
 unfolding answerText replyText getStep
 returns-3 c = let g = c .before .before .before .before in
     rw (g .before .before .before .stage .given .1, ← g .get-at-tick .ensures, c .enum-told .given .1)
-
-same-length-3 : tie.Need-same-length-3
-same-length-3 c = search needs
 
 returns-4 : tie.Need-returns-4
 unfolding answerText replyText getStep
@@ -60,15 +36,15 @@ pub get-value-spec : {M : Type 1} → statement M
 get-value-spec =
     tie.close
     (tie.spec
-    enum-known-stage
+    (λ c. search needs)
     returns
-    get-at-tick-requires
-    enum-known-span
-    enum-told
-    enum-known-error
-    same-length
+    (λ c κs. search needs)
+    (λ c. search needs)
+    (λ c. search needs)
+    (λ c. search needs)
+    (λ c. search needs)
     returns-2
-    same-length-2
+    (λ c. search needs)
     returns-3
-    same-length-3
+    (λ c. search needs)
     returns-4)

@@ -11,23 +11,11 @@ use borrow.Author.Needs.{needs}
 use Rattle.passage.proofs.stage.open_set.Statement.{statement}
 use Rattle.passage.proofs.stage.open_set.Tie as tie
 
-enum-told : tie.Need-enum-told
-enum-told c = search needs
-
 returns : tie.Need-returns
 unfolding answerText replyText
 returns c = let a = c .before .before .before .before .before .before .args in
     let n : a .stage ≡ Fresh → ⊥ = λ (f : a .stage ≡ Fresh). ⊎-elim (λ p. omega arith) (λ p. omega arith) (rw f at (c .match .keys2)) in
     open-out (a .stage) (a .records) (a .config) (a .index .now) (a .filter .now) (a .starts .now) (a .lengths .now) (a .arena .now) n
-
-try-new-requires : tie.Need-try-new-requires
-try-new-requires c κs = search needs
-
-enum-known-error : tie.Need-enum-known-error
-enum-known-error c = search needs
-
-enum-known-builder : tie.Need-enum-known-builder
-enum-known-builder c = search needs
 
 mul-t25 : tie.Need-mul-t25
 mul-t25 c =
@@ -38,22 +26,10 @@ mul-t25 c =
     (sym (ap (λ (o : Opened). o .answer) (rw (b .1) at (c .before .before .before .before .before .before .before .before .try-new .ensures)))) in
     omega (arith, l, s .good .1 .1 .1 .0 .1)
 
-same-length : tie.Need-same-length
-same-length c = search needs
-
-same-length-2 : tie.Need-same-length-2
-same-length-2 c = search needs
-
 returns-2 : tie.Need-returns-2
 unfolding answerText replyText openStep
 returns-2 c = let t = c .before .before .before .before .before .before .before in
     rw (t .before .before .before .enum-told .given .1, ← t .try-new .ensures, c .before .error .given .1)
-
-same-length-3 : tie.Need-same-length-3
-same-length-3 c = search needs
-
-same-length-4 : tie.Need-same-length-4
-same-length-4 c = search needs
 
 returns-3 : tie.Need-returns-3
 unfolding answerText replyText openStep
@@ -64,15 +40,15 @@ pub open-set-spec : {M : Type 1} → statement M
 open-set-spec =
     tie.close
     (tie.spec
-    enum-told
+    (λ c. search needs)
     returns
-    try-new-requires
-    enum-known-error
-    enum-known-builder
+    (λ c κs. search needs)
+    (λ c. search needs)
+    (λ c. search needs)
     mul-t25
-    same-length
-    same-length-2
+    (λ c. search needs)
+    (λ c. search needs)
     returns-2
-    same-length-3
-    same-length-4
+    (λ c. search needs)
+    (λ c. search needs)
     returns-3)

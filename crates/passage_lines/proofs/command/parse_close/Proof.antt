@@ -7,15 +7,6 @@ use borrow.Author.Needs.{needs}
 use Rattle.passage_lines.proofs.command.parse_close.Statement.{statement}
 use Rattle.passage_lines.proofs.command.parse_close.Tie as tie
 
-number-field-requires : tie.Need-number-field-requires
-number-field-requires c κs = search needs
-
-enum-known-target : tie.Need-enum-known-target
-enum-known-target c = search needs
-
-enum-told : tie.Need-enum-told
-enum-told c = search needs
-
 returns : tie.Need-returns
 unfolding closeForm
 returns c = rw (next-none (decimal 64) _ _ (sym (c .before .before .number-field .ensures) ∙ ap gotNumber (c .enum-told .given .1)))
@@ -33,4 +24,4 @@ returns-3 c = let t = c .before .before in
 pub parse-close-spec : {M : Type 1} → statement M
 parse-close-spec =
     tie.close
-    (tie.spec number-field-requires enum-known-target enum-told returns returns-2 returns-3)
+    (tie.spec (λ c κs. search needs) (λ c. search needs) (λ c. search needs) returns returns-2 returns-3)

@@ -27,39 +27,12 @@ tick-left : (t : tie.After-tick) → let k = t .before .before .before .before i
     Left h (t .tick .given .0 .1 .0) (done (Get (h .hash .given .0 .0) (k .key .given .0 .0) (t .tick .given .0 .0)))
 tick-left t = key-left (t .before .before .before .before) ∙ next-some (decimal 64) _ _ (sym (t .before .before .number-field2 .ensures) ∙ ap gotNumber (t .tick .given .1)) _
 
-number-field-requires : tie.Need-number-field-requires
-number-field-requires c κs = search needs
-
-enum-known-hash : tie.Need-enum-known-hash
-enum-known-hash c = search needs
-
-enum-told : tie.Need-enum-told
-enum-told c = search needs
-
 returns : tie.Need-returns
 unfolding getForm
 returns c = rw (next-none hash _ _ (sym (c .before .before .number-field .ensures) ∙ ap gotNumber (c .enum-told .given .1)))
 
-bytes-field-requires : tie.Need-bytes-field-requires
-bytes-field-requires c κs = search needs
-
-enum-known-key : tie.Need-enum-known-key
-enum-known-key c = search needs
-
-enum-told-2 : tie.Need-enum-told-2
-enum-told-2 c = search needs
-
 returns-2 : tie.Need-returns-2
 returns-2 c = rw (hash-left (c .before .before .before .before), next-none bytes _ _ (sym (c .before .before .bytes-field .ensures) ∙ ap gotBytes (c .enum-told2 .given .1)))
-
-number-field-requires-2 : tie.Need-number-field-requires-2
-number-field-requires-2 c κs = search needs
-
-enum-known-tick : tie.Need-enum-known-tick
-enum-known-tick c = search needs
-
-enum-told-3 : tie.Need-enum-told-3
-enum-told-3 c = search needs
 
 returns-3 : tie.Need-returns-3
 returns-3 c = rw (key-left (c .before .before .before .before), next-none (decimal 64) _ _ (sym (c .before .before .number-field2 .ensures) ∙ ap gotNumber (c .enum-told3 .given .1)))
@@ -74,17 +47,17 @@ pub parse-get-spec : {M : Type 1} → statement M
 parse-get-spec =
     tie.close
     (tie.spec
-    number-field-requires
-    enum-known-hash
-    enum-told
+    (λ c κs. search needs)
+    (λ c. search needs)
+    (λ c. search needs)
     returns
-    bytes-field-requires
-    enum-known-key
-    enum-told-2
+    (λ c κs. search needs)
+    (λ c. search needs)
+    (λ c. search needs)
     returns-2
-    number-field-requires-2
-    enum-known-tick
-    enum-told-3
+    (λ c κs. search needs)
+    (λ c. search needs)
+    (λ c. search needs)
     returns-3
     returns-4
     returns-5)

@@ -7,21 +7,9 @@ use borrow.Author.Needs.{needs}
 use Rattle.passage_lines.proofs.command.parse_open.Statement.{statement}
 use Rattle.passage_lines.proofs.command.parse_open.Tie as tie
 
-number-field-requires : tie.Need-number-field-requires
-number-field-requires c κs = search needs
-
-enum-known-records : tie.Need-enum-known-records
-enum-known-records c = search needs
-
-enum-told : tie.Need-enum-told
-enum-told c = search needs
-
 returns : tie.Need-returns
 unfolding openForm
 returns c = rw (next-none (decimal 64) _ _ (sym (c .before .before .number-field .ensures) ∙ ap gotNumber (c .enum-told .given .1)))
-
-parse-setting-requires : tie.Need-parse-setting-requires
-parse-setting-requires c κs = search needs
 
 returns-2 : tie.Need-returns-2
 unfolding openForm
@@ -32,9 +20,9 @@ pub parse-open-spec : {M : Type 1} → statement M
 parse-open-spec =
     tie.close
     (tie.spec
-    number-field-requires
-    enum-known-records
-    enum-told
+    (λ c κs. search needs)
+    (λ c. search needs)
+    (λ c. search needs)
     returns
-    parse-setting-requires
+    (λ c κs. search needs)
     returns-2)

@@ -32,51 +32,15 @@ ttl-left : (t : tie.After-ttl) → let v = t .before .before .before .before in 
     Left h (t .ttl .given .0 .1 .0) (done (Put (h .hash .given .0 .0) (k .key .given .0 .0) (v .value .given .0 .0) (t .ttl .given .0 .0)))
 ttl-left t = value-left (t .before .before .before .before) ∙ next-some lifetime _ _ (sym (t .before .before .lifetime-field .ensures) ∙ ap gotLifetime (t .ttl .given .1)) _
 
-number-field-requires : tie.Need-number-field-requires
-number-field-requires c κs = search needs
-
-enum-known-hash : tie.Need-enum-known-hash
-enum-known-hash c = search needs
-
-enum-told : tie.Need-enum-told
-enum-told c = search needs
-
 returns : tie.Need-returns
 unfolding putForm
 returns c = rw (next-none hash _ _ (sym (c .before .before .number-field .ensures) ∙ ap gotNumber (c .enum-told .given .1)))
 
-bytes-field-requires : tie.Need-bytes-field-requires
-bytes-field-requires c κs = search needs
-
-enum-known-key : tie.Need-enum-known-key
-enum-known-key c = search needs
-
-enum-told-2 : tie.Need-enum-told-2
-enum-told-2 c = search needs
-
 returns-2 : tie.Need-returns-2
 returns-2 c = rw (hash-left (c .before .before .before .before), next-none bytes _ _ (sym (c .before .before .bytes-field .ensures) ∙ ap gotBytes (c .enum-told2 .given .1)))
 
-bytes-field-requires-2 : tie.Need-bytes-field-requires-2
-bytes-field-requires-2 c κs = search needs
-
-enum-known-value : tie.Need-enum-known-value
-enum-known-value c = search needs
-
-enum-told-3 : tie.Need-enum-told-3
-enum-told-3 c = search needs
-
 returns-3 : tie.Need-returns-3
 returns-3 c = rw (key-left (c .before .before .before .before), next-none bytes _ _ (sym (c .before .before .bytes-field2 .ensures) ∙ ap gotBytes (c .enum-told3 .given .1)))
-
-lifetime-field-requires : tie.Need-lifetime-field-requires
-lifetime-field-requires c κs = search needs
-
-enum-known-ttl : tie.Need-enum-known-ttl
-enum-known-ttl c = search needs
-
-enum-told-4 : tie.Need-enum-told-4
-enum-told-4 c = search needs
 
 returns-4 : tie.Need-returns-4
 returns-4 c = rw (value-left (c .before .before .before .before), next-none lifetime _ _ (sym (c .before .before .lifetime-field .ensures) ∙ ap gotLifetime (c .enum-told4 .given .1)))
@@ -91,21 +55,21 @@ pub parse-put-spec : {M : Type 1} → statement M
 parse-put-spec =
     tie.close
     (tie.spec
-    number-field-requires
-    enum-known-hash
-    enum-told
+    (λ c κs. search needs)
+    (λ c. search needs)
+    (λ c. search needs)
     returns
-    bytes-field-requires
-    enum-known-key
-    enum-told-2
+    (λ c κs. search needs)
+    (λ c. search needs)
+    (λ c. search needs)
     returns-2
-    bytes-field-requires-2
-    enum-known-value
-    enum-told-3
+    (λ c κs. search needs)
+    (λ c. search needs)
+    (λ c. search needs)
     returns-3
-    lifetime-field-requires
-    enum-known-ttl
-    enum-told-4
+    (λ c κs. search needs)
+    (λ c. search needs)
+    (λ c. search needs)
     returns-4
     returns-5
     returns-6)

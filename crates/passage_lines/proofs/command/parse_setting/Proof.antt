@@ -35,51 +35,15 @@ expiry-left : (e : tie.After-expiry) → let f = e .before .before .before .befo
     Left o (e .expiry .given .0 .1 .0) (λ opened. done (opened (setting (e .expiry .given .0 .0) (o .occupancy .given .0 .0) (p .packed .given .0 .0) (f .filter .given .0 .0))))
 expiry-left e = filter-left (e .before .before .before .before) ∙ next-some tickLength _ _ (sym (e .before .before .tick-field .ensures) ∙ ap gotTick (e .expiry .given .1)) _
 
-number-field-requires : tie.Need-number-field-requires
-number-field-requires c κs = search needs
-
-enum-known-occupancy : tie.Need-enum-known-occupancy
-enum-known-occupancy c = search needs
-
-enum-told : tie.Need-enum-told
-enum-told c = search needs
-
 returns : tie.Need-returns
 unfolding settingForm
 returns c = rw (next-none (decimal 8) _ _ (sym (c .before .before .number-field .ensures) ∙ ap gotNumber (c .enum-told .given .1)))
 
-layout-field-requires : tie.Need-layout-field-requires
-layout-field-requires c κs = search needs
-
-enum-known-packed : tie.Need-enum-known-packed
-enum-known-packed c = search needs
-
-enum-told-2 : tie.Need-enum-told-2
-enum-told-2 c = search needs
-
 returns-2 : tie.Need-returns-2
 returns-2 c = rw (occupancy-left (c .before .before .before .before), next-none layout _ _ (sym (c .before .before .layout-field .ensures) ∙ ap gotLayout (c .enum-told2 .given .1)))
 
-number-field-requires-2 : tie.Need-number-field-requires-2
-number-field-requires-2 c κs = search needs
-
-enum-known-filter : tie.Need-enum-known-filter
-enum-known-filter c = search needs
-
-enum-told-3 : tie.Need-enum-told-3
-enum-told-3 c = search needs
-
 returns-3 : tie.Need-returns-3
 returns-3 c = rw (packed-left (c .before .before .before .before), next-none (decimal 8) _ _ (sym (c .before .before .number-field2 .ensures) ∙ ap gotNumber (c .enum-told3 .given .1)))
-
-tick-field-requires : tie.Need-tick-field-requires
-tick-field-requires c κs = search needs
-
-enum-known-expiry : tie.Need-enum-known-expiry
-enum-known-expiry c = search needs
-
-enum-told-4 : tie.Need-enum-told-4
-enum-told-4 c = search needs
 
 returns-4 : tie.Need-returns-4
 returns-4 c = rw (filter-left (c .before .before .before .before), next-none tickLength _ _ (sym (c .before .before .tick-field .ensures) ∙ ap gotTick (c .enum-told4 .given .1)))
@@ -102,21 +66,21 @@ pub parse-setting-spec : {M : Type 1} → statement M
 parse-setting-spec =
     tie.close
     (tie.spec
-    number-field-requires
-    enum-known-occupancy
-    enum-told
+    (λ c κs. search needs)
+    (λ c. search needs)
+    (λ c. search needs)
     returns
-    layout-field-requires
-    enum-known-packed
-    enum-told-2
+    (λ c κs. search needs)
+    (λ c. search needs)
+    (λ c. search needs)
     returns-2
-    number-field-requires-2
-    enum-known-filter
-    enum-told-3
+    (λ c κs. search needs)
+    (λ c. search needs)
+    (λ c. search needs)
     returns-3
-    tick-field-requires
-    enum-known-expiry
-    enum-told-4
+    (λ c κs. search needs)
+    (λ c. search needs)
+    (λ c. search needs)
     returns-4
     returns-5
     cast-t18

@@ -10,33 +10,9 @@ use Rattle.passage_lines.proofs.fields.bytes_field.Tie as tie
 returns : tie.Need-returns
 returns c = sym (field-none bytes _ _ (c .if1 .taken))
 
-find-byte-requires : tie.Need-find-byte-requires
-find-byte-requires c κs = search needs
-
-sub-hex-length : tie.Need-sub-hex-length
-sub-hex-length c = search needs
-
-part-hex-length-start : tie.Need-part-hex-length-start
-part-hex-length-start c = search needs
-
-part-hex-length-end : tie.Need-part-hex-length-end
-part-hex-length-end c = search needs
-
-hex-length-requires : tie.Need-hex-length-requires
-hex-length-requires c κs = search needs
-
-enum-known-len : tie.Need-enum-known-len
-enum-known-len c = search needs
-
-enum-told : tie.Need-enum-told
-enum-told c = search needs
-
 returns-2 : tie.Need-returns-2
 returns-2 c = let e = c .before .before .before .before in
     field-got bytes _ _ _ (e .before .if1 .left) (e .find-byte .ensures .0) (ap (spanOf _) (sym (c .before .before .hex-length .ensures) ∙ ap numberGiven (c .enum-told .given .1)))
-
-add-t12 : tie.Need-add-t12
-add-t12 c = search needs
 
 returns-3 : tie.Need-returns-3
 returns-3 c = let e = c .before .before .before .before .before in
@@ -47,13 +23,13 @@ bytes-field-spec =
     tie.close
     (tie.spec
     returns
-    find-byte-requires
-    sub-hex-length
-    part-hex-length-start
-    part-hex-length-end
-    hex-length-requires
-    enum-known-len
-    enum-told
+    (λ c κs. search needs)
+    (λ c. search needs)
+    (λ c. search needs)
+    (λ c. search needs)
+    (λ c κs. search needs)
+    (λ c. search needs)
+    (λ c. search needs)
     returns-2
-    add-t12
+    (λ c. search needs)
     returns-3)

@@ -10,33 +10,9 @@ use Rattle.passage_lines.proofs.fields.number_field.Tie as tie
 returns : tie.Need-returns
 returns c = sym (field-none (number _ _) _ _ (c .if1 .taken))
 
-find-byte-requires : tie.Need-find-byte-requires
-find-byte-requires c κs = search needs
-
-sub-parse-number : tie.Need-sub-parse-number
-sub-parse-number c = search needs
-
-part-parse-number-start : tie.Need-part-parse-number-start
-part-parse-number-start c = search needs
-
-part-parse-number-end : tie.Need-part-parse-number-end
-part-parse-number-end c = search needs
-
-parse-number-requires : tie.Need-parse-number-requires
-parse-number-requires c κs = search needs
-
-enum-known-value : tie.Need-enum-known-value
-enum-known-value c = search needs
-
-enum-told : tie.Need-enum-told
-enum-told c = search needs
-
 returns-2 : tie.Need-returns-2
 returns-2 c = let e = c .before .before .before .before in
     field-got (number _ _) _ _ _ (e .before .if1 .left) (e .find-byte .ensures .0) (sym (c .before .before .parse-number .ensures) ∙ ap numberGiven (c .enum-told .given .1))
-
-add-t7 : tie.Need-add-t7
-add-t7 c = search needs
 
 returns-3 : tie.Need-returns-3
 returns-3 c = let e = c .before .before .before .before .before in
@@ -47,13 +23,13 @@ number-field-spec =
     tie.close
     (tie.spec
     returns
-    find-byte-requires
-    sub-parse-number
-    part-parse-number-start
-    part-parse-number-end
-    parse-number-requires
-    enum-known-value
-    enum-told
+    (λ c κs. search needs)
+    (λ c. search needs)
+    (λ c. search needs)
+    (λ c. search needs)
+    (λ c κs. search needs)
+    (λ c. search needs)
+    (λ c. search needs)
     returns-2
-    add-t7
+    (λ c. search needs)
     returns-3)

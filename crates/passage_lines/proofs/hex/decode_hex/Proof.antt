@@ -12,9 +12,6 @@ use Rattle.passage_lines.proofs.hex.decode_hex.Tie as tie
 hex-of : (c : tie.Else1) → isHex (c .before .before .before .before .args .text .now) ≡ true
 hex-of c = sym (c .before .is-hex .ensures) ∙ not-false (c .before .is-hex .result) (c .if1 .left)
 
-is-hex-requires : tie.Need-is-hex-requires
-is-hex-requires c κs = search needs
-
 returns : tie.Need-returns
 returns c = decoded-bad _ _ (sym (c .before .is-hex .ensures) ∙ not-true _ (c .if1 .taken))
 
@@ -24,13 +21,10 @@ returns-2 c = decoded-short _ (hex-of (c .before)) _ (c .if2 .taken)
 write-bytes-requires : tie.Need-write-bytes-requires
 write-bytes-requires c κs = let h = hex-of (c .before .before) in (h, omega (arith, bytes-length _ h))
 
-same-length : tie.Need-same-length
-same-length c = search needs
-
 returns-3 : tie.Need-returns-3
 returns-3 c = decoded-in _ (hex-of (c .before .before .before .before .before)) _ _ _ refl (omega arith) (c .before .before .write-bytes .ensures)
 
 pub decode-hex-spec : {M : Type 1} → statement M
 decode-hex-spec =
     tie.close
-    (tie.spec is-hex-requires returns returns-2 write-bytes-requires same-length returns-3)
+    (tie.spec (λ c κs. search needs) returns returns-2 write-bytes-requires (λ c. search needs) returns-3)

@@ -6,12 +6,6 @@ use borrow.Author.Needs.{needs}
 use Rattle.passage_lines.proofs.hex.hex_length.Statement.{statement}
 use Rattle.passage_lines.proofs.hex.hex_length.Tie as tie
 
-slice-aggregate-same-bytes : tie.Need-slice-aggregate-same-bytes
-slice-aggregate-same-bytes c = search needs
-
-same-bytes-requires : tie.Need-same-bytes-requires
-same-bytes-requires c κs = search needs
-
 returns : tie.Need-returns
 unfolding hexLength
 returns c = rw (sym (c .before .same-bytes .ensures) ∙ c .if1 .taken)
@@ -19,9 +13,6 @@ returns c = rw (sym (c .before .same-bytes .ensures) ∙ c .if1 .taken)
 returns-2 : tie.Need-returns-2
 unfolding hexLength
 returns-2 c = rw (sym (c .before .before .same-bytes .ensures) ∙ c .before .if1 .left, eq-eqb _ 0 (c .if2 .taken))
-
-is-hex-requires : tie.Need-is-hex-requires
-is-hex-requires c κs = search needs
 
 returns-3 : tie.Need-returns-3
 unfolding hexLength
@@ -37,10 +28,10 @@ pub hex-length-spec : {M : Type 1} → statement M
 hex-length-spec =
     tie.close
     (tie.spec
-    slice-aggregate-same-bytes
-    same-bytes-requires
+    (λ c. search needs)
+    (λ c κs. search needs)
     returns
     returns-2
-    is-hex-requires
+    (λ c κs. search needs)
     returns-3
     returns-4)

@@ -17,40 +17,16 @@ abbrev μ-loop : tie.MeasureT-loop
 loop-holds : tie.Need-loop-holds Inv-loop μ-loop
 loop-holds c = (refl, omega arith)
 
-sub-loop : tie.Need-sub-loop Inv-loop μ-loop
-sub-loop c = omega arith
-
-shared-slice-read-digit : tie.Need-shared-slice-read-digit Inv-loop μ-loop
-shared-slice-read-digit c = omega arith
-
-digit-requires : tie.Need-digit-requires Inv-loop μ-loop
-digit-requires c κs = tt
-
 returns : tie.Need-returns Inv-loop μ-loop
 unfolding isHex
 returns c = let l = c .before .before .before .before .loop in
     sym (sym (l .inv .0) ∙ ap spells (high-bad _ (l .i) _ (omega arith) (c .before .digit .ensures .0) (c .if1 .taken)))
-
-add-digit : tie.Need-add-digit Inv-loop μ-loop
-add-digit c = omega arith
-
-shared-slice-read-digit-2 : tie.Need-shared-slice-read-digit-2 Inv-loop μ-loop
-shared-slice-read-digit-2 c = omega arith
-
-digit-requires-2 : tie.Need-digit-requires-2 Inv-loop μ-loop
-digit-requires-2 c κs = tt
 
 returns-2 : tie.Need-returns-2 Inv-loop μ-loop
 unfolding isHex
 returns-2 c = let l = c .before .before .before .before .before .before .before .loop in
     let h = c .before .before .before in
     sym (sym (l .inv .0) ∙ ap spells (low-bad _ (l .i) _ (omega arith) (h .before .digit .ensures .0) _ (c .before .digit2 .ensures .0) (h .if1 .left) (c .if2 .taken)))
-
-add-i : tie.Need-add-i Inv-loop μ-loop
-add-i c = omega arith
-
-loop-less : tie.Need-loop-less Inv-loop μ-loop
-loop-less c = omega arith
 
 loop-again : tie.Need-loop-again Inv-loop μ-loop
 loop-again c = let l = c .before .before .before .before .before .before .before .loop in
@@ -67,15 +43,15 @@ is-hex-spec =
     Inv-loop
     μ-loop
     loop-holds
-    sub-loop
-    shared-slice-read-digit
-    digit-requires
+    (λ c. omega arith)
+    (λ c. omega arith)
+    (λ c κs. tt)
     returns
-    add-digit
-    shared-slice-read-digit-2
-    digit-requires-2
+    (λ c. omega arith)
+    (λ c. omega arith)
+    (λ c κs. tt)
     returns-2
-    add-i
-    loop-less
+    (λ c. omega arith)
+    (λ c. omega arith)
     loop-again
     returns-3)

@@ -43,20 +43,11 @@ room-of c = omega (arith, room (c .before .before .before .before .before .loop 
 loop-holds : tie.Need-loop-holds Inv-loop μ-loop
 loop-holds c = let s = c .before .before in (begin _ _ (omega (arith, bytes-length _ (s .pre .0))), s .pre .0)
 
-shared-slice-read-digit : tie.Need-shared-slice-read-digit Inv-loop μ-loop
-shared-slice-read-digit c = omega arith
-
-digit-requires : tie.Need-digit-requires Inv-loop μ-loop
-digit-requires c κs = tt
-
 add-digit : tie.Need-add-digit Inv-loop μ-loop
 add-digit c = omega (arith, two-of (c .before .before))
 
 shared-slice-read-digit-2 : tie.Need-shared-slice-read-digit-2 Inv-loop μ-loop
 shared-slice-read-digit-2 c = omega (arith, two-of (c .before .before .before))
-
-digit-requires-2 : tie.Need-digit-requires-2 Inv-loop μ-loop
-digit-requires-2 c κs = tt
 
 mul-out : tie.Need-mul-out Inv-loop μ-loop
 mul-out c = omega (arith, digits-of c)
@@ -97,11 +88,11 @@ write-bytes-spec =
     Inv-loop
     μ-loop
     loop-holds
-    shared-slice-read-digit
-    digit-requires
+    (λ c. omega arith)
+    (λ c κs. tt)
     add-digit
     shared-slice-read-digit-2
-    digit-requires-2
+    (λ c κs. tt)
     mul-out
     add-out
     cast-out

@@ -13,16 +13,10 @@ returns-2 : tie.Need-returns-2
 unfolding keptUnread
 returns-2 c = rw (le-ltb _ _ (c .before .if1 .left), lt-ltb _ _ (c .if2 .taken))
 
-move-front-requires : tie.Need-move-front-requires
-move-front-requires c κs = search needs
-
-same-length : tie.Need-same-length
-same-length c = search needs
-
 returns-3 : tie.Need-returns-3
 unfolding keptUnread
 returns-3 c = let e = c .before .before .before .before in
     rw (le-ltb _ _ (e .before .if1 .left), le-ltb _ _ (e .if2 .left), c .before .before .move-front .ensures)
 
 pub keep-unread-spec : {M : Type 1} → statement M
-keep-unread-spec = tie.close (tie.spec returns returns-2 move-front-requires same-length returns-3)
+keep-unread-spec = tie.close (tie.spec returns returns-2 (λ c κs. search needs) (λ c. search needs) returns-3)

@@ -4,9 +4,6 @@ use borrow.Author.Needs.{needs}
 use Rattle.passage_lines.proofs.input.line_before.Statement.{statement}
 use Rattle.passage_lines.proofs.input.line_before.Tie as tie
 
-add-if4 : tie.Need-add-if4
-add-if4 c = search needs
-
 returns : tie.Need-returns
 returns c = rw (c .before .if1 .taken, lt-ltb _ _ (c .if2 .taken))
 
@@ -16,9 +13,6 @@ returns-2 c = rw (c .before .if1 .taken, le-ltb _ _ (c .if2 .left))
 returns-3 : tie.Need-returns-3
 returns-3 c = rw (c .before .if1 .left, lt-ltb _ _ (c .if3 .taken))
 
-sub-if4 : tie.Need-sub-if4
-sub-if4 c = search needs
-
 returns-4 : tie.Need-returns-4
 returns-4 c = rw (c .before .before .if1 .left, le-ltb _ _ (c .before .if3 .left), lt-ltb _ _ (c .if4 .taken))
 
@@ -27,4 +21,4 @@ returns-5 c = rw (c .before .before .if1 .left, le-ltb _ _ (c .before .if3 .left
 
 pub line-before-spec : {M : Type 1} → statement M
 line-before-spec =
-    tie.close (tie.spec add-if4 returns returns-2 returns-3 sub-if4 returns-4 returns-5)
+    tie.close (tie.spec (λ c. search needs) returns returns-2 returns-3 (λ c. search needs) returns-4 returns-5)

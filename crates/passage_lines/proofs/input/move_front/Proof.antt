@@ -17,20 +17,11 @@ abbrev μ-loop : tie.MeasureT-loop
 loop-holds : tie.Need-loop-holds Inv-loop μ-loop
 loop-holds c = let a = c .args in begin _ _ (omega (arith, part-length (a .at) (a .count) (a .block .now) (c .pre)))
 
-add-block : tie.Need-add-block Inv-loop μ-loop
-add-block c = omega arith
-
 slice-read-block : tie.Need-slice-read-block Inv-loop μ-loop
 slice-read-block c = omega (arith, room (c .before .before .loop .inv))
 
 slice-write-block : tie.Need-slice-write-block Inv-loop μ-loop
 slice-write-block c = omega (arith, room (c .before .before .loop .inv))
-
-add-i : tie.Need-add-i Inv-loop μ-loop
-add-i c = omega arith
-
-loop-less : tie.Need-loop-less Inv-loop μ-loop
-loop-less c = omega arith
 
 loop-again : tie.Need-loop-again Inv-loop μ-loop
 loop-again c = let l = c .before .before .loop in
@@ -52,11 +43,11 @@ move-front-spec =
     Inv-loop
     μ-loop
     loop-holds
-    add-block
+    (λ c. omega arith)
     slice-read-block
     slice-write-block
-    add-i
-    loop-less
+    (λ c. omega arith)
+    (λ c. omega arith)
     loop-again
     same-length
     returns)

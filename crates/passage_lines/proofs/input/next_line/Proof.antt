@@ -16,21 +16,6 @@ returns-2 : tie.Need-returns-2
 unfolding nextLine
 returns-2 c = rw (le-ltb _ _ (c .before .if1 .left), lt-ltb _ _ (c .if2 .taken))
 
-sub-find-byte : tie.Need-sub-find-byte
-sub-find-byte c = search needs
-
-part-find-byte-start : tie.Need-part-find-byte-start
-part-find-byte-start c = search needs
-
-part-find-byte-end : tie.Need-part-find-byte-end
-part-find-byte-end c = search needs
-
-find-byte-requires : tie.Need-find-byte-requires
-find-byte-requires c κs = search needs
-
-line-before-requires : tie.Need-line-before-requires
-line-before-requires c κs = search needs
-
 returns-3 : tie.Need-returns-3
 unfolding nextLine
 returns-3 c = let e = c .before .before .before in
@@ -44,9 +29,9 @@ next-line-spec =
     (tie.spec
     returns
     returns-2
-    sub-find-byte
-    part-find-byte-start
-    part-find-byte-end
-    find-byte-requires
-    line-before-requires
+    (λ c. search needs)
+    (λ c. search needs)
+    (λ c. search needs)
+    (λ c κs. search needs)
+    (λ c κs. search needs)
     returns-3)

@@ -4,17 +4,11 @@ use borrow.Author.Needs.{needs}
 use Rattle.passage_lines.proofs.output.hex_digit.Statement.{statement}
 use Rattle.passage_lines.proofs.output.hex_digit.Tie as tie
 
-add-result : tie.Need-add-result
-add-result c = search needs
-
 returns : tie.Need-returns
 returns c = rw (lt-ltb (c .before .args .value) 10 (c .if1 .taken))
-
-add-result-2 : tie.Need-add-result-2
-add-result-2 c = search needs
 
 returns-2 : tie.Need-returns-2
 returns-2 c = rw (le-ltb (c .before .args .value) 10 (c .if1 .left))
 
 pub hex-digit-spec : {M : Type 1} → statement M
-hex-digit-spec = tie.close (tie.spec add-result returns add-result-2 returns-2)
+hex-digit-spec = tie.close (tie.spec (λ c. search needs) returns (λ c. search needs) returns-2)

@@ -18,29 +18,14 @@ loop-holds c = spelt-start (c .args .value) (c .args .digits .now) (omega arith)
 sub-i : tie.Need-sub-i Inv-loop μ-loop
 sub-i c = omega (arith, spelt-room (c .before .loop .inv))
 
-add-digits : tie.Need-add-digits Inv-loop μ-loop
-add-digits c = omega arith
-
-cast-digits : tie.Need-cast-digits Inv-loop μ-loop
-cast-digits c = omega arith
-
 slice-write-digits : tie.Need-slice-write-digits Inv-loop μ-loop
 slice-write-digits c = omega (arith, spelt-room (c .before .loop .inv))
-
-loop-less : tie.Need-loop-less Inv-loop μ-loop
-loop-less c = omega arith
 
 loop-again : tie.Need-loop-again Inv-loop μ-loop
 loop-again c = spelt-next (c .before .loop .inv) (c .loop-test .taken)
 
 sub-i-2 : tie.Need-sub-i-2 Inv-loop μ-loop
 sub-i-2 c = omega (arith, spelt-room (c .before .loop .inv))
-
-add-digits-2 : tie.Need-add-digits-2 Inv-loop μ-loop
-add-digits-2 c = omega arith
-
-cast-digits-2 : tie.Need-cast-digits-2 Inv-loop μ-loop
-cast-digits-2 c = omega arith
 
 slice-write-digits-2 : tie.Need-slice-write-digits-2 Inv-loop μ-loop
 slice-write-digits-2 c = omega (arith, spelt-room (c .before .loop .inv))
@@ -59,14 +44,14 @@ write-digits-spec =
     μ-loop
     loop-holds
     sub-i
-    add-digits
-    cast-digits
+    (λ c. omega arith)
+    (λ c. omega arith)
     slice-write-digits
-    loop-less
+    (λ c. omega arith)
     loop-again
     sub-i-2
-    add-digits-2
-    cast-digits-2
+    (λ c. omega arith)
+    (λ c. omega arith)
     slice-write-digits-2
     same-length
     returns)

@@ -31,17 +31,11 @@ room-of c = let r = room (c .before .loop .inv) in (omega (arith, ap length (nex
 loop-holds : tie.Need-loop-holds Inv-loop μ-loop
 loop-holds c = begin _ _ (omega (arith, hex-length (c .before .before .args .bytes .now)))
 
-shared-slice-read-byte : tie.Need-shared-slice-read-byte Inv-loop μ-loop
-shared-slice-read-byte c = omega arith
-
 hex-digit-requires : tie.Need-hex-digit-requires Inv-loop μ-loop
 hex-digit-requires c κs = omega (arith, c .shared-slice-known2 .given (c .before .before .loop .i))
 
 slice-write-out : tie.Need-slice-write-out Inv-loop μ-loop
 slice-write-out c = omega (arith, room-of (c .before .before))
-
-hex-digit-requires-2 : tie.Need-hex-digit-requires-2 Inv-loop μ-loop
-hex-digit-requires-2 c κs = omega arith
 
 add-out : tie.Need-add-out Inv-loop μ-loop
 add-out c = omega (arith, room-of (c .before .before .before))
@@ -51,12 +45,6 @@ slice-write-out-2 c = simp length-set (omega (arith, room-of (c .before .before 
 
 add-at : tie.Need-add-at Inv-loop μ-loop
 add-at c = omega (arith, room-of (c .before .before .before))
-
-add-i : tie.Need-add-i Inv-loop μ-loop
-add-i c = omega arith
-
-loop-less : tie.Need-loop-less Inv-loop μ-loop
-loop-less c = omega arith
 
 loop-again : tie.Need-loop-again Inv-loop μ-loop
 loop-again c = let l = c .before .before .before .before .loop in
@@ -81,15 +69,15 @@ write-hex-spec =
     Inv-loop
     μ-loop
     loop-holds
-    shared-slice-read-byte
+    (λ c. omega arith)
     hex-digit-requires
     slice-write-out
-    hex-digit-requires-2
+    (λ c κs. omega arith)
     add-out
     slice-write-out-2
     add-at
-    add-i
-    loop-less
+    (λ c. omega arith)
+    (λ c. omega arith)
     loop-again
     same-length
     returns)

@@ -9,18 +9,6 @@ use borrow.Author.Needs.{needs}
 use Rattle.passage_lines.proofs.reply.put_number.Statement.{statement}
 use Rattle.passage_lines.proofs.reply.put_number.Tie as tie
 
-slice-aggregate-put-text : tie.Need-slice-aggregate-put-text
-slice-aggregate-put-text c = search needs
-
-put-text-requires : tie.Need-put-text-requires
-put-text-requires c κs = search needs
-
-put-decimal-requires : tie.Need-put-decimal-requires
-put-decimal-requires c κs = search needs
-
-same-length : tie.Need-same-length
-same-length c = search needs
-
 returns : tie.Need-returns
 returns c = let t = c .before .before .before .before .before .before in
     let s = t .before .before .before .before in
@@ -33,4 +21,4 @@ returns c = let t = c .before .before .before .before .before .before in
 pub put-number-spec : {M : Type 1} → statement M
 put-number-spec =
     tie.close
-    (tie.spec slice-aggregate-put-text put-text-requires put-decimal-requires same-length returns)
+    (tie.spec (λ c. search needs) (λ c κs. search needs) (λ c κs. search needs) (λ c. search needs) returns)

@@ -6,27 +6,6 @@ use borrow.Author.Needs.{needs}
 use Rattle.passage_lines.proofs.reply.put_reply.Statement.{statement}
 use Rattle.passage_lines.proofs.reply.put_reply.Tie as tie
 
-slice-aggregate-write-reply : tie.Need-slice-aggregate-write-reply
-slice-aggregate-write-reply c = search needs
-
-write-reply-requires : tie.Need-write-reply-requires
-write-reply-requires c κs = search needs
-
-sub-put-text : tie.Need-sub-put-text
-sub-put-text c = search needs
-
-part-put-text-start : tie.Need-part-put-text-start
-part-put-text-start c = search needs
-
-part-put-text-end : tie.Need-part-put-text-end
-part-put-text-end c = search needs
-
-put-text-requires : tie.Need-put-text-requires
-put-text-requires c κs = search needs
-
-same-length : tie.Need-same-length
-same-length c = search needs
-
 returns : tie.Need-returns
 returns c = let s = c .before .before .before .before .before .before .before in
     let w = s .write-reply in
@@ -36,11 +15,11 @@ pub put-reply-spec : {M : Type 1} → statement M
 put-reply-spec =
     tie.close
     (tie.spec
-    slice-aggregate-write-reply
-    write-reply-requires
-    sub-put-text
-    part-put-text-start
-    part-put-text-end
-    put-text-requires
-    same-length
+    (λ c. search needs)
+    (λ c κs. search needs)
+    (λ c. search needs)
+    (λ c. search needs)
+    (λ c. search needs)
+    (λ c κs. search needs)
+    (λ c. search needs)
     returns)

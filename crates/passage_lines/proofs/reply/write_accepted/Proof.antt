@@ -40,9 +40,6 @@ after-second : (c : tie.After-put-number3)
     Left s lineFeed (c .put-number3 .last .0) (c .put-number3 .result)
 after-second c = next-number _ (after-first (c .before .before .before .before)) (c .put-number3 .ensures)
 
-put-word-requires : tie.Need-put-word-requires
-put-word-requires c κs = search needs
-
 put-number-requires : tie.Need-put-number-requires
 put-number-requires c κs = number-fits _ _ (after-word (c .before .before .before))
 
@@ -51,15 +48,6 @@ put-number-requires-2 c κs = number-fits _ _ (after-zero (c .before .before .be
 
 put-number-requires-3 : tie.Need-put-number-requires-3
 put-number-requires-3 c κs = number-fits _ _ (after-first (c .before .before .before))
-
-slice-aggregate-put-text : tie.Need-slice-aggregate-put-text
-slice-aggregate-put-text c = search needs
-
-put-text-requires : tie.Need-put-text-requires
-put-text-requires c κs = search needs
-
-same-length : tie.Need-same-length
-same-length c = search needs
 
 returns : tie.Need-returns
 returns c = let t = c .before .before .put-text in
@@ -72,11 +60,11 @@ pub write-accepted-spec : {M : Type 1} → statement M
 write-accepted-spec =
     tie.close
     (tie.spec
-    put-word-requires
+    (λ c κs. search needs)
     put-number-requires
     put-number-requires-2
     put-number-requires-3
-    slice-aggregate-put-text
-    put-text-requires
-    same-length
+    (λ c. search needs)
+    (λ c κs. search needs)
+    (λ c. search needs)
     returns)

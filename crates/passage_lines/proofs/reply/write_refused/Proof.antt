@@ -24,20 +24,8 @@ after-word c = let s = c .before .before .before in next-text (wordText (s .args
 after-number : (c : tie.After-put-number) → Left (c .before .before .before .before .before .before .before) lineFeed (c .put-number .last .0) (c .put-number .result)
 after-number c = next-number _ (after-word (c .before .before .before .before)) (c .put-number .ensures)
 
-put-word-requires : tie.Need-put-word-requires
-put-word-requires c κs = search needs
-
 put-number-requires : tie.Need-put-number-requires
 put-number-requires c κs = number-fits _ _ (after-word (c .before .before .before))
-
-slice-aggregate-put-text : tie.Need-slice-aggregate-put-text
-slice-aggregate-put-text c = search needs
-
-put-text-requires : tie.Need-put-text-requires
-put-text-requires c κs = search needs
-
-same-length : tie.Need-same-length
-same-length c = search needs
 
 returns : tie.Need-returns
 returns c = let t = c .before .before .put-text in
@@ -49,9 +37,9 @@ pub write-refused-spec : {M : Type 1} → statement M
 write-refused-spec =
     tie.close
     (tie.spec
-    put-word-requires
+    (λ c κs. search needs)
     put-number-requires
-    slice-aggregate-put-text
-    put-text-requires
-    same-length
+    (λ c. search needs)
+    (λ c κs. search needs)
+    (λ c. search needs)
     returns)

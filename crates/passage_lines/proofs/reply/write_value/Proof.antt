@@ -9,24 +9,6 @@ use borrow.Author.Needs.{needs}
 use Rattle.passage_lines.proofs.reply.write_value.Statement.{statement}
 use Rattle.passage_lines.proofs.reply.write_value.Tie as tie
 
-slice-aggregate-put-text : tie.Need-slice-aggregate-put-text
-slice-aggregate-put-text c = search needs
-
-put-text-requires : tie.Need-put-text-requires
-put-text-requires c κs = search needs
-
-put-hex-requires : tie.Need-put-hex-requires
-put-hex-requires c κs = search needs
-
-slice-aggregate-put-text-2 : tie.Need-slice-aggregate-put-text-2
-slice-aggregate-put-text-2 c = search needs
-
-put-text-requires-2 : tie.Need-put-text-requires-2
-put-text-requires-2 c κs = search needs
-
-same-length : tie.Need-same-length
-same-length c = search needs
-
 returns : tie.Need-returns
 unfolding valueText
 returns c = let t = c .before .before .put-text2 in
@@ -40,10 +22,10 @@ pub write-value-spec : {M : Type 1} → statement M
 write-value-spec =
     tie.close
     (tie.spec
-    slice-aggregate-put-text
-    put-text-requires
-    put-hex-requires
-    slice-aggregate-put-text-2
-    put-text-requires-2
-    same-length
+    (λ c. search needs)
+    (λ c κs. search needs)
+    (λ c κs. search needs)
+    (λ c. search needs)
+    (λ c κs. search needs)
+    (λ c. search needs)
     returns)

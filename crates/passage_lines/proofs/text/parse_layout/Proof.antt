@@ -5,21 +5,9 @@ use borrow.Author.Needs.{needs}
 use Rattle.passage_lines.proofs.text.parse_layout.Statement.{statement}
 use Rattle.passage_lines.proofs.text.parse_layout.Tie as tie
 
-slice-aggregate-same-bytes : tie.Need-slice-aggregate-same-bytes
-slice-aggregate-same-bytes c = search needs
-
-same-bytes-requires : tie.Need-same-bytes-requires
-same-bytes-requires c κs = search needs
-
 returns : tie.Need-returns
 unfolding layoutOf
 returns c = rw (sym (c .before .same-bytes .ensures) ∙ c .if1 .taken)
-
-slice-aggregate-same-bytes-2 : tie.Need-slice-aggregate-same-bytes-2
-slice-aggregate-same-bytes-2 c = search needs
-
-same-bytes-requires-2 : tie.Need-same-bytes-requires-2
-same-bytes-requires-2 c κs = search needs
 
 returns-2 : tie.Need-returns-2
 unfolding layoutOf
@@ -35,10 +23,10 @@ pub parse-layout-spec : {M : Type 1} → statement M
 parse-layout-spec =
     tie.close
     (tie.spec
-    slice-aggregate-same-bytes
-    same-bytes-requires
+    (λ c. search needs)
+    (λ c κs. search needs)
     returns
-    slice-aggregate-same-bytes-2
-    same-bytes-requires-2
+    (λ c. search needs)
+    (λ c κs. search needs)
     returns-2
     returns-3)

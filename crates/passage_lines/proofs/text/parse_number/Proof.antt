@@ -39,21 +39,9 @@ returns c = sym (number-none _ _ _ (c .if1 .taken))
 loop-holds : tie.Need-loop-holds Inv-loop μ-loop
 loop-holds c = let a = c .before .before .args in (number-start (a .base) (a .max) (a .text .now) (omega arith), omega arith)
 
-shared-slice-read-digit : tie.Need-shared-slice-read-digit Inv-loop μ-loop
-shared-slice-read-digit c = omega arith
-
-digit-requires : tie.Need-digit-requires Inv-loop μ-loop
-digit-requires c κs = tt
-
 returns-2 : tie.Need-returns-2 Inv-loop μ-loop
 returns-2 c = let l = c .before .before .before .before .loop in
     sym (l .inv .0 ∙ ap (atMost _) (spelled-bad _ _ _ _ _ (c .before .before .before .loop-test .taken) (c .before .digit .ensures .0) (c .if2 .taken)))
-
-sub-if3 : tie.Need-sub-if3 Inv-loop μ-loop
-sub-if3 c = omega arith
-
-div-if3 : tie.Need-div-if3 Inv-loop μ-loop
-div-if3 c = omega arith
 
 returns-3 : tie.Need-returns-3 Inv-loop μ-loop
 returns-3 c = let s = c .before .before .before .before .before .before .before .before in
@@ -64,12 +52,6 @@ mul-value c = omega (arith, fits-of c)
 
 add-value : tie.Need-add-value Inv-loop μ-loop
 add-value c = omega (arith, fits-of c)
-
-add-i : tie.Need-add-i Inv-loop μ-loop
-add-i c = omega arith
-
-loop-less : tie.Need-loop-less Inv-loop μ-loop
-loop-less c = omega arith
 
 loop-again : tie.Need-loop-again Inv-loop μ-loop
 loop-again c = (next-of (c .before), fits-of c)
@@ -85,15 +67,15 @@ parse-number-spec =
     μ-loop
     returns
     loop-holds
-    shared-slice-read-digit
-    digit-requires
+    (λ c. omega arith)
+    (λ c κs. tt)
     returns-2
-    sub-if3
-    div-if3
+    (λ c. omega arith)
+    (λ c. omega arith)
     returns-3
     mul-value
     add-value
-    add-i
-    loop-less
+    (λ c. omega arith)
+    (λ c. omega arith)
     loop-again
     returns-4)

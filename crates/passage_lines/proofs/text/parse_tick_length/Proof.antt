@@ -5,24 +5,9 @@ use borrow.Author.Needs.{needs}
 use Rattle.passage_lines.proofs.text.parse_tick_length.Statement.{statement}
 use Rattle.passage_lines.proofs.text.parse_tick_length.Tie as tie
 
-slice-aggregate-same-bytes : tie.Need-slice-aggregate-same-bytes
-slice-aggregate-same-bytes c = search needs
-
-same-bytes-requires : tie.Need-same-bytes-requires
-same-bytes-requires c κs = search needs
-
 returns : tie.Need-returns
 unfolding tickLengthOf
 returns c = rw (sym (c .before .same-bytes .ensures) ∙ c .if1 .taken)
-
-parse-duration-requires : tie.Need-parse-duration-requires
-parse-duration-requires c κs = search needs
-
-enum-known-tick : tie.Need-enum-known-tick
-enum-known-tick c = search needs
-
-enum-told : tie.Need-enum-told
-enum-told c = search needs
 
 returns-2 : tie.Need-returns-2
 unfolding tickLengthOf
@@ -38,11 +23,11 @@ pub parse-tick-length-spec : {M : Type 1} → statement M
 parse-tick-length-spec =
     tie.close
     (tie.spec
-    slice-aggregate-same-bytes
-    same-bytes-requires
+    (λ c. search needs)
+    (λ c κs. search needs)
     returns
-    parse-duration-requires
-    enum-known-tick
-    enum-told
+    (λ c κs. search needs)
+    (λ c. search needs)
+    (λ c. search needs)
     returns-2
     returns-3)

@@ -29,15 +29,6 @@ sized c =
     (sym (ap sizeOutcome (c .size .given .1)) ∙ c .before .before .encoded-record-bytes .ensures)
     ∙ sym (bytes-size (from c))
 
-encoded-record-bytes-requires : tie.Need-encoded-record-bytes-requires
-encoded-record-bytes-requires c κs = search needs
-
-enum-known-size : tie.Need-enum-known-size
-enum-known-size c = search needs
-
-enum-told : tie.Need-enum-told
-enum-told c = search needs
-
 returns : tie.Need-returns
 returns c =
     let s = c .before .before .before .before .before .before in
@@ -55,9 +46,6 @@ returns-2 c =
 put-record-requires : tie.Need-put-record-requires
 put-record-requires c κs = omega (arith, sized (c .before .before .before))
 
-same-length : tie.Need-same-length
-same-length c = search needs
-
 returns-3 : tie.Need-returns-3
 returns-3 c =
     let k = c .before .before .before .before .before .before in
@@ -68,11 +56,11 @@ pub append-record-spec : {M : Type 1} → statement M
 append-record-spec =
     tie.close
     (tie.spec
-    encoded-record-bytes-requires
-    enum-known-size
-    enum-told
+    (λ c κs. search needs)
+    (λ c. search needs)
+    (λ c. search needs)
     returns
     returns-2
     put-record-requires
-    same-length
+    (λ c. search needs)
     returns-3)

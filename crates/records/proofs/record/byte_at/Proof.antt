@@ -5,9 +5,6 @@ use borrow.Author.Needs.{needs}
 use Rattle.records.proofs.record.byte_at.Statement.{statement}
 use Rattle.records.proofs.record.byte_at.Tie as tie
 
-shared-slice-read-result : tie.Need-shared-slice-read-result
-shared-slice-read-result c = search needs
-
 cast-result : tie.Need-cast-result
 cast-result c = omega (arith, c .shared-slice-known .given (c .before .args .at))
 
@@ -15,4 +12,4 @@ returns : tie.Need-returns
 returns c = (refl, c .shared-slice-known .given (c .before .args .at) .fits)
 
 pub byte-at-spec : {M : Type 1} → statement M
-byte-at-spec = tie.close (tie.spec shared-slice-read-result cast-result returns)
+byte-at-spec = tie.close (tie.spec (λ c. search needs) cast-result returns)

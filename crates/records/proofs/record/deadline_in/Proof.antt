@@ -13,35 +13,11 @@ two c =
     let a = c .before .before .before .args in
     deadline-room (a .expiry) (c .enum-told .given .0 .0) (length (a .records .now) - a .at) (c .enum-told .given .1) (omega arith)
 
-enum-told : tie.Need-enum-told
-enum-told c = search needs
-
-enum-told-2 : tie.Need-enum-told-2
-enum-told-2 c = search needs
-
-returns : tie.Need-returns
-returns c = search needs
-
 shared-slice-read-wide : tie.Need-shared-slice-read-wide
 shared-slice-read-wide c = omega (arith, two (c .before))
 
-wide-requires : tie.Need-wide-requires
-wide-requires c κs = search needs
-
-add-wide : tie.Need-add-wide
-add-wide c = search needs
-
 shared-slice-read-wide-2 : tie.Need-shared-slice-read-wide-2
 shared-slice-read-wide-2 c = omega (arith, two (c .before .before .before))
-
-wide-requires-2 : tie.Need-wide-requires-2
-wide-requires-2 c κs = search needs
-
-mul-result : tie.Need-mul-result
-mul-result c = search needs
-
-add-result : tie.Need-add-result
-add-result c = search needs
 
 returns-2 : tie.Need-returns-2
 returns-2 c =
@@ -54,14 +30,14 @@ pub deadline-in-spec : {M : Type 1} → statement M
 deadline-in-spec =
     tie.close
     (tie.spec
-    enum-told
-    enum-told-2
-    returns
+    (λ c. search needs)
+    (λ c. search needs)
+    (λ c. search needs)
     shared-slice-read-wide
-    wide-requires
-    add-wide
+    (λ c κs. search needs)
+    (λ c. search needs)
     shared-slice-read-wide-2
-    wide-requires-2
-    mul-result
-    add-result
+    (λ c κs. search needs)
+    (λ c. search needs)
+    (λ c. search needs)
     returns-2)

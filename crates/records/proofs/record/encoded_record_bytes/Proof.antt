@@ -23,41 +23,11 @@ over c h =
     size-out (a .expiry) (a .key-bytes) (a .value-bytes) (c .before .before .varint-bytes .result) (c .before .varint-bytes2 .result) (c .bytes-per-record .result)
     (c .before .before .varint-bytes .ensures .0) (c .before .varint-bytes2 .ensures .0) (c .bytes-per-record .ensures .0) h
 
-varint-bytes-requires : tie.Need-varint-bytes-requires
-varint-bytes-requires c κs = search needs
-
-varint-bytes-requires-2 : tie.Need-varint-bytes-requires-2
-varint-bytes-requires-2 c κs = search needs
-
-add-header : tie.Need-add-header
-add-header c = search needs
-
-bytes-per-record-requires : tie.Need-bytes-per-record-requires
-bytes-per-record-requires c κs = search needs
-
-add-header-2 : tie.Need-add-header-2
-add-header-2 c = search needs
-
-sub-if1 : tie.Need-sub-if1
-sub-if1 c = search needs
-
 returns : tie.Need-returns
 returns c = over (c .before) (omega arith)
 
-sub-if2 : tie.Need-sub-if2
-sub-if2 c = search needs
-
-sub-if2-2 : tie.Need-sub-if2-2
-sub-if2-2 c = search needs
-
 returns-2 : tie.Need-returns-2
 returns-2 c = over (c .before .before) (omega arith)
-
-add-t5 : tie.Need-add-t5
-add-t5 c = search needs
-
-add-t7 : tie.Need-add-t7
-add-t7 c = search needs
 
 returns-3 : tie.Need-returns-3
 returns-3 c =
@@ -70,16 +40,16 @@ pub encoded-record-bytes-spec : {M : Type 1} → statement M
 encoded-record-bytes-spec =
     tie.close
     (tie.spec
-    varint-bytes-requires
-    varint-bytes-requires-2
-    add-header
-    bytes-per-record-requires
-    add-header-2
-    sub-if1
+    (λ c κs. search needs)
+    (λ c κs. search needs)
+    (λ c. search needs)
+    (λ c κs. search needs)
+    (λ c. search needs)
+    (λ c. search needs)
     returns
-    sub-if2
-    sub-if2-2
+    (λ c. search needs)
+    (λ c. search needs)
     returns-2
-    add-t5
-    add-t7
+    (λ c. search needs)
+    (λ c. search needs)
     returns-3)

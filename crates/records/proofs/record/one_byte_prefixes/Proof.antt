@@ -20,21 +20,12 @@ returns-2 c =
     let a = c .before .before .before .args in
     rw (lt-leb (a .location + 2) (length (a .records .now)) (omega arith))
 
-byte-at-requires : tie.Need-byte-at-requires
-byte-at-requires c κs = search needs
-
 returns-3 : tie.Need-returns-3
 returns-3 c =
     let a = c .before .before .before .before .before .args in
     let first = c .before .byte-at in
     let long : 128 ≤ getD (a .records .now) (a .location) 0 = omega (arith, first .ensures .0, c .if3 .taken) in
     rw (le-leb (a .location + 2) (length (a .records .now)) (omega arith), le-ltb _ 128 long)
-
-add-byte-at : tie.Need-add-byte-at
-add-byte-at c = search needs
-
-byte-at-requires-2 : tie.Need-byte-at-requires-2
-byte-at-requires-2 c κs = search needs
 
 returns-4 : tie.Need-returns-4
 returns-4 c =
@@ -50,8 +41,8 @@ one-byte-prefixes-spec =
     (tie.spec
     returns
     returns-2
-    byte-at-requires
+    (λ c κs. search needs)
     returns-3
-    add-byte-at
-    byte-at-requires-2
+    (λ c. search needs)
+    (λ c κs. search needs)
     returns-4)

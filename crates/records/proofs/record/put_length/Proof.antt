@@ -7,24 +7,6 @@ use Rattle.records.proofs.Area.{part-home}
 use Rattle.records.proofs.record.put_length.Statement.{statement}
 use Rattle.records.proofs.record.put_length.Tie as tie
 
-sub-put-varint : tie.Need-sub-put-varint
-sub-put-varint c = search needs
-
-part-put-varint-start : tie.Need-part-put-varint-start
-part-put-varint-start c = search needs
-
-part-put-varint-end : tie.Need-part-put-varint-end
-part-put-varint-end c = search needs
-
-put-varint-requires : tie.Need-put-varint-requires
-put-varint-requires c κs = search needs
-
-add-result : tie.Need-add-result
-add-result c = search needs
-
-same-length : tie.Need-same-length
-same-length c = search needs
-
 returns : tie.Need-returns
 returns c =
     let a = c .before .before .before .before .before .args in
@@ -35,10 +17,10 @@ pub put-length-spec : {M : Type 1} → statement M
 put-length-spec =
     tie.close
     (tie.spec
-    sub-put-varint
-    part-put-varint-start
-    part-put-varint-end
-    put-varint-requires
-    add-result
-    same-length
+    (λ c. search needs)
+    (λ c. search needs)
+    (λ c. search needs)
+    (λ c κs. search needs)
+    (λ c. search needs)
+    (λ c. search needs)
     returns)

@@ -80,9 +80,6 @@ put-bytes-requires c κs = let b = c .before .before .before in let s = from3 b 
 put-bytes-requires-2 : tie.Need-put-bytes-requires-2
 put-bytes-requires-2 c κs = let b = c .before .before .before in let v = value (from4 b) in fits v [] (at4 b) (sym (append-nil v))
 
-same-length : tie.Need-same-length
-same-length c = search needs
-
 returns : tie.Need-returns
 returns c =
     let b = c .before .before .before .before .before .before in
@@ -99,5 +96,5 @@ put-record-spec =
     put-deadline-requires
     put-bytes-requires
     put-bytes-requires-2
-    same-length
+    (λ c. search needs)
     returns)

@@ -17,9 +17,6 @@ short c =
     let a = c .before .before .before .args in
     prefixes-short (a .records .now) (a .location) (sym (c .before .one-byte-prefixes .ensures) ∙ c .if1 .taken)
 
-one-byte-prefixes-requires : tie.Need-one-byte-prefixes-requires
-one-byte-prefixes-requires c κs = search needs
-
 add-record-at-lengths : tie.Need-add-record-at-lengths
 add-record-at-lengths c = omega (arith, short c)
 
@@ -43,22 +40,16 @@ returns c =
     ∙ ap₂ (λ (k v : ℕ). recordOf (a .expiry) (a .records .now) (a .location) k v (a .location + 2)) (c .before .before .byte-at .ensures .0) (c .before .byte-at2 .ensures .0)
     ∙ sym (at-short (a .expiry) (a .records .now) (a .location) (p .0) (p .1) (p .2))
 
-record-at-prefixes-requires : tie.Need-record-at-prefixes-requires
-record-at-prefixes-requires c κs = search needs
-
-returns-2 : tie.Need-returns-2
-returns-2 c = search needs
-
 pub record-at-spec : {M : Type 1} → statement M
 record-at-spec =
     tie.close
     (tie.spec
-    one-byte-prefixes-requires
+    (λ c κs. search needs)
     add-record-at-lengths
     byte-at-requires
     add-byte-at
     byte-at-requires-2
     record-at-lengths-requires
     returns
-    record-at-prefixes-requires
-    returns-2)
+    (λ c κs. search needs)
+    (λ c. search needs))

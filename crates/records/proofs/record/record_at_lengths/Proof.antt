@@ -18,38 +18,14 @@ out c h =
     let a = c .before .before .args in
     of-out (a .expiry) (a .records .now) (a .location) (a .key-len) (a .value-len) (a .cursor) (c .bytes-per-record .result) (c .bytes-per-record .ensures .0) h
 
-bytes-per-record-requires : tie.Need-bytes-per-record-requires
-bytes-per-record-requires c κs = search needs
-
-sub-if1 : tie.Need-sub-if1
-sub-if1 c = search needs
-
 returns : tie.Need-returns
 returns c = out (c .before) (omega arith)
-
-add-key-begin : tie.Need-add-key-begin
-add-key-begin c = search needs
-
-sub-if2 : tie.Need-sub-if2
-sub-if2 c = search needs
 
 returns-2 : tie.Need-returns-2
 returns-2 c = out (c .before .before) (omega arith)
 
-add-key-end : tie.Need-add-key-end
-add-key-end c = search needs
-
-sub-if3 : tie.Need-sub-if3
-sub-if3 c = search needs
-
 returns-3 : tie.Need-returns-3
 returns-3 c = out (c .before .before .before) (omega arith)
-
-sub-t11 : tie.Need-sub-t11
-sub-t11 c = search needs
-
-deadline-in-requires : tie.Need-deadline-in-requires
-deadline-in-requires c κs = search needs
 
 returns-4 : tie.Need-returns-4
 returns-4 c =
@@ -62,15 +38,15 @@ pub record-at-lengths-spec : {M : Type 1} → statement M
 record-at-lengths-spec =
     tie.close
     (tie.spec
-    bytes-per-record-requires
-    sub-if1
+    (λ c κs. search needs)
+    (λ c. search needs)
     returns
-    add-key-begin
-    sub-if2
+    (λ c. search needs)
+    (λ c. search needs)
     returns-2
-    add-key-end
-    sub-if3
+    (λ c. search needs)
+    (λ c. search needs)
     returns-3
-    sub-t11
-    deadline-in-requires
+    (λ c. search needs)
+    (λ c κs. search needs)
     returns-4)

@@ -23,28 +23,10 @@ value-read : (c : tie.After-value-len)
     readVarint (a .records .now) (key-of c .key-len .given .0 .1 .0) ≡ Value (c .value-len .given .0 .0) (c .value-len .given .0 .1 .0)
 value-read c = sym (c .before .before .read-varint2 .ensures) ∙ c .value-len .given .1
 
-read-varint-requires : tie.Need-read-varint-requires
-read-varint-requires c κs = search needs
-
-enum-known-key-len : tie.Need-enum-known-key-len
-enum-known-key-len c = search needs
-
-enum-told : tie.Need-enum-told
-enum-told c = search needs
-
 returns : tie.Need-returns
 returns c =
     let a = c .before .before .before .before .args in
     sym (no-key (a .expiry) (a .records .now) (a .location) (sym (c .before .before .read-varint .ensures) ∙ c .enum-told .given .1))
-
-read-varint-requires-2 : tie.Need-read-varint-requires-2
-read-varint-requires-2 c κs = search needs
-
-enum-known-value-len : tie.Need-enum-known-value-len
-enum-known-value-len c = search needs
-
-enum-told-2 : tie.Need-enum-told-2
-enum-told-2 c = search needs
 
 returns-2 : tie.Need-returns-2
 returns-2 c =
@@ -77,13 +59,13 @@ pub record-at-prefixes-spec : {M : Type 1} → statement M
 record-at-prefixes-spec =
     tie.close
     (tie.spec
-    read-varint-requires
-    enum-known-key-len
-    enum-told
+    (λ c κs. search needs)
+    (λ c. search needs)
+    (λ c. search needs)
     returns
-    read-varint-requires-2
-    enum-known-value-len
-    enum-told-2
+    (λ c κs. search needs)
+    (λ c. search needs)
+    (λ c. search needs)
     returns-2
     record-at-lengths-requires
     returns-3)

@@ -20,26 +20,11 @@ returns c = sym (same-lengths (c .before .before .before .args .a .now) (c .befo
 loop-holds : tie.Need-loop-holds Inv-loop μ-loop
 loop-holds c = (omega arith, refl)
 
-sub-loop : tie.Need-sub-loop Inv-loop μ-loop
-sub-loop c = omega arith
-
-word-at-requires : tie.Need-word-at-requires Inv-loop μ-loop
-word-at-requires c κs = omega arith
-
-word-at-requires-2 : tie.Need-word-at-requires-2 Inv-loop μ-loop
-word-at-requires-2 c κs = omega arith
-
 returns-2 : tie.Need-returns-2 Inv-loop μ-loop
 returns-2 c =
     let l = c .before .before .before .before .loop in
     let a = c .before .before .before .before .before .before .before .before .args in
     sym (l .inv .1 ∙ words-differ (a .a .now) (a .b .now) (l .i) (omega arith) (omega arith) (λ e. c .if2 .taken (c .before .before .word-at .ensures ∙ e ∙ sym (c .before .word-at2 .ensures))))
-
-add-i : tie.Need-add-i Inv-loop μ-loop
-add-i c = omega arith
-
-loop-less : tie.Need-loop-less Inv-loop μ-loop
-loop-less c = omega arith
 
 loop-again : tie.Need-loop-again Inv-loop μ-loop
 loop-again c =
@@ -50,9 +35,6 @@ loop-again c =
           (λ j. c .before .before .before .before .before .before .before .shared-slice-known .given j .fits)
           (λ j. c .before .before .before .before .before .before .shared-slice-known2 .given j .fits) (sym (c .before .before .word-at .ensures) ∙ c .if2 .left ∙ c .before .word-at2 .ensures),
     )
-
-same-rest-requires : tie.Need-same-rest-requires Inv-loop μ-loop
-same-rest-requires c κs = omega arith
 
 returns-3 : tie.Need-returns-3 Inv-loop μ-loop
 returns-3 c = c .same-rest .ensures ∙ sym (c .before .before .loop .inv .1)
@@ -65,12 +47,12 @@ same-bytes-spec =
     μ-loop
     returns
     loop-holds
-    sub-loop
-    word-at-requires
-    word-at-requires-2
+    (λ c. omega arith)
+    (λ c κs. omega arith)
+    (λ c κs. omega arith)
     returns-2
-    add-i
-    loop-less
+    (λ c. omega arith)
+    (λ c. omega arith)
     loop-again
-    same-rest-requires
+    (λ c κs. omega arith)
     returns-3)

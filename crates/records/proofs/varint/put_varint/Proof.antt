@@ -23,28 +23,16 @@ room-at c = let r = room (c .loop .inv) in (omega (arith, leb-pos (c .loop .rest
 loop-holds : tie.Need-loop-holds Inv-loop μ-loop
 loop-holds c = begin (uleb128 (c .args .value)) (c .args .output .now) (c .pre)
 
-add-output : tie.Need-add-output Inv-loop μ-loop
-add-output c = omega arith
-
-cast-output : tie.Need-cast-output Inv-loop μ-loop
-cast-output c = omega arith
-
 slice-write-output : tie.Need-slice-write-output Inv-loop μ-loop
 slice-write-output c = omega (arith, room-at (c .before))
 
 add-at : tie.Need-add-at Inv-loop μ-loop
 add-at c = omega (arith, room-at (c .before))
 
-loop-less : tie.Need-loop-less Inv-loop μ-loop
-loop-less c = omega arith
-
 loop-again : tie.Need-loop-again Inv-loop μ-loop
 loop-again c =
     let l = c .before .loop in
     next-byte (l .rest % 128 + 128) (uleb128 (l .rest / 128)) (l .inv) (leb-large (l .rest) (c .loop-test .taken))
-
-cast-output-2 : tie.Need-cast-output-2 Inv-loop μ-loop
-cast-output-2 c = omega arith
 
 slice-write-output-2 : tie.Need-slice-write-output-2 Inv-loop μ-loop
 slice-write-output-2 c = omega (arith, room-at (c .before))
@@ -67,13 +55,13 @@ put-varint-spec =
     Inv-loop
     μ-loop
     loop-holds
-    add-output
-    cast-output
+    (λ c. omega arith)
+    (λ c. omega arith)
     slice-write-output
     add-at
-    loop-less
+    (λ c. omega arith)
     loop-again
-    cast-output-2
+    (λ c. omega arith)
     slice-write-output-2
     add-result
     same-length

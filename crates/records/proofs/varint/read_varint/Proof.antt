@@ -47,20 +47,11 @@ loop-holds c = (answer-start (c .before .args .input .now) (c .before .args .cur
 returns : tie.Need-returns Inv-loop μ-loop
 returns c = rest-is (c .before .before) (byte-none (input-of (c .before .before)) (c .before .before .loop .at) (c .if1 .taken))
 
-shared-slice-read-wide : tie.Need-shared-slice-read-wide Inv-loop μ-loop
-shared-slice-read-wide c = omega arith
-
-wide-requires : tie.Need-wide-requires Inv-loop μ-loop
-wide-requires c κs = tt
-
 mul-t13 : tie.Need-mul-t13 Inv-loop μ-loop
 mul-t13 c = omega (arith, part-of (c .before) (c .before .wide .result) (c .if2 .taken))
 
 add-t14 : tie.Need-add-t14 Inv-loop μ-loop
 add-t14 c = omega (arith, part-of (c .before) (c .before .wide .result) (c .if2 .taken))
-
-add-t15 : tie.Need-add-t15 Inv-loop μ-loop
-add-t15 c = omega arith
 
 returns-2 : tie.Need-returns-2 Inv-loop μ-loop
 returns-2 c =
@@ -79,15 +70,6 @@ add-value c = omega (arith, payload-of (c .before))
 mul-scale : tie.Need-mul-scale Inv-loop μ-loop
 mul-scale c = omega (arith, payload-of (c .before))
 
-add-at : tie.Need-add-at Inv-loop μ-loop
-add-at c = omega arith
-
-sub-left : tie.Need-sub-left Inv-loop μ-loop
-sub-left c = omega arith
-
-loop-less : tie.Need-loop-less Inv-loop μ-loop
-loop-less c = omega arith
-
 loop-again : tie.Need-loop-again Inv-loop μ-loop
 loop-again c =
     let k = c .before .before .before .before .before in
@@ -103,12 +85,6 @@ loop-again c =
 returns-3 : tie.Need-returns-3 Inv-loop μ-loop
 returns-3 c = rest-is (c .before .before) (byte-none (input-of (c .before .before)) (c .before .before .loop .at) (c .if3 .taken))
 
-shared-slice-read-wide-2 : tie.Need-shared-slice-read-wide-2 Inv-loop μ-loop
-shared-slice-read-wide-2 c = omega arith
-
-wide-requires-2 : tie.Need-wide-requires-2 Inv-loop μ-loop
-wide-requires-2 c κs = tt
-
 returns-4 : tie.Need-returns-4 Inv-loop μ-loop
 returns-4 c =
     let k = c .before .before .before .before .before in
@@ -117,16 +93,10 @@ returns-4 c =
     sym (answer-over (l .value) (l .scale) (l .at) b (l .left) (drop (l .at + 1) (input-of k)) (c .before .before .before .before .loop-test .left))
     ∙ rest-is k (byte-next (input-of k) (l .at) b (c .before .wide2 .ensures) (c .before .before .before .if3 .left) (c .if4 .taken))
 
-mul-t21 : tie.Need-mul-t21 Inv-loop μ-loop
-mul-t21 c = omega arith
-
 add-t22 : tie.Need-add-t22 Inv-loop μ-loop
 add-t22 c =
     let l = c .before .before .before .before .before .loop in
     omega (arith, scale-last (l .scale) (l .left) (c .before .before .before .before .loop-test .left) (l .inv .2))
-
-add-t23 : tie.Need-add-t23 Inv-loop μ-loop
-add-t23 c = omega arith
 
 returns-5 : tie.Need-returns-5 Inv-loop μ-loop
 returns-5 c =
@@ -144,24 +114,24 @@ read-varint-spec =
     μ-loop
     loop-holds
     returns
-    shared-slice-read-wide
-    wide-requires
+    (λ c. omega arith)
+    (λ c κs. tt)
     mul-t13
     add-t14
-    add-t15
+    (λ c. omega arith)
     returns-2
     mul-value
     add-value
     mul-scale
-    add-at
-    sub-left
-    loop-less
+    (λ c. omega arith)
+    (λ c. omega arith)
+    (λ c. omega arith)
     loop-again
     returns-3
-    shared-slice-read-wide-2
-    wide-requires-2
+    (λ c. omega arith)
+    (λ c κs. tt)
     returns-4
-    mul-t21
+    (λ c. omega arith)
     add-t22
-    add-t23
+    (λ c. omega arith)
     returns-5)

@@ -14,14 +14,8 @@ Inv-loop value rest₀ bytes₀ rest bytes = bytes + length (uleb128 rest) ≡ l
 abbrev μ-loop : tie.MeasureT-loop
 μ-loop value rest₀ bytes₀ rest bytes = rest
 
-loop-holds : tie.Need-loop-holds Inv-loop μ-loop
-loop-holds c = omega arith
-
 add-bytes : tie.Need-add-bytes Inv-loop μ-loop
 add-bytes c = omega (arith, leb-ten (c .before .before .args .value) (omega arith), leb-pos (c .before .loop .rest))
-
-loop-less : tie.Need-loop-less Inv-loop μ-loop
-loop-less c = omega arith
 
 loop-again : tie.Need-loop-again Inv-loop μ-loop
 loop-again c = omega (arith, ap length (leb-large (c .before .loop .rest) (c .loop-test .taken)))
@@ -31,4 +25,4 @@ returns c =
     omega (arith, ap length (leb-small (c .before .loop .rest) (c .loop-test .left)), leb-ten (c .before .before .args .value) (omega arith))
 
 pub varint-bytes-spec : {M : Type 1} → statement M
-varint-bytes-spec = tie.close (tie.spec Inv-loop μ-loop loop-holds add-bytes loop-less loop-again returns)
+varint-bytes-spec = tie.close (tie.spec Inv-loop μ-loop (λ c. omega arith) add-bytes (λ c. omega arith) loop-again returns)

@@ -7,19 +7,10 @@ use Rattle.records.proofs.Area.{written-in, written-out}
 use Rattle.records.proofs.varint.write_varint.Statement.{statement}
 use Rattle.records.proofs.varint.write_varint.Tie as tie
 
-varint-bytes-requires : tie.Need-varint-bytes-requires
-varint-bytes-requires c κs = search needs
-
 returns : tie.Need-returns
 returns c =
     let a = c .before .before .before .args in
     sym (written-out (uleb128 (a .value)) (a .output .now) (omega arith))
-
-put-varint-requires : tie.Need-put-varint-requires
-put-varint-requires c κs = search needs
-
-same-length : tie.Need-same-length
-same-length c = search needs
 
 returns-2 : tie.Need-returns-2
 returns-2 c =
@@ -29,4 +20,4 @@ returns-2 c =
 
 pub write-varint-spec : {M : Type 1} → statement M
 write-varint-spec =
-    tie.close (tie.spec varint-bytes-requires returns put-varint-requires same-length returns-2)
+    tie.close (tie.spec (λ c κs. search needs) returns (λ c κs. search needs) (λ c. search needs) returns-2)

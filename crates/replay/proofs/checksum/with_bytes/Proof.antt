@@ -11,37 +11,16 @@ Inv-loop sum bytes total₀ i₀ total i = 0 ≤ i
 abbrev μ-loop : tie.MeasureT-loop
 μ-loop sum bytes total₀ i₀ total i = length bytes - i
 
-loop-holds : tie.Need-loop-holds Inv-loop μ-loop
-loop-holds c = search needs
-
-shared-slice-read-with-byte : tie.Need-shared-slice-read-with-byte Inv-loop μ-loop
-shared-slice-read-with-byte c = search needs
-
-with-byte-requires : tie.Need-with-byte-requires Inv-loop μ-loop
-with-byte-requires c κs = search needs
-
-add-i : tie.Need-add-i Inv-loop μ-loop
-add-i c = search needs
-
-loop-less : tie.Need-loop-less Inv-loop μ-loop
-loop-less c = search needs
-
-loop-again : tie.Need-loop-again Inv-loop μ-loop
-loop-again c = search needs
-
-returns : tie.Need-returns Inv-loop μ-loop
-returns c = search needs
-
 pub with-bytes-spec : {M : Type 1} → statement M
 with-bytes-spec =
     tie.close
     (tie.spec
     Inv-loop
     μ-loop
-    loop-holds
-    shared-slice-read-with-byte
-    with-byte-requires
-    add-i
-    loop-less
-    loop-again
-    returns)
+    (λ c. search needs)
+    (λ c. search needs)
+    (λ c κs. search needs)
+    (λ c. search needs)
+    (λ c. search needs)
+    (λ c. search needs)
+    (λ c. search needs))

@@ -31,22 +31,13 @@ yes3 : (c : tie.Else3) → Yes 3 (from (c .before .before))
 unfolding askCounts
 yes3 c = yes2 (c .before .before) ∙ rw (said-yes (c .before .tick-runs .ensures) (c .if3 .left))
 
-nanoseconds-fit-requires : tie.Need-nanoseconds-fit-requires
-nanoseconds-fit-requires c κs = search needs
-
 returns : tie.Need-returns
 unfolding areaWordsFor askCounts
 returns c = rw (said-no (c .before .nanoseconds-fit .ensures) (c .if1 .taken))
 
-occupancy-fits-requires : tie.Need-occupancy-fits-requires
-occupancy-fits-requires c κs = search needs
-
 returns-2 : tie.Need-returns-2
 unfolding areaWordsFor askCounts
 returns-2 c = sym (yes1 (c .before .before) ∙ rw (said-no (c .before .occupancy-fits .ensures) (c .if2 .taken)))
-
-tick-runs-requires : tie.Need-tick-runs-requires
-tick-runs-requires c κs = search needs
 
 returns-3 : tie.Need-returns-3
 unfolding areaWordsFor askCounts
@@ -72,4 +63,4 @@ returns-5 c =
 pub area-words-spec : {M : Type 1} → statement M
 area-words-spec =
     tie.close
-    (tie.spec nanoseconds-fit-requires returns occupancy-fits-requires returns-2 tick-runs-requires returns-3 returns-4 words-needed-requires returns-5)
+    (tie.spec (λ c κs. search needs) returns (λ c κs. search needs) returns-2 (λ c κs. search needs) returns-3 returns-4 words-needed-requires returns-5)

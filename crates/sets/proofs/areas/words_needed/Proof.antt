@@ -7,19 +7,10 @@ use Rattle.index.proofs.Buckets.{buckets-few}
 use Rattle.sets.proofs.areas.words_needed.Statement.{statement}
 use Rattle.sets.proofs.areas.words_needed.Tie as tie
 
-bucket-count-requires : tie.Need-bucket-count-requires
-bucket-count-requires c κs = search needs
-
 mul-t4 : tie.Need-mul-t4
 mul-t4 c =
     let a = c .before .args in
     omega (arith, c .bucket-count .ensures, c .before .pre .1, buckets-few (a .entry-count) (a .config .«target_occupied_slots»))
-
-filter-words-for-requires : tie.Need-filter-words-for-requires
-filter-words-for-requires c κs = search needs
-
-scratch-words-requires : tie.Need-scratch-words-requires
-scratch-words-requires c κs = search needs
 
 returns : tie.Need-returns
 returns c =
@@ -28,4 +19,4 @@ returns c =
     rw (eight, c .scratch-words .ensures, c .before .filter-words-for .ensures, buckets .ensures)
 
 pub words-needed-spec : {M : Type 1} → statement M
-words-needed-spec = tie.close (tie.spec bucket-count-requires mul-t4 filter-words-for-requires scratch-words-requires returns)
+words-needed-spec = tie.close (tie.spec (λ c κs. search needs) mul-t4 (λ c κs. search needs) (λ c κs. search needs) returns)

@@ -3,14 +3,8 @@ use borrow.Author.Needs.{needs}
 use Rattle.sets.proofs.builder.opened_builder.Statement.{statement}
 use Rattle.sets.proofs.builder.opened_builder.Tie as tie
 
-bucket-count-requires : tie.Need-bucket-count-requires
-bucket-count-requires c κs = search needs
-
-filter-words-for-requires : tie.Need-filter-words-for-requires
-filter-words-for-requires c κs = search needs
-
 returns : tie.Need-returns
 returns c = rw (c .filter-words-for .ensures, c .before .bucket-count .ensures)
 
 pub opened-builder-spec : {M : Type 1} → statement M
-opened-builder-spec = tie.close (tie.spec bucket-count-requires filter-words-for-requires returns)
+opened-builder-spec = tie.close (tie.spec (λ c κs. search needs) (λ c κs. search needs) returns)

@@ -29,17 +29,8 @@ loop-holds c =
     let words : List ℕ = c .args .words .now in
     begin (chosen flags words) (c .args .area .now) (omega (arith, chosen-length flags words (c .pre .0)))
 
-add-next : tie.Need-add-next Inv-loop μ-loop
-add-next c = omega arith
-
-shared-slice-read-if1 : tie.Need-shared-slice-read-if1 Inv-loop μ-loop
-shared-slice-read-if1 c = omega arith
-
 mul-area : tie.Need-mul-area Inv-loop μ-loop
 mul-area c = omega (arith, c .before .before .before .before .good .1 .0 .1)
-
-shared-slice-read-area : tie.Need-shared-slice-read-area Inv-loop μ-loop
-shared-slice-read-area c = omega arith
 
 slice-write-area : tie.Need-slice-write-area Inv-loop μ-loop
 slice-write-area c =
@@ -57,9 +48,6 @@ add-kept c =
     let s = c .before .before .before .before in
     omega (arith, slice-write-area c, room (s .loop .inv), s .before .good .1 .1 .0 .1)
 
-loop-less : tie.Need-loop-less Inv-loop μ-loop
-loop-less c = omega arith
-
 loop-again : tie.Need-loop-again Inv-loop μ-loop
 loop-again c =
     let s = c .before .before .before .before in
@@ -68,9 +56,6 @@ loop-again c =
     let i = s .loop .next in
     next-byte (getD words i 0) (chosen (drop (i + 1) flags) (drop (i + 1) words)) (s .loop .inv)
     (chosen-kept flags words i (omega arith) (omega arith) (c .before .if1 .taken))
-
-loop-less-2 : tie.Need-loop-less-2 Inv-loop μ-loop
-loop-less-2 c = omega arith
 
 loop-again-2 : tie.Need-loop-again-2 Inv-loop μ-loop
 loop-again-2 c =
@@ -97,16 +82,16 @@ copy-kept-spec =
     Inv-loop
     μ-loop
     loop-holds
-    add-next
-    shared-slice-read-if1
+    (λ c. omega arith)
+    (λ c. omega arith)
     mul-area
-    shared-slice-read-area
+    (λ c. omega arith)
     mul-area-2
     slice-write-area
     add-kept
-    loop-less
+    (λ c. omega arith)
     loop-again
-    loop-less-2
+    (λ c. omega arith)
     loop-again-2
     same-length
     returns)

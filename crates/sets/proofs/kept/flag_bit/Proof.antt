@@ -7,9 +7,6 @@ use Rattle.sets.proofs.kept.flag_bit.Tie as tie
 returns : tie.Need-returns
 returns c = flag-out (c .before .args .flags .now) (c .before .args .at) (c .if1 .taken)
 
-shared-slice-read-if2 : tie.Need-shared-slice-read-if2
-shared-slice-read-if2 c = search needs
-
 returns-2 : tie.Need-returns-2
 returns-2 c =
     let a = c .before .before .before .args in
@@ -21,4 +18,4 @@ returns-3 c =
     flag-kept (a .flags .now) (a .at) (c .before .before .if1 .left) (c .if2 .left)
 
 pub flag-bit-spec : {M : Type 1} → statement M
-flag-bit-spec = tie.close (tie.spec returns shared-slice-read-if2 returns-2 returns-3)
+flag-bit-spec = tie.close (tie.spec returns (λ c. search needs) returns-2 returns-3)

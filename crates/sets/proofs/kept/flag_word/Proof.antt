@@ -18,9 +18,6 @@ abbrev μ-loop : tie.MeasureT-loop
 loop-holds : tie.Need-loop-holds Inv-loop μ-loop
 loop-holds c = (omega arith, word-none (c .before .args .flags .now) (c .before .args .from + 64))
 
-sub-left : tie.Need-sub-left Inv-loop μ-loop
-sub-left c = omega arith
-
 mul-word : tie.Need-mul-word Inv-loop μ-loop
 mul-word c =
     let s = c .before in
@@ -30,18 +27,12 @@ mul-word c =
 add-flag-bit : tie.Need-add-flag-bit Inv-loop μ-loop
 add-flag-bit c = omega (arith, c .before .before .before .pre)
 
-flag-bit-requires : tie.Need-flag-bit-requires Inv-loop μ-loop
-flag-bit-requires c κs = search needs
-
 add-word : tie.Need-add-word Inv-loop μ-loop
 add-word c =
     let s = c .before .before in
     let a = s .before .before .args in
     let b = word-bound (a .flags .now) (a .from) (s .loop .left) (s .loop .word) (s .loop .inv .1) (c .before .loop-test .taken) in
     omega (arith, c .flag-bit .ensures, flag-bound (a .flags .now) (a .from + (s .loop .left - 1)))
-
-loop-less : tie.Need-loop-less Inv-loop μ-loop
-loop-less c = omega arith
 
 loop-again : tie.Need-loop-again Inv-loop μ-loop
 loop-again c =
@@ -64,11 +55,11 @@ flag-word-spec =
     Inv-loop
     μ-loop
     loop-holds
-    sub-left
+    (λ c. omega arith)
     mul-word
     add-flag-bit
-    flag-bit-requires
+    (λ c κs. search needs)
     add-word
-    loop-less
+    (λ c. omega arith)
     loop-again
     returns)

@@ -29,9 +29,6 @@ returns c =
     let e : ones (a .word) ≡ countTrue (bitsOf 64 (a .word)) = ap ones (sym all) ∙ bits-ones 64 (a .word) in
     rw (c .if1 .taken) (e, ones-le 64 (a .word) (c .before .fits .word .fits))
 
-shl-result : tie.Need-shl-result
-shl-result c = search needs
-
 rem-result : tie.Need-rem-result
 rem-result c =
     let n : ℕ = c .before .args .count in
@@ -49,4 +46,4 @@ returns-2 c =
 
 pub set-bits-spec : {M : Type 1} → statement M
 set-bits-spec =
-    tie.close (tie.spec cast-result returns shl-result rem-result cast-result-2 returns-2)
+    tie.close (tie.spec cast-result returns (λ c. search needs) rem-result cast-result-2 returns-2)

@@ -3,11 +3,8 @@ use borrow.Author.Needs.{needs}
 use Rattle.sets.proofs.lookup.base_record.Statement.{statement}
 use Rattle.sets.proofs.lookup.base_record.Tie as tie
 
-remaining-ttl-requires : tie.Need-remaining-ttl-requires
-remaining-ttl-requires c κs = search needs
-
 returns : tie.Need-returns
 returns c = rw (c .remaining-ttl .ensures)
 
 pub base-record-spec : {M : Type 1} → statement M
-base-record-spec = tie.close (tie.spec remaining-ttl-requires returns)
+base-record-spec = tie.close (tie.spec (λ c κs. search needs) returns)

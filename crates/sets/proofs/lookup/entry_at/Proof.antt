@@ -5,21 +5,9 @@ use borrow.Author.Needs.{needs}
 use Rattle.sets.proofs.lookup.entry_at.Statement.{statement}
 use Rattle.sets.proofs.lookup.entry_at.Tie as tie
 
-slot-at-requires : tie.Need-slot-at-requires
-slot-at-requires c κs = search needs
-
-enum-known-stored : tie.Need-enum-known-stored
-enum-known-stored c = search needs
-
-enum-told : tie.Need-enum-told
-enum-told c = search needs
-
 returns : tie.Need-returns
 unfolding entryAt
 returns c = rw (sym (c .before .before .slot-at .ensures) ∙ c .enum-told .given .1)
-
-record-at-location-requires : tie.Need-record-at-location-requires
-record-at-location-requires c κs = search needs
 
 returns-2 : tie.Need-returns-2
 unfolding entryAt
@@ -29,9 +17,9 @@ pub entry-at-spec : {M : Type 1} → statement M
 entry-at-spec =
     tie.close
     (tie.spec
-    slot-at-requires
-    enum-known-stored
-    enum-told
+    (λ c κs. search needs)
+    (λ c. search needs)
+    (λ c. search needs)
     returns
-    record-at-location-requires
+    (λ c κs. search needs)
     returns-2)

@@ -5,9 +5,6 @@ use borrow.Author.Needs.{needs}
 use Rattle.sets.proofs.lookup.live_value.Statement.{statement}
 use Rattle.sets.proofs.lookup.live_value.Tie as tie
 
-lives-at-tick-requires : tie.Need-lives-at-tick-requires
-lives-at-tick-requires c κs = search needs
-
 returns : tie.Need-returns
 unfolding liveValue
 returns c = rw (said-no (c .before .lives-at-tick .ensures) (c .if1 .taken))
@@ -17,4 +14,4 @@ unfolding liveValue
 returns-2 c = rw (said-yes (c .before .before .lives-at-tick .ensures) (c .before .if1 .left))
 
 pub live-value-spec : {M : Type 1} → statement M
-live-value-spec = tie.close (tie.spec lives-at-tick-requires returns returns-2)
+live-value-spec = tie.close (tie.spec (λ c κs. search needs) returns returns-2)

@@ -7,15 +7,6 @@ use borrow.Author.Needs.{needs}
 use Rattle.sets.proofs.lookup.mark_live.Statement.{statement}
 use Rattle.sets.proofs.lookup.mark_live.Tie as tie
 
-lives-at-tick-requires : tie.Need-lives-at-tick-requires
-lives-at-tick-requires c κs = search needs
-
-mark-accessed-requires : tie.Need-mark-accessed-requires
-mark-accessed-requires c κs = search needs
-
-same-length : tie.Need-same-length
-same-length c = search needs
-
 returns : tie.Need-returns
 unfolding liveMarked
 returns c =
@@ -31,4 +22,4 @@ returns-2 c = rw (sym (c .before .lives-at-tick .ensures) ∙ c .if1 .left)
 pub mark-live-spec : {M : Type 1} → statement M
 mark-live-spec =
     tie.close
-    (tie.spec lives-at-tick-requires mark-accessed-requires same-length returns returns-2)
+    (tie.spec (λ c κs. search needs) (λ c κs. search needs) (λ c. search needs) returns returns-2)

@@ -24,18 +24,9 @@ reads l =
     let a = l .before .before .before .before .before .args in
     entryAt (recordIn (a .view) (a .arena .now) (a .starts .now) (a .lengths .now)) (a .packed) (a .buckets) (a .index .now)
 
-mul-slots : tie.Need-mul-slots Inv-loop μ-loop
-mul-slots c = search needs
-
 loop-holds : tie.Need-loop-holds Inv-loop μ-loop
 unfolding nextEntry
 loop-holds c = refl
-
-entry-at-requires : tie.Need-entry-at-requires Inv-loop μ-loop
-entry-at-requires c κs = search needs
-
-enum-known-read : tie.Need-enum-known-read Inv-loop μ-loop
-enum-known-read c = search needs
 
 returns : tie.Need-returns Inv-loop μ-loop
 returns c =
@@ -43,12 +34,6 @@ returns c =
     let l = e .before .before in
     let told = c .before .read .given in
     sym (entry-hit (reads l) _ (l .loop .slot) (told .0 .0) (omega (arith, e .before .loop-test .taken)) (sym (e .entry-at .ensures) ∙ told .1)) ∙ l .loop .inv
-
-enum-told : tie.Need-enum-told Inv-loop μ-loop
-enum-told c = search needs
-
-add-slot : tie.Need-add-slot Inv-loop μ-loop
-add-slot c = search needs
 
 loop-less : tie.Need-loop-less Inv-loop μ-loop
 loop-less c = omega (arith, c .before .before .before .loop-test .taken)
@@ -68,13 +53,13 @@ next-entry-spec =
     (tie.spec
     Inv-loop
     μ-loop
-    mul-slots
+    (λ c. search needs)
     loop-holds
-    entry-at-requires
-    enum-known-read
+    (λ c κs. search needs)
+    (λ c. search needs)
     returns
-    enum-told
-    add-slot
+    (λ c. search needs)
+    (λ c. search needs)
     loop-less
     loop-again
     returns-2)

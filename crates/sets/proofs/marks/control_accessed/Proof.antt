@@ -8,14 +8,8 @@ use borrow.Author.Needs.{needs}
 use Rattle.sets.proofs.marks.control_accessed.Statement.{statement}
 use Rattle.sets.proofs.marks.control_accessed.Tie as tie
 
-mul-result : tie.Need-mul-result
-mul-result c = search needs
-
-shr-result : tie.Need-shr-result
-shr-result c = search needs
-
 returns : tie.Need-returns
 returns c = ap (leb 128) (sym (byte-at (c .args .control) (c .args .slot % 8) (omega arith)))
 
 pub control-accessed-spec : {M : Type 1} → statement M
-control-accessed-spec = tie.close (tie.spec mul-result shr-result returns)
+control-accessed-spec = tie.close (tie.spec (λ c. search needs) (λ c. search needs) returns)

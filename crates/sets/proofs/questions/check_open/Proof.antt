@@ -41,22 +41,13 @@ yes6 : (c : tie.Else6) → Yes 6 (from (c .before .before .before .before .befor
 unfolding askOpen
 yes6 c = yes5 (c .before .before) ∙ rw (said-yes (c .before .segment-areas-hold .ensures) (c .if6 .left))
 
-nanoseconds-fit-requires : tie.Need-nanoseconds-fit-requires
-nanoseconds-fit-requires c κs = search needs
-
 returns : tie.Need-returns
 unfolding askOpen
 returns c = rw (said-no (c .before .nanoseconds-fit .ensures) (c .if1 .taken))
 
-occupancy-fits-requires : tie.Need-occupancy-fits-requires
-occupancy-fits-requires c κs = search needs
-
 returns-2 : tie.Need-returns-2
 unfolding askOpen
 returns-2 c = sym (yes1 (c .before .before) ∙ rw (said-no (c .before .occupancy-fits .ensures) (c .if2 .taken)))
-
-tick-runs-requires : tie.Need-tick-runs-requires
-tick-runs-requires c κs = search needs
 
 returns-3 : tie.Need-returns-3
 unfolding askOpen
@@ -66,15 +57,9 @@ returns-4 : tie.Need-returns-4
 unfolding askOpen
 returns-4 c = sym (yes3 (c .before) ∙ rw (lt-leb _ _ (c .if4 .taken)))
 
-open-areas-hold-requires : tie.Need-open-areas-hold-requires
-open-areas-hold-requires c κs = search needs
-
 returns-5 : tie.Need-returns-5
 unfolding askOpen
 returns-5 c = sym (yes4 (c .before .before) ∙ rw (said-no (c .before .open-areas-hold .ensures) (c .if5 .taken)))
-
-segment-areas-hold-requires : tie.Need-segment-areas-hold-requires
-segment-areas-hold-requires c κs = search needs
 
 returns-6 : tie.Need-returns-6
 unfolding askOpen
@@ -92,16 +77,16 @@ pub check-open-spec : {M : Type 1} → statement M
 check-open-spec =
     tie.close
     (tie.spec
-    nanoseconds-fit-requires
+    (λ c κs. search needs)
     returns
-    occupancy-fits-requires
+    (λ c κs. search needs)
     returns-2
-    tick-runs-requires
+    (λ c κs. search needs)
     returns-3
     returns-4
-    open-areas-hold-requires
+    (λ c κs. search needs)
     returns-5
-    segment-areas-hold-requires
+    (λ c κs. search needs)
     returns-6
     returns-7
     returns-8)

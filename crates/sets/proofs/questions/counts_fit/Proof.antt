@@ -16,9 +16,6 @@ yes2 : (c : tie.Else2) → let a = c .before .before .before .args in
 unfolding countsFit
 yes2 c = rw (said-yes (c .before .before .setting-fits .ensures) (c .before .if1 .left), le-leb _ _ (c .if2 .left))
 
-setting-fits-requires : tie.Need-setting-fits-requires
-setting-fits-requires c κs = search needs
-
 returns : tie.Need-returns
 unfolding countsFit
 returns c = rw (said-no (c .before .setting-fits .ensures) (c .if1 .taken))
@@ -27,14 +24,8 @@ returns-2 : tie.Need-returns-2
 unfolding countsFit
 returns-2 c = rw (said-yes (c .before .before .setting-fits .ensures) (c .before .if1 .left), lt-leb _ _ (c .if2 .taken))
 
-bucket-count-requires : tie.Need-bucket-count-requires
-bucket-count-requires c κs = search needs
-
 returns-3 : tie.Need-returns-3
 returns-3 c = sym (yes2 (c .before .before) ∙ rw (← c .before .bucket-count .ensures, ne-eqb _ _ (c .if3 .taken)))
-
-filter-words-for-requires : tie.Need-filter-words-for-requires
-filter-words-for-requires c κs = search needs
 
 returns-4 : tie.Need-returns-4
 returns-4 c =
@@ -45,10 +36,10 @@ pub counts-fit-spec : {M : Type 1} → statement M
 counts-fit-spec =
     tie.close
     (tie.spec
-    setting-fits-requires
+    (λ c κs. search needs)
     returns
     returns-2
-    bucket-count-requires
+    (λ c κs. search needs)
     returns-3
-    filter-words-for-requires
+    (λ c κs. search needs)
     returns-4)

@@ -4,12 +4,6 @@ use borrow.Author.Needs.{needs}
 use Rattle.sets.proofs.questions.lifetime_fits.Statement.{statement}
 use Rattle.sets.proofs.questions.lifetime_fits.Tie as tie
 
-enum-known-ttl : tie.Need-enum-known-ttl
-enum-known-ttl c = search needs
-
-enum-told : tie.Need-enum-told
-enum-told c = search needs
-
 returns : tie.Need-returns
 unfolding lifetimeFits
 returns c = rw (c .enum-told .given .1)
@@ -19,4 +13,4 @@ unfolding lifetimeFits
 returns-2 c = rw (c .before .before .ttl .given .1)
 
 pub lifetime-fits-spec : {M : Type 1} → statement M
-lifetime-fits-spec = tie.close (tie.spec enum-known-ttl enum-told returns returns-2)
+lifetime-fits-spec = tie.close (tie.spec (λ c. search needs) (λ c. search needs) returns returns-2)

@@ -4,12 +4,6 @@ use borrow.Author.Needs.{needs}
 use Rattle.sets.proofs.questions.nanoseconds_fit.Statement.{statement}
 use Rattle.sets.proofs.questions.nanoseconds_fit.Tie as tie
 
-enum-known-expiry : tie.Need-enum-known-expiry
-enum-known-expiry c = search needs
-
-enum-told : tie.Need-enum-told
-enum-told c = search needs
-
 returns : tie.Need-returns
 unfolding nanosecondsFit
 returns c = rw (c .enum-told .given .1)
@@ -19,4 +13,4 @@ unfolding nanosecondsFit
 returns-2 c = rw (c .before .before .expiry .given .1)
 
 pub nanoseconds-fit-spec : {M : Type 1} → statement M
-nanoseconds-fit-spec = tie.close (tie.spec enum-known-expiry enum-told returns returns-2)
+nanoseconds-fit-spec = tie.close (tie.spec (λ c. search needs) (λ c. search needs) returns returns-2)

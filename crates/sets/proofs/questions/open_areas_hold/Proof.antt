@@ -7,18 +7,12 @@ use borrow.Author.Needs.{needs}
 use Rattle.sets.proofs.questions.open_areas_hold.Statement.{statement}
 use Rattle.sets.proofs.questions.open_areas_hold.Tie as tie
 
-bucket-count-requires : tie.Need-bucket-count-requires
-bucket-count-requires c κs = search needs
-
 returns : tie.Need-returns
 unfolding openAreasHold
 returns c =
     let a = c .before .before .args in
     let short : a .index-len < 8 * bucketsIn (a .config) (a .entry-count) = omega (arith, c .if1 .taken, c .before .bucket-count .ensures) in
     rw (lt-leb _ _ short)
-
-filter-words-for-requires : tie.Need-filter-words-for-requires
-filter-words-for-requires c κs = search needs
 
 returns-2 : tie.Need-returns-2
 unfolding openAreasHold
@@ -29,4 +23,4 @@ returns-2 c =
 
 pub open-areas-hold-spec : {M : Type 1} → statement M
 open-areas-hold-spec =
-    tie.close (tie.spec bucket-count-requires returns filter-words-for-requires returns-2)
+    tie.close (tie.spec (λ c κs. search needs) returns (λ c κs. search needs) returns-2)

@@ -10,15 +10,6 @@ use borrow.Author.Needs.{needs}
 use Rattle.sets.proofs.questions.record_fits.Statement.{statement}
 use Rattle.sets.proofs.questions.record_fits.Tie as tie
 
-encoded-record-bytes-requires : tie.Need-encoded-record-bytes-requires
-encoded-record-bytes-requires c κs = search needs
-
-enum-known-size : tie.Need-enum-known-size
-enum-known-size c = search needs
-
-enum-told : tie.Need-enum-told
-enum-told c = search needs
-
 returns : tie.Need-returns
 returns c =
     let a = c .before .before .before .args in
@@ -36,4 +27,4 @@ returns-2 c =
 
 pub record-fits-spec : {M : Type 1} → statement M
 record-fits-spec =
-    tie.close (tie.spec encoded-record-bytes-requires enum-known-size enum-told returns returns-2)
+    tie.close (tie.spec (λ c κs. search needs) (λ c. search needs) (λ c. search needs) returns returns-2)

@@ -5,22 +5,13 @@ use borrow.Author.Needs.{needs}
 use Rattle.sets.proofs.questions.setting_fits.Statement.{statement}
 use Rattle.sets.proofs.questions.setting_fits.Tie as tie
 
-nanoseconds-fit-requires : tie.Need-nanoseconds-fit-requires
-nanoseconds-fit-requires c κs = search needs
-
 returns : tie.Need-returns
 unfolding settingFits
 returns c = rw (said-no (c .before .nanoseconds-fit .ensures) (c .if1 .taken))
 
-occupancy-fits-requires : tie.Need-occupancy-fits-requires
-occupancy-fits-requires c κs = search needs
-
 returns-2 : tie.Need-returns-2
 unfolding settingFits
 returns-2 c = rw (said-yes (c .before .before .before .nanoseconds-fit .ensures) (c .before .before .if1 .left), said-no (c .before .occupancy-fits .ensures) (c .if2 .taken))
-
-tick-runs-requires : tie.Need-tick-runs-requires
-tick-runs-requires c κs = search needs
 
 returns-3 : tie.Need-returns-3
 unfolding settingFits
@@ -34,9 +25,9 @@ pub setting-fits-spec : {M : Type 1} → statement M
 setting-fits-spec =
     tie.close
     (tie.spec
-    nanoseconds-fit-requires
+    (λ c κs. search needs)
     returns
-    occupancy-fits-requires
+    (λ c κs. search needs)
     returns-2
-    tick-runs-requires
+    (λ c κs. search needs)
     returns-3)

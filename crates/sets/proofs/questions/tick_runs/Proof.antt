@@ -6,18 +6,9 @@ use borrow.Author.Needs.{needs}
 use Rattle.sets.proofs.questions.tick_runs.Statement.{statement}
 use Rattle.sets.proofs.questions.tick_runs.Tie as tie
 
-enum-known-expiry : tie.Need-enum-known-expiry
-enum-known-expiry c = search needs
-
-enum-told : tie.Need-enum-told
-enum-told c = search needs
-
 returns : tie.Need-returns
 unfolding tickRuns
 returns c = rw (c .enum-told .given .1)
-
-is-zero-requires : tie.Need-is-zero-requires
-is-zero-requires c κs = search needs
 
 returns-2 : tie.Need-returns-2
 unfolding tickRuns
@@ -25,4 +16,4 @@ returns-2 c = rw (c .before .before .expiry .given .1) (ap not (c .is-zero .ensu
 
 pub tick-runs-spec : {M : Type 1} → statement M
 tick-runs-spec =
-    tie.close (tie.spec enum-known-expiry enum-told returns is-zero-requires returns-2)
+    tie.close (tie.spec (λ c. search needs) (λ c. search needs) returns (λ c κs. search needs) returns-2)

@@ -10,16 +10,10 @@ use borrow.Author.Needs.{needs}
 use Rattle.sets.proofs.rebuild.keep_words.Statement.{statement}
 use Rattle.sets.proofs.rebuild.keep_words.Tie as tie
 
-clear-words-requires : tie.Need-clear-words-requires
-clear-words-requires c κs = search needs
-
 copy-kept-requires : tie.Need-copy-kept-requires
 copy-kept-requires c κs =
     let a = c .before .before .before .before .before .before .before .before .args in
     (omega arith, omega (arith, kept-most (a .flags .now)))
-
-same-length : tie.Need-same-length
-same-length c = search needs
 
 returns : tie.Need-returns
 returns c =
@@ -31,4 +25,4 @@ returns c =
     k .copy-kept .ensures ∙ over-cleared _ (a .area .now) _ few (s .pre .2) (w .clear-words .ensures)
 
 pub keep-words-spec : {M : Type 1} → statement M
-keep-words-spec = tie.close (tie.spec clear-words-requires copy-kept-requires same-length returns)
+keep-words-spec = tie.close (tie.spec (λ c κs. search needs) copy-kept-requires (λ c. search needs) returns)

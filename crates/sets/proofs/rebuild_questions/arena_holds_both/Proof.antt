@@ -21,15 +21,6 @@ returns-2 c =
     let n : a .arena-len < a .source-filled + a .copied = omega (arith, c .before .if1 .left, c .if2 .taken) in
     rw (lt-leb _ _ n)
 
-add-arena-holds : tie.Need-add-arena-holds
-add-arena-holds c = search needs
-
-arena-holds-requires : tie.Need-arena-holds-requires
-arena-holds-requires c κs = search needs
-
-returns-3 : tie.Need-returns-3
-returns-3 c = search needs
-
 pub arena-holds-both-spec : {M : Type 1} → statement M
 arena-holds-both-spec =
-    tie.close (tie.spec returns returns-2 add-arena-holds arena-holds-requires returns-3)
+    tie.close (tie.spec returns returns-2 (λ c. search needs) (λ c κs. search needs) (λ c. search needs))

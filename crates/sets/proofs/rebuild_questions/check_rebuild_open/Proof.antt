@@ -57,9 +57,6 @@ yes5 : (c : tie.Else5) → Yes 5 (from3 (c .before .before .before .before .befo
 unfolding askRebuildOpen
 yes5 c = yes4 (c .before .before) ∙ rw (said-yes (c .before .open-areas-hold .ensures) (c .if5 .left))
 
-source-holds-requires : tie.Need-source-holds-requires
-source-holds-requires c κs = search needs
-
 returns : tie.Need-returns
 unfolding askRebuildOpen
 returns c = rw (said-no (c .before .source-holds .ensures) (c .if1 .taken))
@@ -72,12 +69,6 @@ returns-3 : tie.Need-returns-3
 unfolding askRebuildOpen
 returns-3 c = sym (yes2 (c .before) ∙ rw (lt-leb _ _ (c .if3 .taken)))
 
-kept-count-requires : tie.Need-kept-count-requires
-kept-count-requires c κs = search needs
-
-segment-for-requires : tie.Need-segment-for-requires
-segment-for-requires c κs = search needs
-
 add-if4 : tie.Need-add-if4
 add-if4 c =
     let b = c .before .before .before .before .before in
@@ -89,15 +80,9 @@ returns-4 : tie.Need-returns-4
 unfolding askRebuildOpen
 returns-4 c = sym (yes3 (c .before .before .before) ∙ rw (← segments (c .before), lt-leb _ _ (c .if4 .taken)))
 
-open-areas-hold-requires : tie.Need-open-areas-hold-requires
-open-areas-hold-requires c κs = search needs
-
 returns-5 : tie.Need-returns-5
 unfolding askRebuildOpen
 returns-5 c = sym (yes4 (c .before .before) ∙ rw (said-no (c .before .open-areas-hold .ensures) (c .if5 .taken)))
-
-segment-areas-hold-requires : tie.Need-segment-areas-hold-requires
-segment-areas-hold-requires c κs = search needs
 
 returns-6 : tie.Need-returns-6
 unfolding askRebuildOpen
@@ -111,16 +96,16 @@ pub check-rebuild-open-spec : {M : Type 1} → statement M
 check-rebuild-open-spec =
     tie.close
     (tie.spec
-    source-holds-requires
+    (λ c κs. search needs)
     returns
     returns-2
     returns-3
-    kept-count-requires
-    segment-for-requires
+    (λ c κs. search needs)
+    (λ c κs. search needs)
     add-if4
     returns-4
-    open-areas-hold-requires
+    (λ c κs. search needs)
     returns-5
-    segment-areas-hold-requires
+    (λ c κs. search needs)
     returns-6
     returns-7)

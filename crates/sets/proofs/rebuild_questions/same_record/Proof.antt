@@ -10,23 +10,11 @@ returns : tie.Need-returns
 unfolding holdsRecord
 returns c = rw (ne-eqb _ _ (c .if1 .taken))
 
-value-slice-requires : tie.Need-value-slice-requires
-value-slice-requires c κs = search needs
-
-same-bytes-requires : tie.Need-same-bytes-requires
-same-bytes-requires c κs = search needs
-
 returns-2 : tie.Need-returns-2
 unfolding holdsRecord
 returns-2 c =
     let v = c .before .before in
     rw (eq-eqb _ _ (v .before .before .if1 .left), ← v .value-slice .ensures, said-no (c .before .same-bytes .ensures) (c .if2 .taken))
-
-value-slice-requires-2 : tie.Need-value-slice-requires-2
-value-slice-requires-2 c κs = search needs
-
-same-bytes-requires-2 : tie.Need-same-bytes-requires-2
-same-bytes-requires-2 c κs = search needs
 
 returns-3 : tie.Need-returns-3
 unfolding holdsRecord
@@ -41,9 +29,9 @@ same-record-spec =
     tie.close
     (tie.spec
     returns
-    value-slice-requires
-    same-bytes-requires
+    (λ c κs. search needs)
+    (λ c κs. search needs)
     returns-2
-    value-slice-requires-2
-    same-bytes-requires-2
+    (λ c κs. search needs)
+    (λ c κs. search needs)
     returns-3)

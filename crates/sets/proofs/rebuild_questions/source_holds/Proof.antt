@@ -28,24 +28,15 @@ yes2 c =
     let b = c .before .before in
     rw (said-yes (b .before .fits2 .ensures) (b .if1 .left), segments c)
 
-fits-requires : tie.Need-fits-requires
-fits-requires c κs = search needs
-
 returns : tie.Need-returns
 unfolding areasHoldSource
 returns c = rw (said-no (c .before .fits2 .ensures) (c .if1 .taken))
-
-segment-areas-hold-requires : tie.Need-segment-areas-hold-requires
-segment-areas-hold-requires c κs = search needs
 
 returns-2 : tie.Need-returns-2
 unfolding areasHoldSource
 returns-2 c =
     let b = c .before .before in
     rw (said-yes (b .before .fits2 .ensures) (b .if1 .left), said-no (c .before .segment-areas-hold .ensures) (c .if2 .taken))
-
-arena-holds-requires : tie.Need-arena-holds-requires
-arena-holds-requires c κs = search needs
 
 returns-3 : tie.Need-returns-3
 returns-3 c = sym (yes2 (c .before .before) ∙ rw (said-no (c .before .arena-holds .ensures) (c .if3 .taken)))
@@ -67,11 +58,11 @@ pub source-holds-spec : {M : Type 1} → statement M
 source-holds-spec =
     tie.close
     (tie.spec
-    fits-requires
+    (λ c κs. search needs)
     returns
-    segment-areas-hold-requires
+    (λ c κs. search needs)
     returns-2
-    arena-holds-requires
+    (λ c κs. search needs)
     returns-3
     segments-inside-requires
     returns-4)

@@ -4,15 +4,6 @@ use Rattle.test_exports.specs.Exports.{codeOf}
 use Rattle.test_exports.proofs.index_calls.slot_code.Statement.{statement}
 use Rattle.test_exports.proofs.index_calls.slot_code.Tie as tie
 
-enum-known-slot : tie.Need-enum-known-slot
-enum-known-slot c = search needs
-
-enum-told : tie.Need-enum-told
-enum-told c = search needs
-
-enum-told-2 : tie.Need-enum-told-2
-enum-told-2 c = search needs
-
 returns : tie.Need-returns
 unfolding codeOf
 returns c = rw (c .before .slot .given .1)
@@ -27,4 +18,4 @@ returns-3 c = rw (c .enum-told2 .given .1)
 
 pub slot-code-spec : {M : Type 1} → statement M
 slot-code-spec =
-    tie.close (tie.spec enum-known-slot enum-told enum-told-2 returns returns-2 returns-3)
+    tie.close (tie.spec (λ c. search needs) (λ c. search needs) (λ c. search needs) returns returns-2 returns-3)

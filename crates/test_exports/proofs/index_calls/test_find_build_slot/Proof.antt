@@ -3,18 +3,9 @@ use borrow.Author.Needs.{needs}
 use Rattle.test_exports.proofs.index_calls.test_find_build_slot.Statement.{statement}
 use Rattle.test_exports.proofs.index_calls.test_find_build_slot.Tie as tie
 
-expiry-of-requires : tie.Need-expiry-of-requires
-expiry-of-requires c κs = search needs
-
-find-build-slot-requires : tie.Need-find-build-slot-requires
-find-build-slot-requires c κs = search needs
-
-slot-code-requires : tie.Need-slot-code-requires
-slot-code-requires c κs = search needs
-
 returns : tie.Need-returns
 returns c = rw (← (c .before .before .expiry-of .ensures), ← (c .before .find-build-slot .ensures)) (c .slot-code .ensures)
 
 pub test-find-build-slot-spec : {M : Type 1} → statement M
 test-find-build-slot-spec =
-    tie.close (tie.spec expiry-of-requires find-build-slot-requires slot-code-requires returns)
+    tie.close (tie.spec (λ c κs. search needs) (λ c κs. search needs) (λ c κs. search needs) returns)

@@ -3,15 +3,9 @@ use borrow.Author.Needs.{needs}
 use Rattle.test_exports.proofs.index_calls.test_find_empty_build_slot.Statement.{statement}
 use Rattle.test_exports.proofs.index_calls.test_find_empty_build_slot.Tie as tie
 
-find-empty-build-slot-requires : tie.Need-find-empty-build-slot-requires
-find-empty-build-slot-requires c κs = search needs
-
-slot-code-requires : tie.Need-slot-code-requires
-slot-code-requires c κs = search needs
-
 returns : tie.Need-returns
 returns c = rw (← (c .before .find-empty-build-slot .ensures)) (c .slot-code .ensures)
 
 pub test-find-empty-build-slot-spec : {M : Type 1} → statement M
 test-find-empty-build-slot-spec =
-    tie.close (tie.spec find-empty-build-slot-requires slot-code-requires returns)
+    tie.close (tie.spec (λ c κs. search needs) (λ c κs. search needs) returns)

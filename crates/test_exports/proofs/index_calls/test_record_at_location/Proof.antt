@@ -7,34 +7,10 @@ use borrow.Author.Needs.{needs}
 use Rattle.test_exports.proofs.index_calls.test_record_at_location.Statement.{statement}
 use Rattle.test_exports.proofs.index_calls.test_record_at_location.Tie as tie
 
-expiry-of-requires : tie.Need-expiry-of-requires
-expiry-of-requires c κs = search needs
-
-record-at-location-requires : tie.Need-record-at-location-requires
-record-at-location-requires c κs = search needs
-
-enum-known-record : tie.Need-enum-known-record
-enum-known-record c = search needs
-
-enum-told : tie.Need-enum-told
-enum-told c = search needs
-
 returns : tie.Need-returns
 returns c =
     rw (← (c .before .before .before .expiry-of .ensures), ← (c .before .before .record-at-location .ensures), c .enum-told .given .1)
     (ap (told false) (placed-none (c .before .before .before .before .before .before .before .before .args .out .now)))
-
-cast-t25 : tie.Need-cast-t25
-cast-t25 c = search needs
-
-slice-aggregate-put-words : tie.Need-slice-aggregate-put-words
-slice-aggregate-put-words c = search needs
-
-put-words-requires : tie.Need-put-words-requires
-put-words-requires c κs = search needs
-
-same-length : tie.Need-same-length
-same-length c = search needs
 
 returns-2 : tie.Need-returns-2
 returns-2 c =
@@ -49,13 +25,13 @@ pub test-record-at-location-spec : {M : Type 1} → statement M
 test-record-at-location-spec =
     tie.close
     (tie.spec
-    expiry-of-requires
-    record-at-location-requires
-    enum-known-record
-    enum-told
+    (λ c κs. search needs)
+    (λ c κs. search needs)
+    (λ c. search needs)
+    (λ c. search needs)
     returns
-    cast-t25
-    slice-aggregate-put-words
-    put-words-requires
-    same-length
+    (λ c. search needs)
+    (λ c. search needs)
+    (λ c κs. search needs)
+    (λ c. search needs)
     returns-2)

@@ -8,9 +8,6 @@ use borrow.Author.Needs.{needs}
 use Rattle.sets.proofs.builder.SegmentCacheBuilder.areas_hold.Statement.{statement}
 use Rattle.sets.proofs.builder.SegmentCacheBuilder.areas_hold.Tie as tie
 
-fits-requires : tie.Need-fits-requires
-fits-requires c κs = search needs
-
 returns : tie.Need-returns
 unfolding areasHoldBuilder
 returns c = rw (said-no (c .before .fits2 .ensures) (c .if1 .taken))
@@ -22,9 +19,6 @@ returns-2 c =
     let short : a .index-len < 8 * a .self .«bucket_count» = omega (arith, c .if2 .taken) in
     rw (said-yes (c .before .before .before .fits2 .ensures) (c .before .before .if1 .left), lt-leb _ _ short)
 
-arena-holds-requires : tie.Need-arena-holds-requires
-arena-holds-requires c κs = search needs
-
 returns-3 : tie.Need-returns-3
 unfolding areasHoldBuilder
 returns-3 c =
@@ -34,4 +28,4 @@ returns-3 c =
 
 pub areas-hold-spec : {M : Type 1} → statement M
 areas-hold-spec =
-    tie.close (tie.spec fits-requires returns returns-2 arena-holds-requires returns-3)
+    tie.close (tie.spec (λ c κs. search needs) returns returns-2 (λ c κs. search needs) returns-3)

@@ -39,15 +39,9 @@ yes5 : (c : tie.Else5) → Yes 5 (from (c .before .before .before .before))
 unfolding askFinish
 yes5 c = yes4 (c .before .before) ∙ rw (said-yes (c .before .scratch-holds .ensures) (c .if5 .left))
 
-areas-hold-requires : tie.Need-areas-hold-requires
-areas-hold-requires c κs = search needs
-
 returns : tie.Need-returns
 unfolding askFinish
 returns c = rw (said-no (c .before .areas-hold .ensures) (c .if1 .taken))
-
-segment-areas-hold-requires : tie.Need-segment-areas-hold-requires
-segment-areas-hold-requires c κs = search needs
 
 returns-2 : tie.Need-returns-2
 unfolding askFinish
@@ -57,22 +51,13 @@ returns-3 : tie.Need-returns-3
 unfolding askFinish
 returns-3 c = sym (yes2 (c .before .before) ∙ rw (ne-eqb _ _ (c .if3 .taken)))
 
-target-fits-requires : tie.Need-target-fits-requires
-target-fits-requires c κs = search needs
-
 returns-4 : tie.Need-returns-4
 unfolding askFinish
 returns-4 c = sym (yes3 (c .before .before) ∙ rw (said-no (c .before .target-fits .ensures) (c .if4 .taken)))
 
-scratch-holds-requires : tie.Need-scratch-holds-requires
-scratch-holds-requires c κs = search needs
-
 returns-5 : tie.Need-returns-5
 unfolding askFinish
 returns-5 c = sym (yes4 (c .before .before) ∙ rw (said-no (c .before .scratch-holds .ensures) (c .if5 .taken)))
-
-locations-inside-requires : tie.Need-locations-inside-requires
-locations-inside-requires c κs = search needs
 
 returns-6 : tie.Need-returns-6
 unfolding askFinish
@@ -86,15 +71,15 @@ pub check-finish-spec : {M : Type 1} → statement M
 check-finish-spec =
     tie.close
     (tie.spec
-    areas-hold-requires
+    (λ c κs. search needs)
     returns
-    segment-areas-hold-requires
+    (λ c κs. search needs)
     returns-2
     returns-3
-    target-fits-requires
+    (λ c κs. search needs)
     returns-4
-    scratch-holds-requires
+    (λ c κs. search needs)
     returns-5
-    locations-inside-requires
+    (λ c κs. search needs)
     returns-6
     returns-7)

@@ -17,15 +17,6 @@ from c = c .before .before .before .before .before .before .before .before .befo
 abbrev split : tie.After-slice-known7 → tie.After-split-record-segments
 split c = c .before .before .before .before .before .before
 
-check-finish-requires : tie.Need-check-finish-requires
-check-finish-requires c κs = search needs
-
-enum-known-refusal : tie.Need-enum-known-refusal
-enum-known-refusal c = search needs
-
-same-length : tie.Need-same-length
-same-length c = search needs
-
 -- all questions but the last are answered yes
 yes : (c : tie.After-enum-told) → let a = from c .args in
     checked (a .self) (a .target) (a .index .now) (a .starts .now) (a .lengths .now) (a .scratch .now) (a .arena .now) ≡ 0
@@ -36,34 +27,10 @@ returns c =
     let told = c .before .refusal .given in
     finish-stopped _ _ _ _ _ _ _ (told .0 .0) (sym (ap checkNumber (told .1)) ∙ c .before .before .before .check-finish .ensures)
 
-enum-told : tie.Need-enum-told
-enum-told c = search needs
-
-split-record-segments-requires : tie.Need-split-record-segments-requires
-split-record-segments-requires c κs = search needs
-
-enum-known-refusal-2 : tie.Need-enum-known-refusal-2
-enum-known-refusal-2 c = search needs
-
-enum-known-segments : tie.Need-enum-known-segments
-enum-known-segments c = search needs
-
-pack-index-requires : tie.Need-pack-index-requires
-pack-index-requires c κs = search needs
-
 into-cache-requires : tie.Need-into-cache-requires
 into-cache-requires c κs =
     let t = split (c .before .before .before .before .before .before .before .before .before .before) .before .before .before .before in
     finish-asked _ _ _ _ _ _ _ (yes t) .areas .numbers .inside
-
-same-length-2 : tie.Need-same-length-2
-same-length-2 c = search needs
-
-same-length-3 : tie.Need-same-length-3
-same-length-3 c = search needs
-
-same-length-4 : tie.Need-same-length-4
-same-length-4 c = search needs
 
 returns-2 : tie.Need-returns-2
 returns-2 c =
@@ -72,18 +39,6 @@ returns-2 c =
     let told = c .before .refusal2 .given in
     let split-it = ap (λ (r : SplitAnswer). splitResult r (w .last .0) (w .last .1 .1 .1 .1 .0) (w .last .1 .1 .1 .1 .1 .0)) (sym (told .1)) ∙ w .ensures in
     split-refused _ _ _ _ _ _ _ _ _ _ (told .0 .0) (yes (d .before .before .before .before)) split-it
-
-same-length-5 : tie.Need-same-length-5
-same-length-5 c = search needs
-
-same-length-6 : tie.Need-same-length-6
-same-length-6 c = search needs
-
-same-length-7 : tie.Need-same-length-7
-same-length-7 c = search needs
-
-same-length-8 : tie.Need-same-length-8
-same-length-8 c = search needs
 
 returns-3 : tie.Need-returns-3
 returns-3 c =
@@ -100,22 +55,22 @@ pub finish-spec : {M : Type 1} → statement M
 finish-spec =
     tie.close
     (tie.spec
-    check-finish-requires
-    enum-known-refusal
-    same-length
+    (λ c κs. search needs)
+    (λ c. search needs)
+    (λ c. search needs)
     returns
-    enum-told
-    split-record-segments-requires
-    enum-known-refusal-2
-    enum-known-segments
-    pack-index-requires
+    (λ c. search needs)
+    (λ c κs. search needs)
+    (λ c. search needs)
+    (λ c. search needs)
+    (λ c κs. search needs)
     into-cache-requires
-    same-length-2
-    same-length-3
-    same-length-4
+    (λ c. search needs)
+    (λ c. search needs)
+    (λ c. search needs)
     returns-2
-    same-length-5
-    same-length-6
-    same-length-7
-    same-length-8
+    (λ c. search needs)
+    (λ c. search needs)
+    (λ c. search needs)
+    (λ c. search needs)
     returns-3)

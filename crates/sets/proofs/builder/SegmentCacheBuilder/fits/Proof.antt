@@ -48,9 +48,6 @@ yes4 : (c : tie.Else4) → let b = self (c .before .before .before .before) in
     ∷ [])
 yes4 c = yes3 (c .before .before) ∙ rw (le-leb _ _ (values c))
 
-counts-fit-requires : tie.Need-counts-fit-requires
-counts-fit-requires c κs = search needs
-
 returns : tie.Need-returns
 unfolding builderFits
 returns c = rw (said-no (c .before .counts-fit .ensures) (c .if1 .taken))
@@ -83,12 +80,6 @@ add-if5 c = omega (arith, few (c .before .before .before .before), keys (c .befo
 returns-5 : tie.Need-returns-5
 returns-5 c = sym (yes4 (c .before .before) ∙ rw (lt-leb _ _ (c .if5 .taken)))
 
-sub-bytes-fit : tie.Need-sub-bytes-fit
-sub-bytes-fit c = search needs
-
-sub-bytes-fit-2 : tie.Need-sub-bytes-fit-2
-sub-bytes-fit-2 c = search needs
-
 bytes-fit-requires-3 : tie.Need-bytes-fit-requires-3
 bytes-fit-requires-3 c κs = few (c .before .before .before .before .before .before .before)
 
@@ -101,7 +92,7 @@ pub fits-spec : {M : Type 1} → statement M
 fits-spec =
     tie.close
     (tie.spec
-    counts-fit-requires
+    (λ c κs. search needs)
     returns
     returns-2
     bytes-fit-requires
@@ -110,7 +101,7 @@ fits-spec =
     returns-4
     add-if5
     returns-5
-    sub-bytes-fit
-    sub-bytes-fit-2
+    (λ c. search needs)
+    (λ c. search needs)
     bytes-fit-requires-3
     returns-6)

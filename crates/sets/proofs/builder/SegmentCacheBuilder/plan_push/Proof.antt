@@ -51,9 +51,6 @@ yes4 : (c : tie.Else4) → Yes 4 (from (first c))
 unfolding askPush
 yes4 c = yes3 (c .before .before) ∙ rw (lt-ltb _ _ (c .if4 .left))
 
-areas-hold-requires : tie.Need-areas-hold-requires
-areas-hold-requires c κs = search needs
-
 returns : tie.Need-returns
 unfolding planPush askPush planRecord askRecord
 returns c = rw (said-no (c .before .areas-hold .ensures) (c .if1 .taken))
@@ -61,9 +58,6 @@ returns c = rw (said-no (c .before .areas-hold .ensures) (c .if1 .taken))
 returns-2 : tie.Need-returns-2
 unfolding planPush askPush planRecord askRecord
 returns-2 c = sym (yes1 (c .before .before) ∙ rw (lt-leb _ _ (c .if2 .taken)))
-
-lifetime-fits-requires : tie.Need-lifetime-fits-requires
-lifetime-fits-requires c κs = search needs
 
 returns-3 : tie.Need-returns-3
 unfolding planPush askPush planRecord askRecord
@@ -77,18 +71,6 @@ returns-4 c =
 
 slice-aggregate-find-build-slot : tie.Need-slice-aggregate-find-build-slot
 slice-aggregate-find-build-slot c = sym (length-take-le _ _ (filled (c .before .before)))
-
-find-build-slot-requires : tie.Need-find-build-slot-requires
-find-build-slot-requires c κs = search needs
-
-enum-told : tie.Need-enum-told
-enum-told c = search needs
-
-enum-told-2 : tie.Need-enum-told-2
-enum-told-2 c = search needs
-
-enum-known-slot : tie.Need-enum-known-slot
-enum-known-slot c = search needs
 
 plan-record-requires : tie.Need-plan-record-requires
 plan-record-requires c κs = filled (c .before .before .before .before .before .before)
@@ -116,17 +98,17 @@ pub plan-push-spec : {M : Type 1} → statement M
 plan-push-spec =
     tie.close
     (tie.spec
-    areas-hold-requires
+    (λ c κs. search needs)
     returns
     returns-2
-    lifetime-fits-requires
+    (λ c κs. search needs)
     returns-3
     returns-4
     slice-aggregate-find-build-slot
-    find-build-slot-requires
-    enum-told
-    enum-told-2
-    enum-known-slot
+    (λ c κs. search needs)
+    (λ c. search needs)
+    (λ c. search needs)
+    (λ c. search needs)
     plan-record-requires
     returns-5
     returns-6

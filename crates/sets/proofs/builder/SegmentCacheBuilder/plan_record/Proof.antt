@@ -14,18 +14,6 @@ use borrow.Author.Needs.{needs}
 use Rattle.sets.proofs.builder.SegmentCacheBuilder.plan_record.Statement.{statement}
 use Rattle.sets.proofs.builder.SegmentCacheBuilder.plan_record.Tie as tie
 
-encode-expiry-at-tick-requires : tie.Need-encode-expiry-at-tick-requires
-encode-expiry-at-tick-requires c κs = search needs
-
-enum-known-deadline : tie.Need-enum-known-deadline
-enum-known-deadline c = search needs
-
-enum-told : tie.Need-enum-told
-enum-told c = search needs
-
-deadline-refusal-requires : tie.Need-deadline-refusal-requires
-deadline-refusal-requires c κs = search needs
-
 returns : tie.Need-returns
 unfolding planRecord askRecord
 returns c =
@@ -33,12 +21,6 @@ returns c =
     let why = c .deadline-refusal .ensures ∙ ap deadlineRefusal (told .given .1) in
     let none = sym (c .before .before .before .encode-expiry-at-tick .ensures) ∙ ap expiryOutcome (told .given .1) in
     rw (why, none) (sym (own-refused (told .given .0 .0) _ _ _))
-
-sub-record-fits : tie.Need-sub-record-fits
-sub-record-fits c = search needs
-
-record-fits-requires : tie.Need-record-fits-requires
-record-fits-requires c κs = search needs
 
 -- the room, as the plan asks for it and as the definition does
 asks : (s : tie.Start) → let a = s .args in
@@ -62,12 +44,12 @@ pub plan-record-spec : {M : Type 1} → statement M
 plan-record-spec =
     tie.close
     (tie.spec
-    encode-expiry-at-tick-requires
-    enum-known-deadline
-    enum-told
-    deadline-refusal-requires
+    (λ c κs. search needs)
+    (λ c. search needs)
+    (λ c. search needs)
+    (λ c κs. search needs)
     returns
-    sub-record-fits
-    record-fits-requires
+    (λ c. search needs)
+    (λ c κs. search needs)
     returns-2
     returns-3)

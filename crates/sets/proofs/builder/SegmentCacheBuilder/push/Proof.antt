@@ -33,15 +33,6 @@ placed : (c : tie.After-slot) → let s = from (c .before .before) in let a = s 
 unfolding planPush
 placed c = planned-two _ _ _ _ _ (sym (c .before .before .plan-push .ensures) ∙ ap planned (c .slot .given .1))
 
-plan-push-requires : tie.Need-plan-push-requires
-plan-push-requires c κs = search needs
-
-enum-known-refusal : tie.Need-enum-known-refusal
-enum-known-refusal c = search needs
-
-enum-known-slot : tie.Need-enum-known-slot
-enum-known-slot c = search needs
-
 push-at-requires : tie.Need-push-at-requires
 push-at-requires c κs =
     let b = c .before .before .before .before in
@@ -54,27 +45,12 @@ push-at-requires c κs =
     let at = found-inside _ _ _ _ _ (s .fits .hash .fits) (q .areas .index-holds) (q .place ∙ ap Empty (p .1)) in
     (q .fits, q .areas .arena-short, at, q .announced, omega (arith, n .key-bytes), omega (arith, n .value-bytes))
 
-same-length : tie.Need-same-length
-same-length c = search needs
-
-same-length-2 : tie.Need-same-length-2
-same-length-2 c = search needs
-
 returns : tie.Need-returns
 unfolding afterPush planPush
 returns c =
     let b = c .before .before .before in
     let told = c .before .refusal .given in
     rw (planned-no (asks (from b)) (errorNumber (told .0 .0)) _ (sym (b .plan-push .ensures) ∙ ap planned (told .1))) (sym (decided-refused (told .0 .0) _ _))
-
-same-length-3 : tie.Need-same-length-3
-same-length-3 c = search needs
-
-same-length-4 : tie.Need-same-length-4
-same-length-4 c = search needs
-
-same-length-5 : tie.Need-same-length-5
-same-length-5 c = search needs
 
 returns-2 : tie.Need-returns-2
 unfolding afterPush
@@ -87,14 +63,14 @@ pub push-spec : {M : Type 1} → statement M
 push-spec =
     tie.close
     (tie.spec
-    plan-push-requires
-    enum-known-refusal
-    enum-known-slot
+    (λ c κs. search needs)
+    (λ c. search needs)
+    (λ c. search needs)
     push-at-requires
-    same-length
-    same-length-2
+    (λ c. search needs)
+    (λ c. search needs)
     returns
-    same-length-3
-    same-length-4
-    same-length-5
+    (λ c. search needs)
+    (λ c. search needs)
+    (λ c. search needs)
     returns-2)

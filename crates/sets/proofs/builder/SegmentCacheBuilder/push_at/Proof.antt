@@ -26,33 +26,6 @@ wrote c =
     appended (a .self .config .expiry) (a .key .now) (a .value .now) (a .expires-at) (a .self .filled) (a .arena .now) (from c .pre .0) _ _ (c .append-record .ensures .0)
     (c .append-record .ensures .1)
 
-sub-append-record : tie.Need-sub-append-record
-sub-append-record c = omega arith
-
-part-append-record-start : tie.Need-part-append-record-start
-part-append-record-start c = omega arith
-
-part-append-record-end : tie.Need-part-append-record-end
-part-append-record-end c = search needs
-
-append-record-requires : tie.Need-append-record-requires
-append-record-requires c κs = search needs
-
-hash-tag-requires : tie.Need-hash-tag-requires
-hash-tag-requires c κs = search needs
-
-encode-index-word-requires : tie.Need-encode-index-word-requires
-encode-index-word-requires c κs = search needs
-
-mul-index : tie.Need-mul-index
-mul-index c = search needs
-
-slice-write-index : tie.Need-slice-write-index
-slice-write-index c = search needs
-
-mark-displaced-requires : tie.Need-mark-displaced-requires
-mark-displaced-requires c κs = search needs
-
 grown-requires : tie.Need-grown-requires
 grown-requires c κs =
     let w = c .before .before .before .before .before .before .before .before in
@@ -60,15 +33,6 @@ grown-requires c κs =
     let pre = from w .pre in
     let holds = size-holds (a .self .config .expiry) (length (a .key .now)) (length (a .value .now)) in
     (pre .3, omega (arith, wrote w .0, pre .0, pre .1), pre .4, pre .5, omega (arith, wrote w .0, holds))
-
-same-length : tie.Need-same-length
-same-length c = search needs
-
-same-length-2 : tie.Need-same-length-2
-same-length-2 c = search needs
-
-same-length-3 : tie.Need-same-length-3
-same-length-3 c = search needs
 
 returns : tie.Need-returns
 returns c =
@@ -83,17 +47,17 @@ pub push-at-spec : {M : Type 1} → statement M
 push-at-spec =
     tie.close
     (tie.spec
-    sub-append-record
-    part-append-record-start
-    part-append-record-end
-    append-record-requires
-    hash-tag-requires
-    encode-index-word-requires
-    mul-index
-    slice-write-index
-    mark-displaced-requires
+    (λ c. omega arith)
+    (λ c. omega arith)
+    (λ c. search needs)
+    (λ c κs. search needs)
+    (λ c κs. search needs)
+    (λ c κs. search needs)
+    (λ c. search needs)
+    (λ c. search needs)
+    (λ c κs. search needs)
     grown-requires
-    same-length
-    same-length-2
-    same-length-3
+    (λ c. search needs)
+    (λ c. search needs)
+    (λ c. search needs)
     returns)

@@ -20,20 +20,11 @@ asked : (c : tie.After-enum-told) → let a = from c .args in
     OpenAsked (a .config) (a .entry-count) (length (a .index .now)) (length (a .filter .now)) (length (a .starts .now)) (length (a .lengths .now)) (length (a .arena .now))
 asked c = open-asked _ _ _ _ _ _ _ (sym (c .before .before .check-open .ensures) ∙ ap checkNumber (c .enum-told .given .1))
 
-check-open-requires : tie.Need-check-open-requires
-check-open-requires c κs = search needs
-
-enum-known-refusal : tie.Need-enum-known-refusal
-enum-known-refusal c = search needs
-
 returns : tie.Need-returns
 unfolding afterOpen
 returns c =
     let told = c .before .refusal .given in
     rw (sym (c .before .before .before .check-open .ensures) ∙ ap checkNumber (told .1)) (sym (decided-refused (told .0 .0) _ _))
-
-enum-told : tie.Need-enum-told
-enum-told c = search needs
 
 opened-builder-requires : tie.Need-opened-builder-requires
 opened-builder-requires c κs = counts-records _ _ _ _ (asked c .counts)
@@ -45,18 +36,6 @@ mul-clear-words c =
     let a = s .args in
     let n : o .opened-builder .result .«bucket_count» ≡ bucketsIn (a .config) (a .entry-count) = ap (λ (b : SegmentCacheBuilder). b .«bucket_count») (o .opened-builder .ensures) in
     omega (arith, n, asked (o .before) .index-holds, s .good .1 .1 .0 .1)
-
-clear-words-requires : tie.Need-clear-words-requires
-clear-words-requires c κs = search needs
-
-clear-words-requires-2 : tie.Need-clear-words-requires-2
-clear-words-requires-2 c κs = search needs
-
-same-length : tie.Need-same-length
-same-length c = search needs
-
-same-length-2 : tie.Need-same-length-2
-same-length-2 c = search needs
 
 returns-2 : tie.Need-returns-2
 unfolding afterOpen
@@ -72,14 +51,14 @@ pub try-new-spec : {M : Type 1} → statement M
 try-new-spec =
     tie.close
     (tie.spec
-    check-open-requires
-    enum-known-refusal
+    (λ c κs. search needs)
+    (λ c. search needs)
     returns
-    enum-told
+    (λ c. search needs)
     opened-builder-requires
     mul-clear-words
-    clear-words-requires
-    clear-words-requires-2
-    same-length
-    same-length-2
+    (λ c κs. search needs)
+    (λ c κs. search needs)
+    (λ c. search needs)
+    (λ c. search needs)
     returns-2)

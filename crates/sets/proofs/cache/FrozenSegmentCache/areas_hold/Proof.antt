@@ -22,9 +22,6 @@ yes2 c =
     let long : 8 * a .self .buckets ≤ a .index-len = omega (arith, c .if2 .left) in
     rw (said-yes (b .before .fits2 .ensures) (b .if1 .left), le-leb _ _ long)
 
-fits-requires : tie.Need-fits-requires
-fits-requires c κs = search needs
-
 returns : tie.Need-returns
 unfolding areasHoldSet
 returns c = rw (said-no (c .before .fits2 .ensures) (c .if1 .taken))
@@ -37,14 +34,8 @@ returns-2 c =
     let short : a .index-len < 8 * a .self .buckets = omega (arith, c .if2 .taken) in
     rw (said-yes (b .before .fits2 .ensures) (b .if1 .left), lt-leb _ _ short)
 
-segment-areas-hold-requires : tie.Need-segment-areas-hold-requires
-segment-areas-hold-requires c κs = search needs
-
 returns-3 : tie.Need-returns-3
 returns-3 c = sym (yes2 (c .before .before) ∙ rw (said-no (c .before .segment-areas-hold .ensures) (c .if3 .taken)))
-
-arena-holds-requires : tie.Need-arena-holds-requires
-arena-holds-requires c κs = search needs
 
 returns-4 : tie.Need-returns-4
 returns-4 c =
@@ -55,10 +46,10 @@ pub areas-hold-spec : {M : Type 1} → statement M
 areas-hold-spec =
     tie.close
     (tie.spec
-    fits-requires
+    (λ c κs. search needs)
     returns
     returns-2
-    segment-areas-hold-requires
+    (λ c κs. search needs)
     returns-3
-    arena-holds-requires
+    (λ c κs. search needs)
     returns-4)

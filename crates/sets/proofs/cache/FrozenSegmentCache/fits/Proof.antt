@@ -34,9 +34,6 @@ yes4 : (c : tie.Else4) → let s = self (c .before .before) in
     setFits s ≡ all (bytesFit (s .entries) (s .«logical_value_bytes») ∷ bytesFit (s .entries) (s .«record_header_bytes») ∷ [])
 yes4 c = yes3 (c .before .before) ∙ rw (said-yes (c .before .bytes-fit .ensures) (c .if4 .left))
 
-counts-fit-requires : tie.Need-counts-fit-requires
-counts-fit-requires c κs = search needs
-
 returns : tie.Need-returns
 unfolding setFits
 returns c = rw (said-no (c .before .counts-fit .ensures) (c .if1 .taken))
@@ -78,7 +75,7 @@ pub fits-spec : {M : Type 1} → statement M
 fits-spec =
     tie.close
     (tie.spec
-    counts-fit-requires
+    (λ c κs. search needs)
     returns
     returns-2
     returns-3

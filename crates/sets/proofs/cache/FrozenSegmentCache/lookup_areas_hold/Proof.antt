@@ -5,9 +5,6 @@ use borrow.Author.Needs.{needs}
 use Rattle.sets.proofs.cache.FrozenSegmentCache.lookup_areas_hold.Statement.{statement}
 use Rattle.sets.proofs.cache.FrozenSegmentCache.lookup_areas_hold.Tie as tie
 
-areas-hold-requires : tie.Need-areas-hold-requires
-areas-hold-requires c κs = search needs
-
 returns : tie.Need-returns
 unfolding areasHoldLookup
 returns c = rw (said-no (c .before .areas-hold .ensures) (c .if1 .taken))
@@ -17,4 +14,4 @@ unfolding areasHoldLookup
 returns-2 c = rw (said-yes (c .before .before .areas-hold .ensures) (c .before .if1 .left))
 
 pub lookup-areas-hold-spec : {M : Type 1} → statement M
-lookup-areas-hold-spec = tie.close (tie.spec areas-hold-requires returns returns-2)
+lookup-areas-hold-spec = tie.close (tie.spec (λ c κs. search needs) returns returns-2)

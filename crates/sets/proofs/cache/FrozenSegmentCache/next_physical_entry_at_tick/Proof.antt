@@ -23,33 +23,18 @@ walked : (c : tie.After-next-entry) → let a = from (c .before .before) .args i
     ≡ c .next-entry .result
 walked c = sym (c .next-entry .ensures ∙ rw (c .before .view .ensures))
 
-areas-hold-requires : tie.Need-areas-hold-requires
-areas-hold-requires c κs = search needs
-
 returns : tie.Need-returns
 unfolding walkAnswer askWalk
 returns c = (rw (said-no (c .before .areas-hold .ensures) (c .if1 .taken)), refl)
 
-view-requires : tie.Need-view-requires
-view-requires c κs = search needs
-
 next-entry-requires : tie.Need-next-entry-requires
 next-entry-requires c κs = set-index _ _ _ _ _ (held (c .before))
-
-enum-known-next : tie.Need-enum-known-next
-enum-known-next c = search needs
-
-enum-told : tie.Need-enum-told
-enum-told c = search needs
 
 returns-2 : tie.Need-returns-2
 unfolding walkAnswer askWalk
 returns-2 c =
     let n = c .before .before in
     (rw (held (n .before .before), walked n ∙ c .enum-told .given .1), refl)
-
-base-record-requires : tie.Need-base-record-requires
-base-record-requires c κs = search needs
 
 returns-3 : tie.Need-returns-3
 unfolding walkAnswer askWalk
@@ -62,12 +47,12 @@ pub next-physical-entry-at-tick-spec : {M : Type 1} → statement M
 next-physical-entry-at-tick-spec =
     tie.close
     (tie.spec
-    areas-hold-requires
+    (λ c κs. search needs)
     returns
-    view-requires
+    (λ c κs. search needs)
     next-entry-requires
-    enum-known-next
-    enum-told
+    (λ c. search needs)
+    (λ c. search needs)
     returns-2
-    base-record-requires
+    (λ c κs. search needs)
     returns-3)

@@ -6,30 +6,15 @@ use borrow.Author.Needs.{needs}
 use Rattle.sets.proofs.cache.FrozenSegmentCache.probe_hashed_at_tick.Statement.{statement}
 use Rattle.sets.proofs.cache.FrozenSegmentCache.probe_hashed_at_tick.Tie as tie
 
-lookup-areas-hold-requires : tie.Need-lookup-areas-hold-requires
-lookup-areas-hold-requires c κs = search needs
-
 returns : tie.Need-returns
 unfolding probeAnswer askLookup
 returns c = (rw (said-no (c .before .lookup-areas-hold .ensures) (c .if1 .taken)), refl)
-
-find-requires : tie.Need-find-requires
-find-requires c κs = search needs
-
-enum-known-answer : tie.Need-enum-known-answer
-enum-known-answer c = search needs
-
-enum-told : tie.Need-enum-told
-enum-told c = search needs
 
 returns-2 : tie.Need-returns-2
 unfolding probeAnswer askLookup
 returns-2 c =
     let f = c .before .before in
     (rw (said-yes (f .before .before .lookup-areas-hold .ensures) (f .before .if1 .left), sym (f .find .ensures) ∙ c .enum-told .given .1), refl)
-
-base-record-requires : tie.Need-base-record-requires
-base-record-requires c κs = search needs
 
 returns-3 : tie.Need-returns-3
 unfolding probeAnswer askLookup
@@ -42,11 +27,11 @@ pub probe-hashed-at-tick-spec : {M : Type 1} → statement M
 probe-hashed-at-tick-spec =
     tie.close
     (tie.spec
-    lookup-areas-hold-requires
+    (λ c κs. search needs)
     returns
-    find-requires
-    enum-known-answer
-    enum-told
+    (λ c κs. search needs)
+    (λ c. search needs)
+    (λ c. search needs)
     returns-2
-    base-record-requires
+    (λ c κs. search needs)
     returns-3)

@@ -20,9 +20,6 @@ few c =
     let bits : b .config .«negative_filter_bits_per_entry» < 256 = omega (arith, c .struct-known .given) in
     (few-buckets _ _ _ _ counts, few-words _ _ _ _ counts bits)
 
-fits-requires : tie.Need-fits-requires
-fits-requires c κs = search needs
-
 returns : tie.Need-returns
 unfolding statsAnswer askStats
 returns c = rw (said-no (c .before .fits2 .ensures) (c .if1 .taken))
@@ -46,4 +43,4 @@ returns-2 c =
     rw (said-yes (b .before .fits2 .ensures) (b .if1 .left)) (ap (λ (n : SegmentCacheStats). accept n) (stats-made (b .before .before .args .self)))
 
 pub stats-spec : {M : Type 1} → statement M
-stats-spec = tie.close (tie.spec fits-requires returns mul-t5 mul-t6 mul-t7 add-t8 returns-2)
+stats-spec = tie.close (tie.spec (λ c κs. search needs) returns mul-t5 mul-t6 mul-t7 add-t8 returns-2)

@@ -9,24 +9,9 @@ use borrow.Author.Needs.{needs}
 use Rattle.sets.proofs.cache.FrozenSegmentCache.take_accessed.Statement.{statement}
 use Rattle.sets.proofs.cache.FrozenSegmentCache.take_accessed.Tie as tie
 
-lookup-areas-hold-requires : tie.Need-lookup-areas-hold-requires
-lookup-areas-hold-requires c κs = search needs
-
 returns : tie.Need-returns
 unfolding afterTake askLookup
 returns c = rw (said-no (c .before .lookup-areas-hold .ensures) (c .if1 .taken))
-
-find-requires : tie.Need-find-requires
-find-requires c κs = search needs
-
-enum-known-answer : tie.Need-enum-known-answer
-enum-known-answer c = search needs
-
-enum-told : tie.Need-enum-told
-enum-told c = search needs
-
-same-length : tie.Need-same-length
-same-length c = search needs
 
 returns-2 : tie.Need-returns-2
 unfolding afterTake askLookup
@@ -43,9 +28,6 @@ clear-accessed-requires c κs =
     let fits = b .before .before .before .before .before .before .before .before .fits in
     lookup-slot _ _ _ _ _ _ _ _ _ (fits .hash .fits) (said-yes (b .before .lookup-areas-hold .ensures) (b .if1 .left)) (sym (f .find .ensures) ∙ y .answer .given .1)
 
-same-length-2 : tie.Need-same-length-2
-same-length-2 c = search needs
-
 returns-3 : tie.Need-returns-3
 unfolding afterTake askLookup
 returns-3 c =
@@ -60,13 +42,13 @@ pub take-accessed-spec : {M : Type 1} → statement M
 take-accessed-spec =
     tie.close
     (tie.spec
-    lookup-areas-hold-requires
+    (λ c κs. search needs)
     returns
-    find-requires
-    enum-known-answer
-    enum-told
-    same-length
+    (λ c κs. search needs)
+    (λ c. search needs)
+    (λ c. search needs)
+    (λ c. search needs)
     returns-2
     clear-accessed-requires
-    same-length-2
+    (λ c. search needs)
     returns-3)

@@ -13,18 +13,6 @@ made : (flags : List ℕ) (w0 w1 w2 w3 : ℕ) → w0 ≡ flagWord (part 0 64 fla
     → w3 ≡ flagWord (part 192 64 flags) → _≡_ {A = KeptSegments} (record { w0 = w0; w1 = w1; w2 = w2; w3 = w3 }) (keptOf flags)
 made flags w0 w1 w2 w3 e0 e1 e2 e3 = rw (e0, e1, e2, e3)
 
-flag-word-requires : tie.Need-flag-word-requires
-flag-word-requires c κs = search needs
-
-flag-word-requires-2 : tie.Need-flag-word-requires-2
-flag-word-requires-2 c κs = search needs
-
-flag-word-requires-3 : tie.Need-flag-word-requires-3
-flag-word-requires-3 c κs = search needs
-
-flag-word-requires-4 : tie.Need-flag-word-requires-4
-flag-word-requires-4 c κs = search needs
-
 returns : tie.Need-returns
 returns c =
     let x = c .before in
@@ -45,8 +33,8 @@ pub from-flags-spec : {M : Type 1} → statement M
 from-flags-spec =
     tie.close
     (tie.spec
-    flag-word-requires
-    flag-word-requires-2
-    flag-word-requires-3
-    flag-word-requires-4
+    (λ c κs. search needs)
+    (λ c κs. search needs)
+    (λ c κs. search needs)
+    (λ c κs. search needs)
     returns)

@@ -5,32 +5,20 @@ use Rattle.sets.proofs.KeptWords.{kept-first, kept-second, kept-third, 
 use Rattle.sets.proofs.kept.KeptSegments.is_kept.Statement.{statement}
 use Rattle.sets.proofs.kept.KeptSegments.is_kept.Tie as tie
 
-bit-set-requires : tie.Need-bit-set-requires
-bit-set-requires c κs = search needs
-
 returns : tie.Need-returns
 returns c =
     let a = c .before .before .args in
     c .bit-set .ensures ∙ kept-first (a .self) (a .segment) (c .before .if1 .taken)
-
-bit-set-requires-2 : tie.Need-bit-set-requires-2
-bit-set-requires-2 c κs = search needs
 
 returns-2 : tie.Need-returns-2
 returns-2 c =
     let a = c .before .before .before .args in
     c .bit-set2 .ensures ∙ kept-second (a .self) (a .segment) (c .before .before .if1 .left) (c .before .if2 .taken)
 
-bit-set-requires-3 : tie.Need-bit-set-requires-3
-bit-set-requires-3 c κs = search needs
-
 returns-3 : tie.Need-returns-3
 returns-3 c =
     let a = c .before .before .before .before .args in
     c .bit-set3 .ensures ∙ kept-third (a .self) (a .segment) (c .before .before .if2 .left) (c .before .if3 .taken)
-
-bit-set-requires-4 : tie.Need-bit-set-requires-4
-bit-set-requires-4 c κs = search needs
 
 returns-4 : tie.Need-returns-4
 returns-4 c =
@@ -46,12 +34,12 @@ pub is-kept-spec : {M : Type 1} → statement M
 is-kept-spec =
     tie.close
     (tie.spec
-    bit-set-requires
+    (λ c κs. search needs)
     returns
-    bit-set-requires-2
+    (λ c κs. search needs)
     returns-2
-    bit-set-requires-3
+    (λ c κs. search needs)
     returns-3
-    bit-set-requires-4
+    (λ c κs. search needs)
     returns-4
     returns-5)

@@ -7,40 +7,16 @@ use Rattle.sets.proofs.KeptWords.{number-first, number-second, number-t
 use Rattle.sets.proofs.kept.KeptSegments.new_number.Statement.{statement}
 use Rattle.sets.proofs.kept.KeptSegments.new_number.Tie as tie
 
-set-bits-requires : tie.Need-set-bits-requires
-set-bits-requires c κs = search needs
-
 returns : tie.Need-returns
 returns c =
     let a = c .before .before .args in
     c .set-bits .ensures .0 ∙ number-first (a .self) (a .segment) (omega arith)
-
-set-bits-requires-2 : tie.Need-set-bits-requires-2
-set-bits-requires-2 c κs = search needs
-
-set-bits-requires-3 : tie.Need-set-bits-requires-3
-set-bits-requires-3 c κs = search needs
-
-add-result : tie.Need-add-result
-add-result c = search needs
 
 returns-2 : tie.Need-returns-2
 returns-2 c =
     let w = c .before .before in
     let a = w .before .before .args in
     ap₂ (λ (x y : ℕ). x + y) (w .set-bits2 .ensures .0) (c .set-bits3 .ensures .0) ∙ number-second (a .self) (a .segment) (w .before .if1 .left) (omega arith)
-
-set-bits-requires-4 : tie.Need-set-bits-requires-4
-set-bits-requires-4 c κs = search needs
-
-add-second : tie.Need-add-second
-add-second c = search needs
-
-set-bits-requires-5 : tie.Need-set-bits-requires-5
-set-bits-requires-5 c κs = search needs
-
-add-result-2 : tie.Need-add-result-2
-add-result-2 c = search needs
 
 returns-3 : tie.Need-returns-3
 returns-3 c =
@@ -49,18 +25,6 @@ returns-3 c =
     let a = w .before .before .args in
     let two = ap₂ (λ (x y : ℕ). x + y) (w .set-bits2 .ensures .0) (v .set-bits4 .ensures .0) in
     ap₂ (λ (x y : ℕ). x + y) two (c .set-bits5 .ensures .0) ∙ number-third (a .self) (a .segment) (v .before .if2 .left) (omega arith)
-
-set-bits-requires-6 : tie.Need-set-bits-requires-6
-set-bits-requires-6 c κs = search needs
-
-add-result-3 : tie.Need-add-result-3
-add-result-3 c = search needs
-
-set-bits-requires-7 : tie.Need-set-bits-requires-7
-set-bits-requires-7 c κs = search needs
-
-add-result-4 : tie.Need-add-result-4
-add-result-4 c = search needs
 
 returns-4 : tie.Need-returns-4
 returns-4 c =
@@ -77,19 +41,19 @@ pub new-number-spec : {M : Type 1} → statement M
 new-number-spec =
     tie.close
     (tie.spec
-    set-bits-requires
+    (λ c κs. search needs)
     returns
-    set-bits-requires-2
-    set-bits-requires-3
-    add-result
+    (λ c κs. search needs)
+    (λ c κs. search needs)
+    (λ c. search needs)
     returns-2
-    set-bits-requires-4
-    add-second
-    set-bits-requires-5
-    add-result-2
+    (λ c κs. search needs)
+    (λ c. search needs)
+    (λ c κs. search needs)
+    (λ c. search needs)
     returns-3
-    set-bits-requires-6
-    add-result-3
-    set-bits-requires-7
-    add-result-4
+    (λ c κs. search needs)
+    (λ c. search needs)
+    (λ c κs. search needs)
+    (λ c. search needs)
     returns-4)

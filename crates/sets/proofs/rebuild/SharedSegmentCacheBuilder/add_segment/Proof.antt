@@ -13,29 +13,11 @@ few c =
     let b = c .before .before in
     omega (arith, adds-below _ (sym (b .before .adds-segment .ensures) ∙ b .if1 .taken) (b .before .before .before .before .pre .2), c .retained .ensures)
 
-adds-segment-requires : tie.Need-adds-segment-requires
-adds-segment-requires c κs = search needs
-
-retained-requires : tie.Need-retained-requires
-retained-requires c κs = search needs
-
-mul-starts : tie.Need-mul-starts
-mul-starts c = search needs
-
 slice-write-starts : tie.Need-slice-write-starts
 slice-write-starts c = omega (arith, few c)
 
-mul-lengths : tie.Need-mul-lengths
-mul-lengths c = search needs
-
 slice-write-lengths : tie.Need-slice-write-lengths
 slice-write-lengths c = omega (arith, few c)
-
-same-length : tie.Need-same-length
-same-length c = search needs
-
-same-length-2 : tie.Need-same-length-2
-same-length-2 c = search needs
 
 returns : tie.Need-returns
 returns c =
@@ -49,13 +31,13 @@ pub add-segment-spec : {M : Type 1} → statement M
 add-segment-spec =
     tie.close
     (tie.spec
-    adds-segment-requires
-    retained-requires
-    mul-starts
+    (λ c κs. search needs)
+    (λ c κs. search needs)
+    (λ c. search needs)
     slice-write-starts
-    mul-lengths
+    (λ c. search needs)
     slice-write-lengths
-    same-length
-    same-length-2
+    (λ c. search needs)
+    (λ c. search needs)
     returns
     returns-2)

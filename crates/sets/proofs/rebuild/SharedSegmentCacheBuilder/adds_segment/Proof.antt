@@ -9,9 +9,6 @@ returns : tie.Need-returns
 unfolding addsSegment
 returns c = rw (ne-eqb _ _ (c .if1 .taken))
 
-retained-requires : tie.Need-retained-requires
-retained-requires c κs = search needs
-
 returns-2 : tie.Need-returns-2
 unfolding addsSegment
 returns-2 c =
@@ -19,4 +16,4 @@ returns-2 c =
     rw (eq-eqb _ _ (if1 .left), c .retained .ensures)
 
 pub adds-segment-spec : {M : Type 1} → statement M
-adds-segment-spec = tie.close (tie.spec returns retained-requires returns-2)
+adds-segment-spec = tie.close (tie.spec returns (λ c κs. search needs) returns-2)

@@ -37,9 +37,6 @@ yes2 c =
     let long : 8 * a .self .«bucket_count» ≤ a .index-len = omega (arith, c .if2 .left) in
     rw (said-yes (b .before .fits2 .ensures) (b .if1 .left), le-leb _ _ long)
 
-fits-requires : tie.Need-fits-requires
-fits-requires c κs = search needs
-
 returns : tie.Need-returns
 unfolding areasHoldRebuild
 returns c = rw (said-no (c .before .fits2 .ensures) (c .if1 .taken))
@@ -52,22 +49,13 @@ returns-2 c =
     let short : a .index-len < 8 * a .self .«bucket_count» = omega (arith, c .if2 .taken) in
     rw (said-yes (b .before .fits2 .ensures) (b .if1 .left), lt-leb _ _ short)
 
-segment-areas-hold-requires : tie.Need-segment-areas-hold-requires
-segment-areas-hold-requires c κs = search needs
-
 returns-3 : tie.Need-returns-3
 returns-3 c = sym (yes2 (c .before .before) ∙ rw (said-no (c .before .segment-areas-hold .ensures) (c .if3 .taken)))
-
-arena-holds-both-requires : tie.Need-arena-holds-both-requires
-arena-holds-both-requires c κs = search needs
 
 returns-4 : tie.Need-returns-4
 returns-4 c =
     let b = c .before .before in
     sym (yes2 (b .before .before) ∙ rw (segments b, said-no (c .before .arena-holds-both .ensures) (c .if4 .taken)))
-
-retained-requires : tie.Need-retained-requires
-retained-requires c κs = search needs
 
 add-segments-inside : tie.Need-add-segments-inside
 add-segments-inside c =
@@ -93,14 +81,14 @@ pub areas-hold-spec : {M : Type 1} → statement M
 areas-hold-spec =
     tie.close
     (tie.spec
-    fits-requires
+    (λ c κs. search needs)
     returns
     returns-2
-    segment-areas-hold-requires
+    (λ c κs. search needs)
     returns-3
-    arena-holds-both-requires
+    (λ c κs. search needs)
     returns-4
-    retained-requires
+    (λ c κs. search needs)
     add-segments-inside
     segments-inside-requires
     returns-5)

@@ -21,9 +21,6 @@ yes2 : (c : tie.Else2) → Yes 2 (c .before .before .before .before .before .bef
 unfolding askRebuildFinish
 yes2 c = yes1 (c .before .before) ∙ rw (eq-eqb _ _ (c .if2 .left))
 
-areas-hold-requires : tie.Need-areas-hold-requires
-areas-hold-requires c κs = search needs
-
 returns : tie.Need-returns
 unfolding askRebuildFinish
 returns c = rw (said-no (c .before .areas-hold .ensures) (c .if1 .taken))
@@ -31,9 +28,6 @@ returns c = rw (said-no (c .before .areas-hold .ensures) (c .if1 .taken))
 returns-2 : tie.Need-returns-2
 unfolding askRebuildFinish
 returns-2 c = sym (yes1 (c .before .before) ∙ rw (ne-eqb _ _ (c .if2 .taken)))
-
-scratch-holds-requires : tie.Need-scratch-holds-requires
-scratch-holds-requires c κs = search needs
 
 returns-3 : tie.Need-returns-3
 unfolding askRebuildFinish
@@ -46,4 +40,4 @@ returns-4 c = sym (yes2 (c .before .before) ∙ rw (said-yes (c .before .scratch
 pub check-finish-spec : {M : Type 1} → statement M
 check-finish-spec =
     tie.close
-    (tie.spec areas-hold-requires returns returns-2 scratch-holds-requires returns-3 returns-4)
+    (tie.spec (λ c κs. search needs) returns returns-2 (λ c κs. search needs) returns-3 returns-4)

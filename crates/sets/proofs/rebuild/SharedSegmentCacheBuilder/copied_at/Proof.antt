@@ -27,33 +27,6 @@ wrote c =
     appended (a .self .config .expiry) (a .key .now) (a .value .now) (a .expires-at) (rebuildFilled (a .self)) (a .arena .now) (from c .pre .0) _ _ (c .append-record .ensures .0)
     (c .append-record .ensures .1)
 
-add-filled : tie.Need-add-filled
-add-filled c = search needs
-
-sub-append-record : tie.Need-sub-append-record
-sub-append-record c = search needs
-
-part-append-record-start : tie.Need-part-append-record-start
-part-append-record-start c = search needs
-
-part-append-record-end : tie.Need-part-append-record-end
-part-append-record-end c = search needs
-
-append-record-requires : tie.Need-append-record-requires
-append-record-requires c κs = search needs
-
-retained-requires : tie.Need-retained-requires
-retained-requires c κs = search needs
-
-mul-location : tie.Need-mul-location
-mul-location c = search needs
-
-add-location : tie.Need-add-location
-add-location c = search needs
-
-push-index-requires : tie.Need-push-index-requires
-push-index-requires c κs = search needs
-
 copied-grown-requires : tie.Need-copied-grown-requires
 copied-grown-requires c κs =
     let w = c .before .before .before .before .before .before .before .before .before .before .before .before in
@@ -61,15 +34,6 @@ copied-grown-requires c κs =
     let pre = from w .pre in
     let holds = size-holds (a .self .config .expiry) (length (a .key .now)) (length (a .value .now)) in
     (pre .4, omega (arith, wrote w .0, pre .0, pre .1), omega (arith, wrote w .0, holds), pre .5, pre .6, pre .7)
-
-same-length : tie.Need-same-length
-same-length c = search needs
-
-same-length-2 : tie.Need-same-length-2
-same-length-2 c = search needs
-
-same-length-3 : tie.Need-same-length-3
-same-length-3 c = search needs
 
 returns : tie.Need-returns
 returns c =
@@ -87,17 +51,17 @@ pub copied-at-spec : {M : Type 1} → statement M
 copied-at-spec =
     tie.close
     (tie.spec
-    add-filled
-    sub-append-record
-    part-append-record-start
-    part-append-record-end
-    append-record-requires
-    retained-requires
-    mul-location
-    add-location
-    push-index-requires
+    (λ c. search needs)
+    (λ c. search needs)
+    (λ c. search needs)
+    (λ c. search needs)
+    (λ c κs. search needs)
+    (λ c κs. search needs)
+    (λ c. search needs)
+    (λ c. search needs)
+    (λ c κs. search needs)
     copied-grown-requires
-    same-length
-    same-length-2
-    same-length-3
+    (λ c. search needs)
+    (λ c. search needs)
+    (λ c. search needs)
     returns)

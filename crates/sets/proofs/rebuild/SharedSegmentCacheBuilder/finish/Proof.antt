@@ -22,26 +22,11 @@ asked : (c : tie.After-enum-told) → let a = from c .args in
     RefinishAsked (a .self) (length (a .index .now)) (a .starts .now) (a .lengths .now) (length (a .scratch .now)) (length (a .arena .now))
 asked c = refinish-asked _ _ _ _ _ _ (sym (c .before .before .check-finish .ensures) ∙ ap checkNumber (c .enum-told .given .1))
 
-check-finish-requires : tie.Need-check-finish-requires
-check-finish-requires c κs = search needs
-
-enum-known-refusal : tie.Need-enum-known-refusal
-enum-known-refusal c = search needs
-
-same-length : tie.Need-same-length
-same-length c = search needs
-
-same-length-2 : tie.Need-same-length-2
-same-length-2 c = search needs
-
 returns : tie.Need-returns
 unfolding afterRebuildFinish
 returns c =
     let told = c .before .refusal .given in
     rw (sym (c .before .before .before .check-finish .ensures) ∙ ap checkNumber (told .1)) (sym (decided-refused (told .0 .0) _ _))
-
-enum-told : tie.Need-enum-told
-enum-told c = search needs
 
 into-build-requires : tie.Need-into-build-requires
 into-build-requires c κs =
@@ -57,21 +42,6 @@ add-segment-requires c κs =
     let b = c .before .before .before .before in
     let q = asked b .areas in
     (q .starts-hold, q .lengths-hold, adds-few _ (q .numbers .few))
-
-pack-index-requires : tie.Need-pack-index-requires
-pack-index-requires c κs = search needs
-
-same-length-3 : tie.Need-same-length-3
-same-length-3 c = search needs
-
-same-length-4 : tie.Need-same-length-4
-same-length-4 c = search needs
-
-same-length-5 : tie.Need-same-length-5
-same-length-5 c = search needs
-
-same-length-6 : tie.Need-same-length-6
-same-length-6 c = search needs
 
 returns-2 : tie.Need-returns-2
 unfolding afterRebuildFinish
@@ -89,17 +59,17 @@ pub finish-spec : {M : Type 1} → statement M
 finish-spec =
     tie.close
     (tie.spec
-    check-finish-requires
-    enum-known-refusal
-    same-length
-    same-length-2
+    (λ c κs. search needs)
+    (λ c. search needs)
+    (λ c. search needs)
+    (λ c. search needs)
     returns
-    enum-told
+    (λ c. search needs)
     into-build-requires
     add-segment-requires
-    pack-index-requires
-    same-length-3
-    same-length-4
-    same-length-5
-    same-length-6
+    (λ c κs. search needs)
+    (λ c. search needs)
+    (λ c. search needs)
+    (λ c. search needs)
+    (λ c. search needs)
     returns-2)

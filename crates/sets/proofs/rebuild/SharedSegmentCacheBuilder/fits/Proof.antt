@@ -48,9 +48,6 @@ yes4 : (c : tie.Else4) → let r = self (c .before .before) in
     rebuildFits r ≡ all (bytesFit (r .«inserted_entries») (r .«logical_value_bytes») ∷ bytesFit (r .«inserted_entries») (r .«record_header_bytes») ∷ [])
 yes4 c = yes3 (c .before .before) ∙ rw (said-yes (c .before .bytes-fit .ensures) (c .if4 .left))
 
-counts-fit-requires : tie.Need-counts-fit-requires
-counts-fit-requires c κs = search needs
-
 returns : tie.Need-returns
 unfolding rebuildFits
 returns c = rw (said-no (c .before .counts-fit .ensures) (c .if1 .taken))
@@ -60,12 +57,6 @@ unfolding rebuildFits
 returns-2 c =
     let b = c .before .before in
     rw (said-yes (b .before .counts-fit .ensures) (b .if1 .left), lt-leb _ _ (c .if2 .taken))
-
-retained-requires : tie.Need-retained-requires
-retained-requires c κs = search needs
-
-segment-for-requires : tie.Need-segment-for-requires
-segment-for-requires c κs = search needs
 
 add-if3 : tie.Need-add-if3
 add-if3 c =
@@ -103,11 +94,11 @@ pub fits-spec : {M : Type 1} → statement M
 fits-spec =
     tie.close
     (tie.spec
-    counts-fit-requires
+    (λ c κs. search needs)
     returns
     returns-2
-    retained-requires
-    segment-for-requires
+    (λ c κs. search needs)
+    (λ c κs. search needs)
     add-if3
     returns-3
     bytes-fit-requires

@@ -25,21 +25,9 @@ add-stored c =
 view-requires : tie.Need-view-requires
 view-requires c κs = c .before .before .before .before .before .before .pre .1
 
-record-at-location-requires : tie.Need-record-at-location-requires
-record-at-location-requires c κs = search needs
-
-enum-known-read : tie.Need-enum-known-read
-enum-known-read c = search needs
-
-enum-told : tie.Need-enum-told
-enum-told c = search needs
-
 returns : tie.Need-returns
 unfolding holdsRecord
 returns c = rw (shown (c .before .before) ∙ c .enum-told .given .1)
-
-same-record-requires : tie.Need-same-record-requires
-same-record-requires c κs = search needs
 
 returns-2 : tie.Need-returns-2
 unfolding holdsRecord
@@ -54,9 +42,9 @@ holds-record-spec =
     moved-location-requires
     add-stored
     view-requires
-    record-at-location-requires
-    enum-known-read
-    enum-told
+    (λ c κs. search needs)
+    (λ c. search needs)
+    (λ c. search needs)
     returns
-    same-record-requires
+    (λ c κs. search needs)
     returns-2)

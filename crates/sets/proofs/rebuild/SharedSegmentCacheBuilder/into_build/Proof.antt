@@ -23,9 +23,6 @@ mul-index-bytes-2 c = omega (arith, few (c .before) .1)
 add-index-bytes : tie.Need-add-index-bytes
 add-index-bytes c = omega (arith, few (c .before))
 
-into-cache-requires : tie.Need-into-cache-requires
-into-cache-requires c κs = search needs
-
 add-t4 : tie.Need-add-t4
 add-t4 c =
     let b = c .before .before .before in
@@ -40,4 +37,4 @@ returns c =
 pub into-build-spec : {M : Type 1} → statement M
 into-build-spec =
     tie.close
-    (tie.spec mul-index-bytes mul-index-bytes-2 add-index-bytes into-cache-requires add-t4 returns)
+    (tie.spec mul-index-bytes mul-index-bytes-2 add-index-bytes (λ c κs. search needs) add-t4 returns)

@@ -7,15 +7,6 @@ use borrow.Author.Needs.{needs}
 use Rattle.sets.proofs.rebuild.SharedSegmentCacheBuilder.into_cache.Statement.{statement}
 use Rattle.sets.proofs.rebuild.SharedSegmentCacheBuilder.into_cache.Tie as tie
 
-segment-count-requires : tie.Need-segment-count-requires
-segment-count-requires c κs = search needs
-
-add-t6 : tie.Need-add-t6
-add-t6 c = search needs
-
-retained-requires : tie.Need-retained-requires
-retained-requires c κs = search needs
-
 sum-of-requires : tie.Need-sum-of-requires
 sum-of-requires c κs = rw (c .retained .ensures) (c .before .before .before .before .before .before .pre .0, omega (arith, c .before .before .before .before .before .before .pre .1))
 
@@ -34,4 +25,4 @@ returns c =
 pub into-cache-spec : {M : Type 1} → statement M
 into-cache-spec =
     tie.close
-    (tie.spec segment-count-requires add-t6 retained-requires sum-of-requires add-t9 returns)
+    (tie.spec (λ c κs. search needs) (λ c. search needs) (λ c κs. search needs) sum-of-requires add-t9 returns)

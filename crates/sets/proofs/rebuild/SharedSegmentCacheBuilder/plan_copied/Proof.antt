@@ -49,9 +49,6 @@ yes4 : (c : tie.Else4) → Yes 4 (from (first c))
 unfolding askCopied
 yes4 c = yes3 (c .before .before) ∙ rw (lt-ltb _ _ (c .if4 .left))
 
-areas-hold-requires : tie.Need-areas-hold-requires
-areas-hold-requires c κs = search needs
-
 returns : tie.Need-returns
 unfolding planCopied askCopied planRoom askRoom
 returns c = rw (said-no (c .before .areas-hold .ensures) (c .if1 .taken))
@@ -60,9 +57,6 @@ returns-2 : tie.Need-returns-2
 unfolding planCopied askCopied planRoom askRoom
 returns-2 c = sym (yes1 (c .before .before) ∙ rw (lt-leb _ _ (c .if2 .taken)))
 
-lifetime-fits-requires : tie.Need-lifetime-fits-requires
-lifetime-fits-requires c κs = search needs
-
 returns-3 : tie.Need-returns-3
 unfolding planCopied askCopied planRoom askRoom
 returns-3 c = sym (yes2 (c .before .before) ∙ rw (said-no (c .before .lifetime-fits .ensures) (c .if3 .taken)))
@@ -70,18 +64,6 @@ returns-3 c = sym (yes2 (c .before .before) ∙ rw (said-no (c .before .lifetime
 returns-4 : tie.Need-returns-4
 unfolding planCopied askCopied planRoom askRoom
 returns-4 c = sym (yes3 (c .before .before) ∙ rw (le-ltb _ _ (c .if4 .taken)))
-
-encode-expiry-at-tick-requires : tie.Need-encode-expiry-at-tick-requires
-encode-expiry-at-tick-requires c κs = search needs
-
-enum-known-deadline : tie.Need-enum-known-deadline
-enum-known-deadline c = search needs
-
-enum-told : tie.Need-enum-told
-enum-told c = search needs
-
-deadline-refusal-requires : tie.Need-deadline-refusal-requires
-deadline-refusal-requires c κs = search needs
 
 returns-5 : tie.Need-returns-5
 unfolding planCopied askCopied planRoom askRoom
@@ -106,16 +88,16 @@ pub plan-copied-spec : {M : Type 1} → statement M
 plan-copied-spec =
     tie.close
     (tie.spec
-    areas-hold-requires
+    (λ c κs. search needs)
     returns
     returns-2
-    lifetime-fits-requires
+    (λ c κs. search needs)
     returns-3
     returns-4
-    encode-expiry-at-tick-requires
-    enum-known-deadline
-    enum-told
-    deadline-refusal-requires
+    (λ c κs. search needs)
+    (λ c. search needs)
+    (λ c. search needs)
+    (λ c κs. search needs)
     returns-5
     plan-room-requires
     returns-6)

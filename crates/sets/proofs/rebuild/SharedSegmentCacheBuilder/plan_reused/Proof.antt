@@ -52,9 +52,6 @@ yes5 : (c : tie.Else5) → Yes 5 (from (first (c .before .before)))
 unfolding askReused
 yes5 c = yes4 (c .before .before) ∙ rw (said-yes (c .before .holds-record .ensures) (c .if5 .left))
 
-areas-hold-requires : tie.Need-areas-hold-requires
-areas-hold-requires c κs = search needs
-
 returns : tie.Need-returns
 unfolding planReused askReused
 returns c = rw (said-no (c .before .areas-hold .ensures) (c .if1 .taken))
@@ -66,9 +63,6 @@ returns-2 c = sym (yes1 (c .before .before) ∙ rw (lt-leb _ _ (c .if2 .taken)))
 returns-3 : tie.Need-returns-3
 unfolding planReused askReused
 returns-3 c = sym (yes2 (c .before .before) ∙ rw (le-ltb _ _ (c .if3 .taken)))
-
-is-kept-requires : tie.Need-is-kept-requires
-is-kept-requires c κs = search needs
 
 returns-4 : tie.Need-returns-4
 unfolding planReused askReused
@@ -82,18 +76,6 @@ holds-record-requires c κs =
 returns-5 : tie.Need-returns-5
 unfolding planReused askReused
 returns-5 c = sym (yes4 (c .before .before) ∙ rw (said-no (c .before .holds-record .ensures) (c .if5 .taken)))
-
-find-empty-build-slot-requires : tie.Need-find-empty-build-slot-requires
-find-empty-build-slot-requires c κs = search needs
-
-enum-told : tie.Need-enum-told
-enum-told c = search needs
-
-enum-told-2 : tie.Need-enum-told-2
-enum-told-2 c = search needs
-
-enum-known-slot : tie.Need-enum-known-slot
-enum-known-slot c = search needs
 
 returns-6 : tie.Need-returns-6
 unfolding planReused askReused
@@ -117,18 +99,18 @@ pub plan-reused-spec : {M : Type 1} → statement M
 plan-reused-spec =
     tie.close
     (tie.spec
-    areas-hold-requires
+    (λ c κs. search needs)
     returns
     returns-2
     returns-3
-    is-kept-requires
+    (λ c κs. search needs)
     returns-4
     holds-record-requires
     returns-5
-    find-empty-build-slot-requires
-    enum-told
-    enum-told-2
-    enum-known-slot
+    (λ c κs. search needs)
+    (λ c. search needs)
+    (λ c. search needs)
+    (λ c. search needs)
     returns-6
     returns-7
     returns-8)

@@ -37,37 +37,13 @@ yes2 : (c : tie.Else2) → Yes 2 (from (c .before .before .before))
 unfolding askRoom
 yes2 c = yes1 (c .before .before .before) ∙ rw (← c .before .retained .ensures, lt-ltb _ _ (c .if2 .left))
 
-add-rest : tie.Need-add-rest
-add-rest c = search needs
-
-sub-rest : tie.Need-sub-rest
-sub-rest c = search needs
-
-record-fits-requires : tie.Need-record-fits-requires
-record-fits-requires c κs = search needs
-
 returns : tie.Need-returns
 unfolding planRoom askRoom
 returns c = rw (asks (c .before .before .before .before .before) ∙ said-no (c .before .record-fits .ensures) (c .if1 .taken))
 
-retained-requires : tie.Need-retained-requires
-retained-requires c κs = search needs
-
 returns-2 : tie.Need-returns-2
 unfolding planRoom askRoom
 returns-2 c = sym (yes1 (c .before .before .before) ∙ rw (← c .before .retained .ensures, le-ltb _ _ (c .if2 .taken)))
-
-find-empty-build-slot-requires : tie.Need-find-empty-build-slot-requires
-find-empty-build-slot-requires c κs = search needs
-
-enum-told : tie.Need-enum-told
-enum-told c = search needs
-
-enum-told-2 : tie.Need-enum-told-2
-enum-told-2 c = search needs
-
-enum-known-slot : tie.Need-enum-known-slot
-enum-known-slot c = search needs
 
 returns-3 : tie.Need-returns-3
 unfolding planRoom askRoom
@@ -91,16 +67,16 @@ pub plan-room-spec : {M : Type 1} → statement M
 plan-room-spec =
     tie.close
     (tie.spec
-    add-rest
-    sub-rest
-    record-fits-requires
+    (λ c. search needs)
+    (λ c. search needs)
+    (λ c κs. search needs)
     returns
-    retained-requires
+    (λ c κs. search needs)
     returns-2
-    find-empty-build-slot-requires
-    enum-told
-    enum-told-2
-    enum-known-slot
+    (λ c κs. search needs)
+    (λ c. search needs)
+    (λ c. search needs)
+    (λ c. search needs)
     returns-3
     returns-4
     returns-5)

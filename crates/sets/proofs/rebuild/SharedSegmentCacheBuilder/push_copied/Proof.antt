@@ -36,15 +36,6 @@ placed : (c : tie.After-slot) → let s = from (c .before .before) in let a = s 
 unfolding planCopied
 placed c = planned-two _ _ _ _ _ (sym (c .before .before .plan-copied .ensures) ∙ ap planned (c .slot .given .1))
 
-plan-copied-requires : tie.Need-plan-copied-requires
-plan-copied-requires c κs = search needs
-
-enum-known-refusal : tie.Need-enum-known-refusal
-enum-known-refusal c = search needs
-
-enum-known-slot : tie.Need-enum-known-slot
-enum-known-slot c = search needs
-
 copied-at-requires : tie.Need-copied-at-requires
 copied-at-requires c κs =
     let b = c .before .before .before .before in
@@ -57,24 +48,12 @@ copied-at-requires c κs =
     let at = found-inside _ _ _ _ _ (s .fits .hash .fits) (q .areas .index-holds) (q .place ∙ ap Empty (p .1)) in
     (q .fits, q .areas .arena-short, q .room, at, q .announced, omega (arith, n .key-bytes), omega (arith, n .value-bytes), omega (arith, n .header-bytes))
 
-same-length : tie.Need-same-length
-same-length c = search needs
-
 returns : tie.Need-returns
 unfolding afterCopied planCopied
 returns c =
     let b = c .before .before .before in
     let told = c .before .refusal .given in
     rw (planned-no (asks (from b)) (errorNumber (told .0 .0)) _ (sym (b .plan-copied .ensures) ∙ ap planned (told .1))) (sym (decided-refused (told .0 .0) _ _))
-
-same-length-2 : tie.Need-same-length-2
-same-length-2 c = search needs
-
-same-length-3 : tie.Need-same-length-3
-same-length-3 c = search needs
-
-same-length-4 : tie.Need-same-length-4
-same-length-4 c = search needs
 
 returns-2 : tie.Need-returns-2
 unfolding afterCopied
@@ -87,13 +66,13 @@ pub push-copied-spec : {M : Type 1} → statement M
 push-copied-spec =
     tie.close
     (tie.spec
-    plan-copied-requires
-    enum-known-refusal
-    enum-known-slot
+    (λ c κs. search needs)
+    (λ c. search needs)
+    (λ c. search needs)
     copied-at-requires
-    same-length
+    (λ c. search needs)
     returns
-    same-length-2
-    same-length-3
-    same-length-4
+    (λ c. search needs)
+    (λ c. search needs)
+    (λ c. search needs)
     returns-2)

@@ -7,27 +7,6 @@ use borrow.Author.Needs.{needs}
 use Rattle.sets.proofs.rebuild.SharedSegmentCacheBuilder.push_index.Statement.{statement}
 use Rattle.sets.proofs.rebuild.SharedSegmentCacheBuilder.push_index.Tie as tie
 
-hash-tag-requires : tie.Need-hash-tag-requires
-hash-tag-requires c κs = search needs
-
-encode-index-word-requires : tie.Need-encode-index-word-requires
-encode-index-word-requires c κs = search needs
-
-mul-index : tie.Need-mul-index
-mul-index c = search needs
-
-slice-write-index : tie.Need-slice-write-index
-slice-write-index c = search needs
-
-mark-displaced-requires : tie.Need-mark-displaced-requires
-mark-displaced-requires c κs = search needs
-
-same-length : tie.Need-same-length
-same-length c = search needs
-
-same-length-2 : tie.Need-same-length-2
-same-length-2 c = search needs
-
 returns : tie.Need-returns
 returns c =
     let a = c .before .before .before .before .before .before .before .before .args in
@@ -40,11 +19,11 @@ pub push-index-spec : {M : Type 1} → statement M
 push-index-spec =
     tie.close
     (tie.spec
-    hash-tag-requires
-    encode-index-word-requires
-    mul-index
-    slice-write-index
-    mark-displaced-requires
-    same-length
-    same-length-2
+    (λ c κs. search needs)
+    (λ c κs. search needs)
+    (λ c. search needs)
+    (λ c. search needs)
+    (λ c κs. search needs)
+    (λ c. search needs)
+    (λ c. search needs)
     returns)

@@ -34,15 +34,6 @@ placed : (c : tie.After-slot) → let s = from (c .before .before) in let a = s 
 unfolding planReused
 placed c = planned-yes _ _ _ (sym (c .before .before .plan-reused .ensures) ∙ ap slotPlanned (c .slot .given .1))
 
-plan-reused-requires : tie.Need-plan-reused-requires
-plan-reused-requires c κs = search needs
-
-enum-known-refusal : tie.Need-enum-known-refusal
-enum-known-refusal c = search needs
-
-enum-known-slot : tie.Need-enum-known-slot
-enum-known-slot c = search needs
-
 reused-at-requires : tie.Need-reused-at-requires
 reused-at-requires c κs =
     let b = c .before .before .before in
@@ -57,21 +48,12 @@ reused-at-requires c κs =
     let short = q .areas .arena-short in
     (q .kept, at, q .announced, omega (arith, n .key-bytes), omega (arith, n .value-bytes), omega (arith, n .header-bytes))
 
-same-length : tie.Need-same-length
-same-length c = search needs
-
 returns : tie.Need-returns
 unfolding afterReused planReused
 returns c =
     let b = c .before .before .before in
     let told = c .before .refusal .given in
     rw (planned-no (asks (from b)) (errorNumber (told .0 .0)) _ (sym (b .plan-reused .ensures) ∙ ap slotPlanned (told .1))) (sym (decided-refused (told .0 .0) _ _))
-
-same-length-2 : tie.Need-same-length-2
-same-length-2 c = search needs
-
-same-length-3 : tie.Need-same-length-3
-same-length-3 c = search needs
 
 returns-2 : tie.Need-returns-2
 unfolding afterReused
@@ -84,12 +66,12 @@ pub push-reused-spec : {M : Type 1} → statement M
 push-reused-spec =
     tie.close
     (tie.spec
-    plan-reused-requires
-    enum-known-refusal
-    enum-known-slot
+    (λ c κs. search needs)
+    (λ c. search needs)
+    (λ c. search needs)
     reused-at-requires
-    same-length
+    (λ c. search needs)
     returns
-    same-length-2
-    same-length-3
+    (λ c. search needs)
+    (λ c. search needs)
     returns-2)

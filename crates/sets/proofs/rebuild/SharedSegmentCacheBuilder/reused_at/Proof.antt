@@ -8,18 +8,6 @@ use Rattle.sets.proofs.rebuild.SharedSegmentCacheBuilder.reused_at.Tie 
 moved-location-requires : tie.Need-moved-location-requires
 moved-location-requires c κs = c .before .before .pre .0
 
-push-index-requires : tie.Need-push-index-requires
-push-index-requires c κs = search needs
-
-reused-grown-requires : tie.Need-reused-grown-requires
-reused-grown-requires c κs = omega arith
-
-same-length : tie.Need-same-length
-same-length c = search needs
-
-same-length-2 : tie.Need-same-length-2
-same-length-2 c = search needs
-
 returns : tie.Need-returns
 returns c =
     let p = c .before .before .before .before .before in
@@ -33,8 +21,8 @@ reused-at-spec =
     tie.close
     (tie.spec
     moved-location-requires
-    push-index-requires
-    reused-grown-requires
-    same-length
-    same-length-2
+    (λ c κs. search needs)
+    (λ c κs. omega arith)
+    (λ c. search needs)
+    (λ c. search needs)
     returns)

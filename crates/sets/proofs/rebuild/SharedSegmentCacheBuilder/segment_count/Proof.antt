@@ -6,12 +6,6 @@ use borrow.Author.Needs.{needs}
 use Rattle.sets.proofs.rebuild.SharedSegmentCacheBuilder.segment_count.Statement.{statement}
 use Rattle.sets.proofs.rebuild.SharedSegmentCacheBuilder.segment_count.Tie as tie
 
-retained-requires : tie.Need-retained-requires
-retained-requires c κs = search needs
-
-adds-segment-requires : tie.Need-adds-segment-requires
-adds-segment-requires c κs = search needs
-
 add-result : tie.Need-add-result
 add-result c =
     let a = c .before .before .before .before .args in
@@ -30,4 +24,4 @@ returns-2 c =
 
 pub segment-count-spec : {M : Type 1} → statement M
 segment-count-spec =
-    tie.close (tie.spec retained-requires adds-segment-requires add-result returns returns-2)
+    tie.close (tie.spec (λ c κs. search needs) (λ c κs. search needs) add-result returns returns-2)

@@ -25,20 +25,11 @@ asked : (c : tie.After-enum-told) → let a = from c .args in
     (length (a .index .now)) (length (a .filter .now)) (length (a .starts .now)) (length (a .lengths .now))
 asked c = reopen-asked _ _ _ _ _ _ _ _ _ _ _ (sym (c .before .before .check-rebuild-open .ensures) ∙ ap checkNumber (c .enum-told .given .1))
 
-check-rebuild-open-requires : tie.Need-check-rebuild-open-requires
-check-rebuild-open-requires c κs = search needs
-
-enum-known-refusal : tie.Need-enum-known-refusal
-enum-known-refusal c = search needs
-
 returns : tie.Need-returns
 unfolding afterRebuildOpen
 returns c =
     let told = c .before .refusal .given in
     rw (sym (c .before .before .before .check-rebuild-open .ensures) ∙ ap checkNumber (told .1)) (sym (decided-refused (told .0 .0) _ _))
-
-enum-told : tie.Need-enum-told
-enum-told c = search needs
 
 opened-rebuild-requires : tie.Need-opened-rebuild-requires
 opened-rebuild-requires c κs = counts-records _ _ _ _ (asked c .counts)
@@ -52,12 +43,6 @@ mul-clear-words c =
     ap (λ (b : SharedSegmentCacheBuilder). b .«bucket_count») (o .opened-rebuild .ensures) in
     omega (arith, n, asked (o .before) .index-holds, s .good .1 .1 .1 .1 .1 .1 .1 .1 .0 .1)
 
-clear-words-requires : tie.Need-clear-words-requires
-clear-words-requires c κs = search needs
-
-clear-words-requires-2 : tie.Need-clear-words-requires-2
-clear-words-requires-2 c κs = search needs
-
 keep-words-requires : tie.Need-keep-words-requires
 keep-words-requires c κs =
     let q = asked (told c) in
@@ -67,18 +52,6 @@ keep-words-requires-2 : tie.Need-keep-words-requires-2
 keep-words-requires-2 c κs =
     let q = asked (told (c .before .before .before .before)) in
     (omega (arith, q .same-count, q .areas .few, q .areas .lengths-hold), omega (arith, q .same-count, q .areas .few), q .lengths-hold)
-
-same-length : tie.Need-same-length
-same-length c = search needs
-
-same-length-2 : tie.Need-same-length-2
-same-length-2 c = search needs
-
-same-length-3 : tie.Need-same-length-3
-same-length-3 c = search needs
-
-same-length-4 : tie.Need-same-length-4
-same-length-4 c = search needs
 
 returns-2 : tie.Need-returns-2
 unfolding afterRebuildOpen
@@ -98,18 +71,18 @@ pub try-new-spec : {M : Type 1} → statement M
 try-new-spec =
     tie.close
     (tie.spec
-    check-rebuild-open-requires
-    enum-known-refusal
+    (λ c κs. search needs)
+    (λ c. search needs)
     returns
-    enum-told
+    (λ c. search needs)
     opened-rebuild-requires
     mul-clear-words
-    clear-words-requires
-    clear-words-requires-2
+    (λ c κs. search needs)
+    (λ c κs. search needs)
     keep-words-requires
     keep-words-requires-2
-    same-length
-    same-length-2
-    same-length-3
-    same-length-4
+    (λ c. search needs)
+    (λ c. search needs)
+    (λ c. search needs)
+    (λ c. search needs)
     returns-2)
