@@ -2,7 +2,6 @@
 use mathlib.Core.Path.{sym, ap, _∙_}
 use mathlib.Core.List.{List}
 use Prim.Native.Nat.{ℕ}
-use lib.ListN.{length}
 use borrow.Author.Needs.{needs}
 use Rattle.hash_parts.specs.declared.error.SegmentCacheBuildError.the-variants.{AreaTooShort}
 use Rattle.records.specs.Record.{recordBytes}

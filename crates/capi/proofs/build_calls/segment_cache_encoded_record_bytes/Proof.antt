@@ -1,5 +1,5 @@
 -- `segment_cache_encoded_record_bytes` meets its contract: the form of the words, then the call and what it hands back. Assumes nothing.
-use mathlib.Core.Path.{_≡_, refl, sym, ap, _∙_}
+use mathlib.Core.Path.{_≡_, refl, sym, _∙_}
 use mathlib.Core.Bool.{Bool, true, false, cond}
 use mathlib.Core.List.{List}
 use Prim.Native.Nat.{ℕ, zero, suc, _≤_}
@@ -12,7 +12,6 @@ use Rattle.hash_parts.specs.declared.setting.SegmentCacheConfig.{SegmentCacheCo
 use Rattle.sets.specs.Questions.{decided}
 use Rattle.capi.specs.Calls.{exportedSize}
 use Rattle.capi.specs.Words.{settingAlone, settingIn}
-use Rattle.capi.specs.declared.words.LoadedSetting.{LoadedSetting}
 use Rattle.capi.specs.declared.words.LoadedSetting.the-variants as setting
 use Rattle.capi.proofs.build_calls.segment_cache_encoded_record_bytes.Statement.{statement}
 use Rattle.capi.proofs.build_calls.segment_cache_encoded_record_bytes.Tie as tie

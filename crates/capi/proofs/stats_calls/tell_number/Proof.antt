@@ -1,6 +1,4 @@
 -- `tell_number` meets its contract: the form of the words, then the number. Assumes nothing.
-use Prim.Native.Nat.{ℕ}
-use mathlib.Core.List.{[], _∷_}
 use mathlib.Core.Path.{sym, ap, _∙_}
 use borrow.Author.Tests.{eq-eqb, ne-eqb}
 use Rattle.capi.specs.Calls.{exportedNumber, told}
