@@ -14,10 +14,10 @@ returns-3 : tie.Need-returns-3
 returns-3 c = rw (c .before .if1 .left, lt-ltb _ _ (c .if3 .taken))
 
 returns-4 : tie.Need-returns-4
-returns-4 c = rw (c .before .before .if1 .left, le-ltb _ _ (c .before .if3 .left), lt-ltb _ _ (c .if4 .taken))
+returns-4 c = rw (c .before .before .if1 .left, le-ltb _ _ (c .before .if3 .left), lt-ltb 8192 _ (c .if4 .taken))
 
 returns-5 : tie.Need-returns-5
-returns-5 c = rw (c .before .before .if1 .left, le-ltb _ _ (c .before .if3 .left), le-ltb _ _ (c .if4 .left))
+returns-5 c = rw (c .before .before .if1 .left, le-ltb _ _ (c .before .if3 .left), le-ltb 8192 _ (c .if4 .left))
 
 pub line-before-spec : {M : Type 1} → statement M
 line-before-spec =
