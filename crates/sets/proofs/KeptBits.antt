@@ -1,7 +1,7 @@
 -- Laws of the kept segments: of any state, of the words that flags choose, and of the state that flags make. Assumes nothing.
 use mathlib.Core.Path.{_≡_, refl, sym, ap, ap₂, _∙_}
 use mathlib.Core.Bool.{Bool, true, false, cond, not}
-use mathlib.Core.List.{List, [], _∷_, _++_}
+use mathlib.Core.List.{List, [], _∷_, _++_, flatMap}
 use Prim.Native.Nat.{ℕ, zero, suc, _+_, _-_, _*_, _/_, _%_, _≤_, _<_}
 use native.Mathlib.Nat.{le-of-eq}
 use native.Mathlib.Omega.{arith}
@@ -9,10 +9,11 @@ use borrow.Author.Tests.{not-true}
 use lib.Dec.{eqb}
 use lib.ListN.{length, getD, take, drop, replicate}
 use lib.Seq.{drop-drop, drop-nil, take-all}
+use Rattle.records.specs.Area.{part}
 use Rattle.index.proofs.Table.{true≢false}
 use Rattle.sets.specs.Kept.{bitsOf, chosen, countTrue, flagWord, isKept, keptCount, keptFlags, keptOf, newNumber, retained}
 use Rattle.sets.specs.declared.kept.KeptSegments.{KeptSegments}
-use Rattle.sets.proofs.KeptWords.{flags-length}
+use Rattle.sets.proofs.KeptWords.{count-most, flags-length}
 
 -- ---- any state
 
@@ -27,11 +28,6 @@ set-below : (l : List Bool) (g : ℕ) → getD l g false ≡ true → g < length
 set-below [] g e = absurd (true≢false (sym e))
 set-below (b ∷ l) zero e = omega arith
 set-below (b ∷ l) (suc g) e = omega (arith, set-below l g e)
-
-count-most : (l : List Bool) → countTrue l ≤ length l
-count-most [] = omega arith
-count-most (true ∷ l) = omega (arith, count-most l)
-count-most (false ∷ l) = omega (arith, count-most l)
 
 pub number-below : (k : KeptSegments) (g : ℕ) → isKept k g ≡ true → newNumber k g < retained k
 unfolding isKept newNumber retained
@@ -112,16 +108,15 @@ bits-split (suc m) n (suc s) [] e =
 bits-split (suc m) n (suc s) (f ∷ l) e = ap (λ (t : List Bool). not (eqb f 0) ∷ t) (bits-split m n s l (omega arith))
 
 kept-bits : (flags : List ℕ) → keptFlags (keptOf flags) ≡ flagBits 256 flags
-unfolding keptFlags
+unfolding keptFlags flatMap flagBits
 kept-bits flags =
-    ap₂ (λ (x y : List Bool). x ++ y) (word-bits 64 flags)
-    (ap₂ (λ (x y : List Bool). x ++ y) (word-bits 64 (drop 64 flags))
-    (ap₂ (λ (x y : List Bool). x ++ y) (word-bits 64 (drop 128 flags)) (word-bits 64 (drop 192 flags))
-    ∙ ap (λ (d : List ℕ). flagBits 64 (drop 128 flags) ++ flagBits 64 d) (sym (drop-drop 64 128 flags))
-    ∙ sym (bits-split 64 64 128 (drop 128 flags) refl)
-    ∙ ap (λ (d : List ℕ). flagBits 128 d) (sym (drop-drop 64 64 flags)))
-    ∙ sym (bits-split 64 128 192 (drop 64 flags) refl))
-    ∙ sym (bits-split 64 192 256 flags refl)
+    before 0 192 (before 64 128 (before 128 64 (before 192 0 refl)))
+  where
+    -- a word of flags before the words of those behind it
+    before : (at n : ℕ) {rest : List Bool} → rest ≡ flagBits n (drop (at + 64) flags) → bitsOf 64 (flagWord (part at 64 flags)) ++ rest ≡ flagBits (64 + n) (drop at flags)
+    before at n e =
+        ap₂ (λ (x y : List Bool). x ++ y) (word-bits 64 (drop at flags)) (e ∙ ap (flagBits n) (sym (drop-drop 64 at flags)))
+        ∙ sym (bits-split 64 n (64 + n) (drop at flags) refl)
 
 -- ---- the bits of flags, one by one
 

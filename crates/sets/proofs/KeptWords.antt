@@ -1,19 +1,20 @@
 -- Bits of words, and flags taken one at a time. Assumes nothing.
 use mathlib.Core.Path.{_≡_, refl, sym, ap, ap₂, _∙_}
 use mathlib.Core.Bool.{Bool, true, false, cond}
-use mathlib.Core.List.{List, [], _∷_, _++_}
+use mathlib.Core.List.{List, [], _∷_, _++_, flatMap}
 use Prim.Native.Nat.{ℕ, zero, suc, _+_, _-_, _*_, _/_, _%_, _^_, _≤_, _<_}
-use native.Mathlib.Nat.{add-zero, pow-succ', div-div-eq-div-mul}
+use native.Mathlib.Nat.{add-zero, pow-succ', div-div-eq-div-mul, zero-add, zero-div}
 use native.Mathlib.Numerals.{add-one}
 use native.Mathlib.Omega.{arith}
 use borrow.Author.Tests.{eq-eqb, ne-eqb, eqb-true, eqb-false}
 use lib.Dec.{eqb}
-use lib.ListN.{length, getD, take, drop, length-append, length-take, drop-of-length-le, List·getD-append, List·getD-eq-default}
+use lib.ListN.{length, getD, take, drop, length-append, length-take, drop-of-length-le, List·getD-append}
 use lib.Count.{ones, onesIn, ones-step}
 use lib.Pow.{pow-pos, mod-pow-add}
 use lib.Seq.{drop-cons, take-append-le, take-append-add, getD-append-add}
 use Rattle.records.specs.Area.{part}
-use Rattle.sets.specs.Kept.{bitsOf, chosen, countTrue, flagWord, isKept, keptCount, keptFlags, newNumber, retained}
+use Rattle.index.specs.Segments.{mostSegments}
+use Rattle.sets.specs.Kept.{bitsOf, chosen, countTrue, flagWord, isKept, keptCount, keptFlags, keptWords, newNumber, retained}
 use Rattle.sets.specs.declared.kept.KeptSegments.{KeptSegments}
 
 -- ---- flags from the last to the first
@@ -101,6 +102,11 @@ count-append [] b = omega arith
 count-append (true ∷ a) b = omega (arith, count-append a b)
 count-append (false ∷ a) b = count-append a b
 
+pub count-most : (l : List Bool) → countTrue l ≤ length l
+count-most [] = omega arith
+count-most (true ∷ l) = omega (arith, count-most l)
+count-most (false ∷ l) = omega (arith, count-most l)
+
 -- a bit of a word
 pub bit-at : (n w i : ℕ) → i < n → eqb (w / 2 ^ i % 2) 1 ≡ getD (bitsOf n w) i false
 unfolding bitsOf
@@ -113,26 +119,48 @@ bit-at (suc n) w (suc i) h =
     ∙ ap (λ (x : ℕ). eqb (x % 2) 1) (sym (div-div-eq-div-mul w 2 (2 ^ i)))
     ∙ bit-at n (w / 2) i (omega arith)
 
--- ---- the bits of a word before others
+-- ---- words of bits, one behind the other
 
-module _ (n w : ℕ) (l : List Bool) (g : ℕ) where
-  pub count-front : g ≤ n → countTrue (take g (bitsOf n w ++ l)) ≡ countTrue (bitsOf g w)
-  count-front h = ap countTrue (take-append-le g (bitsOf n w) l (omega (arith, bits-length n w)) ∙ bits-take n g w h)
+abbrev bits : List ℕ → List Bool
+bits ws = flatMap (bitsOf 64) ws
 
-  pub count-past : n ≤ g → countTrue (take g (bitsOf n w ++ l)) ≡ countTrue (bitsOf n w) + countTrue (take (g - n) l)
-  count-past h =
-      let e : g ≡ length (bitsOf n w) + (g - n) = omega (arith, bits-length n w) in
-      ap (λ (m : ℕ). countTrue (take m (bitsOf n w ++ l))) e
-      ∙ ap countTrue (take-append-add (bitsOf n w) l (g - n))
-      ∙ count-append (bitsOf n w) (take (g - n) l)
+pub words-length : (ws : List ℕ) → length (bits ws) ≡ 64 * length ws
+unfolding flatMap
+words-length [] = refl
+words-length (w ∷ ws) = length-append (bitsOf 64 w) (bits ws) ∙ omega (arith, bits-length 64 w, words-length ws)
 
-  pub bit-front : g < n → getD (bitsOf n w ++ l) g false ≡ getD (bitsOf n w) g false
-  bit-front h = List·getD-append (bitsOf n w) l false g (omega (arith, bits-length n w))
+-- the words behind the first
+behind : (w q r : ℕ) → 64 * suc q + r ≡ length (bitsOf 64 w) + (64 * q + r)
+behind w q r = omega (arith, bits-length 64 w)
 
-  pub bit-past : n ≤ g → getD (bitsOf n w ++ l) g false ≡ getD l (g - n) false
-  bit-past h =
-      let e : g ≡ length (bitsOf n w) + (g - n) = omega (arith, bits-length n w) in
-      ap (λ (m : ℕ). getD (bitsOf n w ++ l) m false) e ∙ getD-append-add (bitsOf n w) l (g - n) false
+bit-in-words : (ws : List ℕ) (q r : ℕ) → r < 64 → getD (bits ws) (64 * q + r) false ≡ getD (bitsOf 64 (getD ws q 0)) r false
+unfolding flatMap
+bit-in-words [] q r h = sym (sym (bit-at 64 0 r h) ∙ ap (λ (x : ℕ). eqb (x % 2) 1) (zero-div (2 ^ r)))
+bit-in-words (w ∷ ws) zero r h = rw (zero-add r) (List·getD-append (bitsOf 64 w) (bits ws) false r (omega (arith, bits-length 64 w)))
+bit-in-words (w ∷ ws) (suc q) r h =
+    ap (λ (x : ℕ). getD (bits (w ∷ ws)) x false) (behind w q r)
+    ∙ getD-append-add (bitsOf 64 w) (bits ws) (64 * q + r) false
+    ∙ bit-in-words ws q r h
+
+count-in-words : (ws : List ℕ) (q r : ℕ) → q < length ws → r < 64
+    → countTrue (take (64 * q + r) (bits ws)) ≡ countTrue (bits (take q ws)) + countTrue (bitsOf r (getD ws q 0))
+unfolding flatMap
+count-in-words [] q r h k = absurd (omega arith)
+count-in-words (w ∷ ws) zero r h k =
+    rw (zero-add r, zero-add (countTrue (bitsOf r w)))
+    (ap countTrue (take-append-le r (bitsOf 64 w) (bits ws) (omega (arith, bits-length 64 w)) ∙ bits-take 64 r w (omega arith)))
+count-in-words (w ∷ ws) (suc q) r h k =
+    ap (λ (x : ℕ). countTrue (take x (bits (w ∷ ws)))) (behind w q r)
+    ∙ ap countTrue (take-append-add (bitsOf 64 w) (bits ws) (64 * q + r))
+    ∙ omega (arith, count-append (bitsOf 64 w) (take (64 * q + r) (bits ws)), count-in-words ws q r (omega arith) k, count-append (bitsOf 64 w) (bits (take q ws)))
+
+pub count-next-word : (ws : List ℕ) (q : ℕ) → q < length ws → countTrue (bits (take q ws)) + countTrue (bitsOf 64 (getD ws q 0)) ≡ countTrue (bits (take (q + 1) ws))
+unfolding flatMap
+count-next-word [] q h = absurd (omega arith)
+count-next-word (w ∷ ws) zero h = omega (arith, count-append (bitsOf 64 w) [])
+count-next-word (w ∷ ws) (suc q) h =
+    let e : suc q + 1 ≡ suc (q + 1) = omega arith in
+    rw e (omega (arith, count-append (bitsOf 64 w) (bits (take q ws)), count-append (bitsOf 64 w) (bits (take (q + 1) ws)), count-next-word ws q (omega arith)))
 
 -- ---- a word of flags
 
@@ -208,89 +236,30 @@ module _ (flags : List ℕ) (from left word : ℕ) (made : word ≡ flagWord (pa
       let n : 64 - left ≡ 64 = omega arith in
       made ∙ ap₂ (λ (x y : ℕ). flagWord (part x y flags)) a n
 
--- ---- the four words of a state
+-- ---- a state
 
 module _ (k : KeptSegments) where
   pub flags-length : length (keptFlags k) ≡ 256
   unfolding keptFlags
-  flags-length =
-      let c = length-append (bitsOf 64 (k .w2)) (bitsOf 64 (k .w3)) in
-      let b = length-append (bitsOf 64 (k .w1)) (bitsOf 64 (k .w2) ++ bitsOf 64 (k .w3)) in
-      let a = length-append (bitsOf 64 (k .w0)) (bitsOf 64 (k .w1) ++ (bitsOf 64 (k .w2) ++ bitsOf 64 (k .w3))) in
-      omega (arith, bits-length 64 (k .w0), bits-length 64 (k .w1), bits-length 64 (k .w2), bits-length 64 (k .w3))
+  flags-length = words-length (keptWords k)
 
-  pub retained-sum : countTrue (bitsOf 64 (k .w0)) + countTrue (bitsOf 64 (k .w1)) + countTrue (bitsOf 64 (k .w2)) + countTrue (bitsOf 64 (k .w3)) ≡ retained k
+  pub retained-sum : countTrue (flatMap (bitsOf 64) (take 4 (keptWords k))) ≡ retained k
   unfolding retained keptFlags
-  retained-sum =
-      let c = count-append (bitsOf 64 (k .w2)) (bitsOf 64 (k .w3)) in
-      let b = count-append (bitsOf 64 (k .w1)) (bitsOf 64 (k .w2) ++ bitsOf 64 (k .w3)) in
-      let a = count-append (bitsOf 64 (k .w0)) (bitsOf 64 (k .w1) ++ (bitsOf 64 (k .w2) ++ bitsOf 64 (k .w3))) in
-      omega arith
+  retained-sum = refl
 
-  module _ (g : ℕ) where
-    pub kept-none : 256 ≤ g → false ≡ isKept k g
-    unfolding isKept
-    kept-none h = sym (List·getD-eq-default (keptFlags k) false (omega (arith, flags-length)))
+  pub is-kept-bit : (g : ℕ) → getD (bitsOf 64 (getD (keptWords k) (g / 64) 0)) (g % 64) false ≡ isKept k g
+  unfolding isKept keptFlags
+  is-kept-bit g =
+      let e : 64 * (g / 64) + g % 64 ≡ g = omega arith in
+      sym (bit-in-words (keptWords k) (g / 64) (g % 64) (omega arith)) ∙ ap (λ (x : ℕ). getD (bits (keptWords k)) x false) e
 
-    pub kept-first : g < 64 → getD (bitsOf 64 (k .w0)) g false ≡ isKept k g
-    unfolding isKept keptFlags
-    kept-first h = sym (bit-front 64 (k .w0) (bitsOf 64 (k .w1) ++ (bitsOf 64 (k .w2) ++ bitsOf 64 (k .w3))) g h)
+  pub new-number-sum : (g : ℕ) → g < mostSegments
+      → countTrue (flatMap (bitsOf 64) (take (g / 64) (keptWords k))) + countTrue (bitsOf (g % 64) (getD (keptWords k) (g / 64) 0)) ≡ newNumber k g
+  unfolding newNumber keptFlags
+  new-number-sum g h =
+      let e : 64 * (g / 64) + g % 64 ≡ g = omega arith in
+      sym (count-in-words (keptWords k) (g / 64) (g % 64) (omega arith) (omega arith)) ∙ ap (λ (x : ℕ). countTrue (take x (bits (keptWords k)))) e
 
-    pub kept-second : 64 ≤ g → g < 128 → getD (bitsOf 64 (k .w1)) (g - 64) false ≡ isKept k g
-    unfolding isKept keptFlags
-    kept-second h l =
-        sym
-        (bit-past 64 (k .w0) (bitsOf 64 (k .w1) ++ (bitsOf 64 (k .w2) ++ bitsOf 64 (k .w3))) g h
-        ∙ bit-front 64 (k .w1) (bitsOf 64 (k .w2) ++ bitsOf 64 (k .w3)) (g - 64) (omega arith))
-
-    pub kept-third : 128 ≤ g → g < 192 → getD (bitsOf 64 (k .w2)) (g - 128) false ≡ isKept k g
-    unfolding isKept keptFlags
-    kept-third h l =
-        let e : g - 64 - 64 ≡ g - 128 = omega arith in
-        sym
-        (bit-past 64 (k .w0) (bitsOf 64 (k .w1) ++ (bitsOf 64 (k .w2) ++ bitsOf 64 (k .w3))) g (omega arith)
-        ∙ bit-past 64 (k .w1) (bitsOf 64 (k .w2) ++ bitsOf 64 (k .w3)) (g - 64) (omega arith)
-        ∙ bit-front 64 (k .w2) (bitsOf 64 (k .w3)) (g - 64 - 64) (omega arith)
-        ∙ ap (λ (x : ℕ). getD (bitsOf 64 (k .w2)) x false) e)
-
-    pub kept-fourth : 192 ≤ g → getD (bitsOf 64 (k .w3)) (g - 192) false ≡ isKept k g
-    unfolding isKept keptFlags
-    kept-fourth h =
-        let e : g - 64 - 64 - 64 ≡ g - 192 = omega arith in
-        sym
-        (bit-past 64 (k .w0) (bitsOf 64 (k .w1) ++ (bitsOf 64 (k .w2) ++ bitsOf 64 (k .w3))) g (omega arith)
-        ∙ bit-past 64 (k .w1) (bitsOf 64 (k .w2) ++ bitsOf 64 (k .w3)) (g - 64) (omega arith)
-        ∙ bit-past 64 (k .w2) (bitsOf 64 (k .w3)) (g - 64 - 64) (omega arith)
-        ∙ ap (λ (x : ℕ). getD (bitsOf 64 (k .w3)) x false) e)
-
-    pub number-first : g ≤ 64 → countTrue (bitsOf g (k .w0)) ≡ newNumber k g
-    unfolding newNumber keptFlags
-    number-first h = sym (count-front 64 (k .w0) (bitsOf 64 (k .w1) ++ (bitsOf 64 (k .w2) ++ bitsOf 64 (k .w3))) g h)
-
-    pub number-second : 64 ≤ g → g ≤ 128 → countTrue (bitsOf 64 (k .w0)) + countTrue (bitsOf (g - 64) (k .w1)) ≡ newNumber k g
-    unfolding newNumber keptFlags
-    number-second h l =
-        let a = count-past 64 (k .w0) (bitsOf 64 (k .w1) ++ (bitsOf 64 (k .w2) ++ bitsOf 64 (k .w3))) g h in
-        let b = count-front 64 (k .w1) (bitsOf 64 (k .w2) ++ bitsOf 64 (k .w3)) (g - 64) (omega arith) in
-        omega arith
-
-    pub number-third : 128 ≤ g → g ≤ 192
-        → countTrue (bitsOf 64 (k .w0)) + countTrue (bitsOf 64 (k .w1)) + countTrue (bitsOf (g - 128) (k .w2)) ≡ newNumber k g
-    unfolding newNumber keptFlags
-    number-third h l =
-        let e : g - 64 - 64 ≡ g - 128 = omega arith in
-        let a = count-past 64 (k .w0) (bitsOf 64 (k .w1) ++ (bitsOf 64 (k .w2) ++ bitsOf 64 (k .w3))) g (omega arith) in
-        let b = count-past 64 (k .w1) (bitsOf 64 (k .w2) ++ bitsOf 64 (k .w3)) (g - 64) (omega arith) in
-        let c = count-front 64 (k .w2) (bitsOf 64 (k .w3)) (g - 64 - 64) (omega arith) ∙ ap (λ (x : ℕ). countTrue (bitsOf x (k .w2))) e in
-        omega arith
-
-    pub number-fourth : 192 ≤ g → g ≤ 256
-        → countTrue (bitsOf 64 (k .w0)) + countTrue (bitsOf 64 (k .w1)) + countTrue (bitsOf 64 (k .w2)) + countTrue (bitsOf (g - 192) (k .w3)) ≡ newNumber k g
-    unfolding newNumber keptFlags
-    number-fourth h l =
-        let e : g - 64 - 64 - 64 ≡ g - 192 = omega arith in
-        let a = count-past 64 (k .w0) (bitsOf 64 (k .w1) ++ (bitsOf 64 (k .w2) ++ bitsOf 64 (k .w3))) g (omega arith) in
-        let b = count-past 64 (k .w1) (bitsOf 64 (k .w2) ++ bitsOf 64 (k .w3)) (g - 64) (omega arith) in
-        let c = count-past 64 (k .w2) (bitsOf 64 (k .w3)) (g - 64 - 64) (omega arith) in
-        let d = ap countTrue (bits-take 64 (g - 64 - 64 - 64) (k .w3) (omega arith)) ∙ ap (λ (x : ℕ). countTrue (bitsOf x (k .w3))) e in
-        omega arith
+  pub new-number-256 : (g : ℕ) → newNumber k g ≤ 256
+  unfolding newNumber
+  new-number-256 g = omega (arith, count-most (take g (keptFlags k)), length-take g (keptFlags k), flags-length)

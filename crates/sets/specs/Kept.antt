@@ -2,7 +2,7 @@
 -- questions: "keep flags .. (0 drops, else kept)"; "the kept segments' starts and lengths, numbered anew in order".
 -- Assumes nothing.
 use mathlib.Core.Bool.{Bool, false, cond}
-use mathlib.Core.List.{List, [], _∷_, _++_}
+use mathlib.Core.List.{List, [], _∷_, flatMap}
 use Prim.Native.Nat.{ℕ, zero, suc, _+_, _*_, _/_, _%_}
 use lib.Dec.{eqb}
 use lib.ListN.{take, getD}
@@ -16,9 +16,12 @@ unfoldable pub bitsOf : ℕ → ℕ → List Bool
 bitsOf zero w = []
 bitsOf (suc n) w = eqb (w % 2) 1 ∷ bitsOf n (w / 2)
 
+abbrev pub keptWords : KeptSegments → List ℕ
+keptWords k = k .w0 ∷ k .w1 ∷ k .w2 ∷ k .w3 ∷ []
+
 -- of each of 256 segments, whether it is kept
 unfoldable pub keptFlags : KeptSegments → List Bool
-keptFlags k = bitsOf 64 (k .w0) ++ (bitsOf 64 (k .w1) ++ (bitsOf 64 (k .w2) ++ bitsOf 64 (k .w3)))
+keptFlags k = flatMap (bitsOf 64) (keptWords k)
 
 abbrev pub countTrue : List Bool → ℕ
 countTrue [] = 0

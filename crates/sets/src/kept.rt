@@ -1,13 +1,17 @@
 // Which segments of its source a rebuild keeps. The flags are lent at rebuild open alone, so the
 // state remembers them: a bit for each of 256 segments.
 ghost use mathlib.Core.Path.{_≡_};
-ghost use Prim.Native.Nat.{_≤_};
+ghost use Prim.Native.Nat.{_≤_, _<_};
 ghost use mathlib.Core.Bool.{false};
-ghost use lib.ListN.{length, getD};
+ghost use mathlib.Core.List.{flatMap};
+ghost use lib.ListN.{length, getD, take};
 ghost use Rattle.records.specs.Area.{over, part};
-ghost use Rattle.sets.specs.Kept.{bitsOf, chosen, countTrue, flagWord, isKept, keptCount, keptOf, newNumber, retained};
+ghost use Rattle.index.specs.Segments.{mostSegments};
+ghost use Rattle.sets.specs.Kept.{bitsOf, chosen, countTrue, flagWord, isKept, keptCount, keptOf, keptWords, newNumber, retained};
 
 const WORD_BITS: usize = 64;
+
+const WORDS: usize = 4;
 
 // Bit g % 64 of word g / 64 says whether segment g is kept.
 pub struct KeptSegments {
@@ -24,9 +28,22 @@ impl KeptSegments {
     {
         KeptSegments {
             w0: flag_word(flags, 0),
-            w1: flag_word(flags, 64),
-            w2: flag_word(flags, 128),
-            w3: flag_word(flags, 192),
+            w1: flag_word(flags, WORD_BITS),
+            w2: flag_word(flags, 2 * WORD_BITS),
+            w3: flag_word(flags, 3 * WORD_BITS),
+        }
+    }
+
+    // The word with the bits of the segments from 64 * at on.
+    fn word(self, at: usize) -> u64
+        ensures { λ r. ⌜ r ≡ getD (keptWords self) at 0 ⌝ }
+    {
+        match at {
+            0 => self.w0,
+            1 => self.w1,
+            2 => self.w2,
+            3 => self.w3,
+            _ => 0,
         }
     }
 
@@ -34,48 +51,37 @@ impl KeptSegments {
     pub(crate) fn is_kept(self, segment: usize) -> bool
         ensures { λ r. ⌜ r ≡ isKept self segment ⌝ }
     {
-        if segment < 64 {
-            return bit_set(self.w0, segment);
+        bit_set(self.word(segment / WORD_BITS), segment % WORD_BITS)
+    }
+
+    // How many of the segments are kept that have their bits in the first so many words.
+    fn kept_in_words(self, count: usize) -> usize
+        requires { ⌜ count ≤ 4 ⌝ }
+        ensures { λ r. ⌜ r ≡ countTrue (flatMap (bitsOf 64) (take count (keptWords self))) ⌝ }
+    {
+        let mut kept = 0;
+        let mut at = 0;
+        while at < count {
+            kept += u64::count_ones(self.word(at)) as usize;
+            at += 1;
         }
-        if segment < 128 {
-            return bit_set(self.w1, segment - 64);
-        }
-        if segment < 192 {
-            return bit_set(self.w2, segment - 128);
-        }
-        if segment < 256 {
-            return bit_set(self.w3, segment - 192);
-        }
-        false
+        kept
     }
 
     // How many segments are kept.
     pub(crate) fn retained(self) -> usize
         ensures { λ r. ⌜ r ≡ retained self ⌝ }
     {
-        set_bits(self.w0, WORD_BITS)
-            + set_bits(self.w1, WORD_BITS)
-            + set_bits(self.w2, WORD_BITS)
-            + set_bits(self.w3, WORD_BITS)
+        self.kept_in_words(WORDS)
     }
 
     // The number of a kept segment in the rebuilt set.
     pub(crate) fn new_number(self, segment: usize) -> usize
-        requires { ⌜ segment ≤ 255 ⌝ }
+        requires { ⌜ segment < mostSegments ⌝ }
         ensures { λ r. ⌜ r ≡ newNumber self segment ⌝ }
     {
-        if segment < 64 {
-            return set_bits(self.w0, segment);
-        }
-        let first = set_bits(self.w0, WORD_BITS);
-        if segment < 128 {
-            return first + set_bits(self.w1, segment - 64);
-        }
-        let second = first + set_bits(self.w1, WORD_BITS);
-        if segment < 192 {
-            return second + set_bits(self.w2, segment - 128);
-        }
-        second + set_bits(self.w2, WORD_BITS) + set_bits(self.w3, segment - 192)
+        let at = segment / WORD_BITS;
+        self.kept_in_words(at) + set_bits(self.word(at), segment % WORD_BITS)
     }
 }
 
@@ -89,12 +95,9 @@ fn bit_set(word: u64, at: usize) -> bool
 
 // The set bits among the lowest bits of a word, so many.
 fn set_bits(word: u64, count: usize) -> usize
-    requires { ⌜ count ≤ 64 ⌝ }
-    ensures { λ r. ⌜ (r ≡ countTrue (bitsOf count word)) × (r ≤ count) ⌝ }
+    requires { ⌜ count ≤ 63 ⌝ }
+    ensures { λ r. ⌜ r ≡ countTrue (bitsOf count word) ⌝ }
 {
-    if count == WORD_BITS {
-        return u64::count_ones(word) as usize;
-    }
     u64::count_ones(word % (1u64 << count)) as usize
 }
 

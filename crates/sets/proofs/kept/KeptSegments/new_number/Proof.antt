@@ -1,59 +1,25 @@
 -- `new_number` meets its contract: the set bits of the words before a segment's, and of its own before it. Assumes nothing.
-use mathlib.Core.Path.{ap₂, _∙_}
-use Prim.Native.Nat.{ℕ, _+_}
+use mathlib.Core.Path.{_≡_, ap, ap₂, _∙_}
+use Prim.Native.Nat.{ℕ, _+_, _%_}
 use native.Mathlib.Omega.{arith}
 use borrow.Author.Needs.{needs}
-use Rattle.sets.proofs.KeptWords.{number-first, number-second, number-third, number-fourth}
+use Rattle.sets.specs.Kept.{bitsOf, countTrue, newNumber}
+use Rattle.sets.proofs.KeptWords.{new-number-256, new-number-sum}
 use Rattle.sets.proofs.kept.KeptSegments.new_number.Statement.{statement}
 use Rattle.sets.proofs.kept.KeptSegments.new_number.Tie as tie
 
-returns : tie.Need-returns
-returns c =
-    let a = c .before .before .args in
-    c .set-bits .ensures .0 ∙ number-first (a .self) (a .segment) (omega arith)
+counted : (c : tie.After-set-bits) → let a = c .before .before .before .args in
+    c .before .before .kept-in-words .result + c .set-bits .result ≡ newNumber (a .self) (a .segment)
+counted c =
+    let a = c .before .before .before .args in
+    ap₂ (λ (x y : ℕ). x + y) (c .before .before .kept-in-words .ensures)
+    (c .set-bits .ensures ∙ ap (λ (w : ℕ). countTrue (bitsOf (a .segment % 64) w)) (c .before .word .ensures))
+    ∙ new-number-sum (a .self) (a .segment) (c .before .before .before .pre)
 
-returns-2 : tie.Need-returns-2
-returns-2 c =
-    let w = c .before .before in
-    let a = w .before .before .args in
-    ap₂ (λ (x y : ℕ). x + y) (w .set-bits2 .ensures .0) (c .set-bits3 .ensures .0) ∙ number-second (a .self) (a .segment) (w .before .if1 .left) (omega arith)
-
-returns-3 : tie.Need-returns-3
-returns-3 c =
-    let v = c .before .before in
-    let w = v .before .before in
-    let a = w .before .before .args in
-    let two = ap₂ (λ (x y : ℕ). x + y) (w .set-bits2 .ensures .0) (v .set-bits4 .ensures .0) in
-    ap₂ (λ (x y : ℕ). x + y) two (c .set-bits5 .ensures .0) ∙ number-third (a .self) (a .segment) (v .before .if2 .left) (omega arith)
-
-returns-4 : tie.Need-returns-4
-returns-4 c =
-    let u = c .before in
-    let v = u .before .before in
-    let w = v .before .before in
-    let a = w .before .before .args in
-    let two = ap₂ (λ (x y : ℕ). x + y) (w .set-bits2 .ensures .0) (v .set-bits4 .ensures .0) in
-    let three = ap₂ (λ (x y : ℕ). x + y) two (u .set-bits6 .ensures .0) in
-    ap₂ (λ (x y : ℕ). x + y) three (c .set-bits7 .ensures .0)
-    ∙ number-fourth (a .self) (a .segment) (u .before .if3 .left) (omega (arith, w .before .before .pre))
+add-result : tie.Need-add-result
+add-result c =
+    let a = c .before .before .before .args in
+    omega (arith, counted c, new-number-256 (a .self) (a .segment))
 
 pub new-number-spec : {M : Type 1} → statement M
-new-number-spec =
-    tie.close
-    (tie.spec
-    (λ c κs. search needs)
-    returns
-    (λ c κs. search needs)
-    (λ c κs. search needs)
-    (λ c. search needs)
-    returns-2
-    (λ c κs. search needs)
-    (λ c. search needs)
-    (λ c κs. search needs)
-    (λ c. search needs)
-    returns-3
-    (λ c κs. search needs)
-    (λ c. search needs)
-    (λ c κs. search needs)
-    (λ c. search needs)
-    returns-4)
+new-number-spec = tie.close (tie.spec (λ c κs. omega (arith, c .pre)) (λ c κs. search needs) (λ c κs. omega arith) add-result counted)
