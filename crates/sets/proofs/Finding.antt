@@ -35,8 +35,12 @@ module _ (c : SegmentCacheConfig) (records buckets words : ℕ) (fits : countsFi
 
 -- ---- the slot of a record that was found
 
+-- question 1 of a lookup is answered yes
+abbrev pub Held : (s : FrozenSegmentCache) (index filter starts lengths arena : List ℕ) → Type 0
+Held s index filter starts lengths arena = areasHoldLookup s (length index) (length filter) (length starts) (length lengths) (length arena) ≡ true
+
 pub lookup-slot : (s : FrozenSegmentCache) (h : ℕ) (key index filter starts lengths arena : List ℕ) (y : FoundRecord) → h < 2 ^ 64
-    → areasHoldLookup s (length index) (length filter) (length starts) (length lengths) (length arena) ≡ true
+    → Held s index filter starts lengths arena
     → findOf s h key index filter starts lengths arena ≡ find.Found y → y .slot < length index
 unfolding areasHoldLookup
 lookup-slot s h key index filter starts lengths arena y bound holds e =

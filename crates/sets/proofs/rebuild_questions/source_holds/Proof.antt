@@ -28,6 +28,10 @@ yes2 c =
     let b = c .before .before in
     rw (said-yes (b .before .fits2 .ensures) (b .if1 .left), segments c)
 
+yes3 : (c : tie.Else3) → let a = from (c .before .before) .args in
+    areasHoldSource (a .source) (a .starts .now) (a .lengths .now) (a .arena-len) ≡ segmentsInside (a .source .segments) (a .source .filled) (a .starts .now) (a .lengths .now)
+yes3 c = yes2 (c .before .before) ∙ rw (said-yes (c .before .arena-holds .ensures) (c .if3 .left))
+
 returns : tie.Need-returns
 unfolding areasHoldSource
 returns c = rw (said-no (c .before .fits2 .ensures) (c .if1 .taken))
@@ -50,9 +54,7 @@ segments-inside-requires c κs =
     (omega (arith, held .0, few), omega (arith, held .1, few))
 
 returns-4 : tie.Need-returns-4
-returns-4 c =
-    let b = c .before in
-    c .segments-inside .ensures ∙ sym (yes2 (b .before .before) ∙ rw (said-yes (b .before .arena-holds .ensures) (b .if3 .left)))
+returns-4 c = rw (c .segments-inside .ensures, yes3 (c .before))
 
 pub source-holds-spec : {M : Type 1} → statement M
 source-holds-spec =

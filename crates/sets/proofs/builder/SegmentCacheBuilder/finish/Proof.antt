@@ -1,6 +1,7 @@
 -- `finish` meets its contract. Assumes nothing.
 use mathlib.Core.Path.{_≡_, sym, ap, _∙_}
-use Rattle.index.specs.Segments.{splitResult}
+use Prim.Native.Nat.{ℕ}
+use Rattle.index.specs.Segments.{splitResult, split as cut}
 use Rattle.index.specs.declared.segments.SplitAnswer.{SplitAnswer}
 use Rattle.sets.specs.Questions.{checkNumber}
 use Rattle.sets.proofs.Asked.{finish-asked}
@@ -9,23 +10,39 @@ use borrow.Author.Needs.{needs}
 use Rattle.sets.proofs.builder.SegmentCacheBuilder.finish.Statement.{statement}
 use Rattle.sets.proofs.builder.SegmentCacheBuilder.finish.Tie as tie
 
--- the start, from where all questions but the last are answered yes
-abbrev from : tie.After-enum-told → tie.Start
-from c = c .before .before .before .before .before .before .before .before .before
+-- the start, from where all questions but the last are asked
+abbrev from : tie.After-check-finish → tie.Start
+from c = c .before .before .before .before .before .before .before
 
 -- the split, from after its areas are lent back
 abbrev split : tie.After-slice-known7 → tie.After-split-record-segments
 split c = c .before .before .before .before .before .before
 
--- all questions but the last are answered yes
-yes : (c : tie.After-enum-told) → let a = from c .args in
-    checked (a .self) (a .target) (a .index .now) (a .starts .now) (a .lengths .now) (a .scratch .now) (a .arena .now) ≡ 0
-yes c = sym (c .before .before .check-finish .ensures) ∙ ap checkNumber (c .enum-told .given .1)
+-- what all questions but the last come to
+abbrev asks : tie.Start → ℕ
+asks s =
+    let a = s .args in
+    checked (a .self) (a .target) (a .index .now) (a .starts .now) (a .lengths .now) (a .scratch .now) (a .arena .now)
+
+asked : (c : tie.After-check-finish) → checkNumber (c .check-finish .result) ≡ asks (from c)
+asked c = c .check-finish .ensures
+
+yes : (c : tie.After-enum-told) → asks (from (c .before .before)) ≡ 0
+yes c = sym (asked (c .before .before)) ∙ ap checkNumber (c .enum-told .given .1)
+
+-- what the split left
+splits : (c : tie.After-split-record-segments) → let a = from (c .before .before .before .before .before .before) .args in let w = c .split-record-segments in
+    splitResult (w .result) (w .last .0) (w .last .1 .1 .1 .1 .0) (w .last .1 .1 .1 .1 .1 .0)
+    ≡ cut (a .index .now) (a .self .«bucket_count») (a .self .filled) (a .target) (a .starts .now) (a .lengths .now)
+splits c = c .split-record-segments .ensures
 
 returns : tie.Need-returns
 returns c =
+    let b = c .before .before .before in
+    let a = from b .args in
     let told = c .before .refusal .given in
-    finish-stopped _ _ _ _ _ _ _ (told .0 .0) (sym (ap checkNumber (told .1)) ∙ c .before .before .before .check-finish .ensures)
+    finish-stopped (a .self) (a .target) (a .index .now) (a .starts .now) (a .lengths .now) (a .scratch .now) (a .arena .now) (told .0 .0)
+    (sym (ap checkNumber (told .1)) ∙ asked b)
 
 into-cache-requires : tie.Need-into-cache-requires
 into-cache-requires c κs =
@@ -37,8 +54,8 @@ returns-2 c =
     let d = split (c .before .before .before) in
     let w = d .split-record-segments in
     let told = c .before .refusal2 .given in
-    let split-it = ap (λ (r : SplitAnswer). splitResult r (w .last .0) (w .last .1 .1 .1 .1 .0) (w .last .1 .1 .1 .1 .1 .0)) (sym (told .1)) ∙ w .ensures in
-    split-refused _ _ _ _ _ _ _ _ _ _ (told .0 .0) (yes (d .before .before .before .before)) split-it
+    let split-it = ap (λ (r : SplitAnswer). splitResult r (w .last .0) (w .last .1 .1 .1 .1 .0) (w .last .1 .1 .1 .1 .1 .0)) (sym (told .1)) ∙ splits d in
+    split-refused _ _ _ _ _ (from (d .before .before .before .before .before .before) .args .scratch .now) _ _ _ _ (told .0 .0) (yes (d .before .before .before .before)) split-it
 
 returns-3 : tie.Need-returns-3
 returns-3 c =
@@ -47,7 +64,7 @@ returns-3 c =
     let d = split (g .before .before) in
     let w = d .split-record-segments in
     let told = g .segments .given in
-    let split-it = ap (λ (r : SplitAnswer). splitResult r (w .last .0) (w .last .1 .1 .1 .1 .0) (w .last .1 .1 .1 .1 .1 .0)) (sym (told .1)) ∙ w .ensures in
+    let split-it = ap (λ (r : SplitAnswer). splitResult r (w .last .0) (w .last .1 .1 .1 .1 .0) (w .last .1 .1 .1 .1 .1 .0)) (sym (told .1)) ∙ splits d in
     let p = k .pack-index .ensures in
     split-made _ _ _ _ _ _ _ _ _ _ (told .0 .0) _ _ _ (yes (d .before .before .before .before)) split-it (c .into-cache .ensures) (p .0) (p .1)
 

@@ -1,12 +1,13 @@
 -- `fits` meets its contract. Assumes nothing.
 use mathlib.Core.Path.{_≡_, sym, _∙_}
+use mathlib.Core.Bool.{true}
 use mathlib.Core.List.{[], _∷_}
 use Prim.Native.Nat.{_+_, _-_, _*_, _^_, _≤_}
 use native.Mathlib.Omega.{arith}
 use lib.Dec.{leb}
 use borrow.Author.Tests.{le-leb, leb-true, lt-leb}
 use Rattle.sets.specs.Build.{builderFits}
-use Rattle.sets.specs.Questions.{all, bytesFit}
+use Rattle.sets.specs.Questions.{all, bytesFit, countsFit}
 use Rattle.sets.specs.declared.builder.SegmentCacheBuilder.{SegmentCacheBuilder}
 use Rattle.sets.proofs.Counts.{counts-records}
 use Rattle.sets.proofs.Said.{said-no, said-yes}
@@ -17,8 +18,11 @@ use Rattle.sets.proofs.builder.SegmentCacheBuilder.fits.Tie as tie
 abbrev self : tie.Else2 → SegmentCacheBuilder
 self c = c .before .before .before .before .args .self
 
+counted : (c : tie.Else1) → let b = c .before .before .args .self in countsFit (b .config) (b .«expected_entries») (b .«bucket_count») (b .«filter_words») ≡ true
+counted c = said-yes (c .before .counts-fit .ensures) (c .if1 .left)
+
 few : (c : tie.Else2) → self c .«inserted_entries» ≤ 1_048_576
-few c = omega (arith, c .if2 .left, counts-records _ _ _ _ (said-yes (c .before .before .before .counts-fit .ensures) (c .before .before .if1 .left)))
+few c = omega (arith, c .if2 .left, counts-records _ _ _ _ (counted (c .before .before)))
 
 keys : (c : tie.Else3) → let b = self (c .before .before) in b .«logical_key_bytes» ≤ b .«inserted_entries» * 2 ^ 30
 keys c = leb-true _ _ (said-yes (c .before .bytes-fit .ensures) (c .if3 .left))
@@ -37,8 +41,7 @@ yes3 : (c : tie.Else3) → let b = self (c .before .before) in
 unfolding builderFits
 yes3 c =
     let b = c .before .before in
-    let d = b .before .before in
-    rw (said-yes (d .before .counts-fit .ensures) (d .if1 .left), le-leb _ _ (b .if2 .left), le-leb _ _ (keys c))
+    rw (counted (b .before .before), le-leb _ _ (b .if2 .left), le-leb _ _ (keys c))
 
 yes4 : (c : tie.Else4) → let b = self (c .before .before .before .before) in
     builderFits b
@@ -54,9 +57,7 @@ returns c = rw (said-no (c .before .counts-fit .ensures) (c .if1 .taken))
 
 returns-2 : tie.Need-returns-2
 unfolding builderFits
-returns-2 c =
-    let b = c .before .before in
-    rw (said-yes (b .before .counts-fit .ensures) (b .if1 .left), lt-leb _ _ (c .if2 .taken))
+returns-2 c = rw (counted (c .before .before), lt-leb _ _ (c .if2 .taken))
 
 bytes-fit-requires : tie.Need-bytes-fit-requires
 bytes-fit-requires c κs = few c
@@ -65,8 +66,7 @@ returns-3 : tie.Need-returns-3
 unfolding builderFits
 returns-3 c =
     let b = c .before .before in
-    let d = b .before .before in
-    rw (said-yes (d .before .counts-fit .ensures) (d .if1 .left), le-leb _ _ (b .if2 .left), said-no (c .before .bytes-fit .ensures) (c .if3 .taken))
+    rw (counted (b .before .before), le-leb _ _ (b .if2 .left), said-no (c .before .bytes-fit .ensures) (c .if3 .taken))
 
 bytes-fit-requires-2 : tie.Need-bytes-fit-requires-2
 bytes-fit-requires-2 c κs = few (c .before .before)

@@ -7,7 +7,7 @@ use lib.ListN.{length}
 use borrow.Author.Tests.{lt-ltb, le-ltb, le-leb, lt-leb}
 use Rattle.index.specs.Build.{slotOutcome}
 use Rattle.sets.specs.Build.{areasHoldBuilder, askPush, deadlineFor, pushSlot}
-use Rattle.sets.specs.BuildPlans.{askRecord, planPush, planRecord}
+use Rattle.sets.specs.BuildPlans.{askRecord, planPush, planRecord, planned}
 use Rattle.sets.proofs.Counts.{builder-areas-asked}
 use Rattle.sets.proofs.Decides.{plan}
 use Rattle.sets.proofs.Said.{Past, said-no, said-yes}
@@ -51,6 +51,15 @@ yes4 : (c : tie.Else4) → Yes 4 (from (first c))
 unfolding askPush
 yes4 c = yes3 (c .before .before) ∙ rw (lt-ltb _ _ (c .if4 .left))
 
+-- the slot that was found, and what the rest of the plan comes to
+found : (c : tie.After-find-build-slot) → let a = from (first (c .before .before .before)) .args in
+    pushSlot (a .self) (a .hash) (a .key .now) (a .index .now) (a .arena .now) ≡ slotOutcome (c .find-build-slot .result)
+found c = sym (c .find-build-slot .ensures)
+
+rest : (c : tie.After-plan-record) → let a = from (first (c .before .before .before .before .before .before .before)) .args in
+    planRecord (a .self) (c .before .before .slot .given .0 .0) (length (a .key .now)) (a .value-bytes) (a .ttl) (length (a .arena .now)) ≡ planned (c .plan-record .result)
+rest c = sym (c .plan-record .ensures)
+
 returns : tie.Need-returns
 unfolding planPush askPush planRecord askRecord
 returns c = rw (said-no (c .before .areas-hold .ensures) (c .if1 .taken))
@@ -79,20 +88,19 @@ returns-5 : tie.Need-returns-5
 unfolding planPush askPush planRecord askRecord
 returns-5 c =
     let b = c .before .before in
-    sym (yes4 (b .before .before .before) ∙ rw (sym (b .find-build-slot .ensures) ∙ ap slotOutcome (c .enum-told .given .1)))
+    sym (yes4 (b .before .before .before) ∙ rw (found b ∙ ap slotOutcome (c .enum-told .given .1)))
 
 returns-6 : tie.Need-returns-6
 unfolding planPush askPush planRecord askRecord
 returns-6 c =
     let b = c .before .before in
-    sym (yes4 (b .before .before .before) ∙ rw (sym (b .find-build-slot .ensures) ∙ ap slotOutcome (c .enum-told2 .given .1)))
+    sym (yes4 (b .before .before .before) ∙ rw (found b ∙ ap slotOutcome (c .enum-told2 .given .1)))
 
 returns-7 : tie.Need-returns-7
 unfolding planPush askPush planRecord askRecord
 returns-7 c =
     let b = c .before .before .before .before in
-    let found = sym (b .find-build-slot .ensures) ∙ ap slotOutcome (c .before .before .slot .given .1) in
-    sym (yes4 (b .before .before .before) ∙ rw found (sym (c .plan-record .ensures)))
+    sym (yes4 (b .before .before .before) ∙ rw (found b ∙ ap slotOutcome (c .before .before .slot .given .1)) (rest c))
 
 pub plan-push-spec : {M : Type 1} → statement M
 plan-push-spec =

@@ -25,11 +25,17 @@ asks s =
     let a = s .args in
     firstNo (askPush (a .self) (a .hash) (a .key .now) (length (a .value .now)) (a .ttl) (a .index .now) (length (a .filter .now)) (a .arena .now))
 
+-- and what it then is
+abbrev place : tie.Start → ℕ × ℕ
+place s =
+    let a = s .args in
+    (pushSlot (a .self) (a .hash) (a .key .now) (a .index .now) (a .arena .now) .value, deadlineFor (a .self .config) (a .ttl) .value)
+
 -- its plan has a place for the record
-placed : (c : tie.After-slot) → let s = from (c .before .before) in let a = s .args in
+placed : (c : tie.After-slot) → let s = from (c .before .before) in
     (asks s ≡ 0)
-    × (pushSlot (a .self) (a .hash) (a .key .now) (a .index .now) (a .arena .now) .value ≡ c .slot .given .0 .0)
-    × (deadlineFor (a .self .config) (a .ttl) .value ≡ c .slot .given .0 .1 .0)
+    × (place s .0 ≡ c .slot .given .0 .0)
+    × (place s .1 ≡ c .slot .given .0 .1 .0)
 unfolding planPush
 placed c = planned-two _ _ _ _ _ (sym (c .before .before .plan-push .ensures) ∙ ap planned (c .slot .given .1))
 
@@ -45,12 +51,14 @@ push-at-requires c κs =
     let at = found-inside _ _ _ _ _ (s .fits .hash .fits) (q .areas .index-holds) (q .place ∙ ap Empty (p .1)) in
     (q .fits, q .areas .arena-short, at, q .announced, omega (arith, n .key-bytes), omega (arith, n .value-bytes))
 
+-- it has none
+refused : (c : tie.After-refusal) → asks (from (c .before .before)) ≡ errorNumber (c .refusal .given .0 .0)
+unfolding planPush
+refused c = planned-no _ _ (place (from (c .before .before))) (sym (c .before .before .plan-push .ensures) ∙ ap planned (c .refusal .given .1))
+
 returns : tie.Need-returns
-unfolding afterPush planPush
-returns c =
-    let b = c .before .before .before in
-    let told = c .before .refusal .given in
-    rw (planned-no (asks (from b)) (errorNumber (told .0 .0)) _ (sym (b .plan-push .ensures) ∙ ap planned (told .1))) (sym (decided-refused (told .0 .0) _ _))
+unfolding afterPush
+returns c = rw (refused (c .before)) (sym (decided-refused (c .before .refusal .given .0 .0) _ _))
 
 returns-2 : tie.Need-returns-2
 unfolding afterPush

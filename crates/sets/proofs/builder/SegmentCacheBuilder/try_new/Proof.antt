@@ -3,7 +3,7 @@ use mathlib.Core.Path.{_≡_, sym, ap, _∙_}
 use native.Mathlib.Omega.{arith}
 use lib.ListN.{length}
 use Rattle.sets.specs.Build.{afterOpen}
-use Rattle.sets.specs.Questions.{bucketsIn, checkNumber}
+use Rattle.sets.specs.Questions.{askOpen, bucketsIn, checkNumber, firstNo}
 use Rattle.sets.specs.declared.builder.SegmentCacheBuilder.{SegmentCacheBuilder}
 use Rattle.sets.proofs.Decides.{decided-refused}
 use Rattle.sets.proofs.Counts.{counts-records}
@@ -12,19 +12,25 @@ use borrow.Author.Needs.{needs}
 use Rattle.sets.proofs.builder.SegmentCacheBuilder.try_new.Statement.{statement}
 use Rattle.sets.proofs.builder.SegmentCacheBuilder.try_new.Tie as tie
 
-abbrev from : tie.After-enum-told → tie.Start
-from c = c .before .before .before .before .before .before .before .before
+abbrev from : tie.After-check-open → tie.Start
+from c = c .before .before .before .before .before .before
+
+-- what its questions come to
+asks : (c : tie.After-check-open) → let a = from c .args in
+    firstNo (askOpen (a .config) (a .entry-count) (length (a .index .now)) (length (a .filter .now)) (length (a .starts .now)) (length (a .lengths .now)) (length (a .arena .now)))
+    ≡ checkNumber (c .check-open .result)
+asks c = sym (c .check-open .ensures)
 
 -- where no question is answered no, what they tell
-asked : (c : tie.After-enum-told) → let a = from c .args in
+asked : (c : tie.After-enum-told) → let a = from (c .before .before) .args in
     OpenAsked (a .config) (a .entry-count) (length (a .index .now)) (length (a .filter .now)) (length (a .starts .now)) (length (a .lengths .now)) (length (a .arena .now))
-asked c = open-asked _ _ _ _ _ _ _ (sym (c .before .before .check-open .ensures) ∙ ap checkNumber (c .enum-told .given .1))
+asked c = open-asked _ _ _ _ _ _ _ (asks (c .before .before) ∙ ap checkNumber (c .enum-told .given .1))
 
 returns : tie.Need-returns
 unfolding afterOpen
 returns c =
     let told = c .before .refusal .given in
-    rw (sym (c .before .before .before .check-open .ensures) ∙ ap checkNumber (told .1)) (sym (decided-refused (told .0 .0) _ _))
+    rw (asks (c .before .before .before) ∙ ap checkNumber (told .1)) (sym (decided-refused (told .0 .0) _ _))
 
 opened-builder-requires : tie.Need-opened-builder-requires
 opened-builder-requires c κs = counts-records _ _ _ _ (asked c .counts)
@@ -32,7 +38,7 @@ opened-builder-requires c κs = counts-records _ _ _ _ (asked c .counts)
 mul-clear-words : tie.Need-mul-clear-words
 mul-clear-words c =
     let o = c .before .before in
-    let s = from (o .before) in
+    let s = from (o .before .before .before) in
     let a = s .args in
     let n : o .opened-builder .result .«bucket_count» ≡ bucketsIn (a .config) (a .entry-count) = ap (λ (b : SegmentCacheBuilder). b .«bucket_count») (o .opened-builder .ensures) in
     omega (arith, n, asked (o .before) .index-holds, s .good .1 .1 .0 .1)
@@ -44,7 +50,7 @@ returns-2 c =
     let v = w .before .before .before .before in
     let o = v .before .before .before in
     let b = o .before in
-    rw (sym (b .before .before .check-open .ensures) ∙ ap checkNumber (b .enum-told .given .1))
+    rw (asks (b .before .before) ∙ ap checkNumber (b .enum-told .given .1))
     (open-left _ _ _ _ _ _ _ (o .opened-builder .ensures) (v .clear-words .ensures) (w .clear-words2 .ensures))
 
 pub try-new-spec : {M : Type 1} → statement M

@@ -1,11 +1,21 @@
 -- `peek_at_tick` meets its contract. Assumes nothing.
-use mathlib.Core.Path.{refl, sym, _∙_}
-use Rattle.sets.specs.Lookup.{afterGet, afterPeek, askLookup}
+use mathlib.Core.Path.{_≡_, refl, sym, _∙_}
+use Rattle.sets.specs.Lookup.{afterGet, afterPeek, askLookup, findOf}
 use Rattle.sets.proofs.Said.{said-no, said-yes}
-use Rattle.sets.proofs.Finding.{got}
+use Rattle.sets.proofs.Finding.{Held, got}
 use borrow.Author.Needs.{needs}
 use Rattle.sets.proofs.cache.FrozenSegmentCache.peek_at_tick.Statement.{statement}
 use Rattle.sets.proofs.cache.FrozenSegmentCache.peek_at_tick.Tie as tie
+
+abbrev from : tie.Else1 → tie.Start
+from c = c .before .before .before .before .before .before .before .before
+
+held : (c : tie.Else1) → let a = from c .args in Held (a .self) (a .index .now) (a .filter .now) (a .starts .now) (a .lengths .now) (a .arena .now)
+held c = said-yes (c .before .lookup-areas-hold .ensures) (c .if1 .left)
+
+found : (c : tie.After-find) → let a = from (c .before) .args in
+    findOf (a .self) (a .hash) (a .key .now) (a .index .now) (a .filter .now) (a .starts .now) (a .lengths .now) (a .arena .now) ≡ c .find .result
+found c = sym (c .find .ensures)
 
 returns : tie.Need-returns
 unfolding afterPeek afterGet askLookup
@@ -15,14 +25,14 @@ returns-2 : tie.Need-returns-2
 unfolding afterPeek afterGet askLookup
 returns-2 c =
     let f = c .before .before in
-    rw (said-yes (f .before .before .lookup-areas-hold .ensures) (f .before .if1 .left), sym (f .find .ensures) ∙ c .enum-told .given .1)
+    rw (held (f .before), found f ∙ c .enum-told .given .1)
 
 returns-3 : tie.Need-returns-3
 unfolding afterPeek afterGet askLookup
 returns-3 c =
     let y = c .before .before in
     let f = y .before .before in
-    rw (said-yes (f .before .before .lookup-areas-hold .ensures) (f .before .if1 .left), sym (f .find .ensures) ∙ y .answer .given .1) (got (c .live-value .ensures) refl)
+    rw (held (f .before), found f ∙ y .answer .given .1) (got (c .live-value .ensures) refl)
 
 pub peek-at-tick-spec : {M : Type 1} → statement M
 peek-at-tick-spec =

@@ -1,11 +1,11 @@
 -- `finish` meets its contract. Assumes nothing.
-use mathlib.Core.Path.{sym, ap, _∙_}
+use mathlib.Core.Path.{_≡_, sym, ap, _∙_}
 use Prim.Native.Nat.{_^_, _≤_}
 use native.Mathlib.Omega.{arith}
 use lib.ListN.{length}
 use Rattle.sets.specs.Kept.{retained}
-use Rattle.sets.specs.Questions.{checkNumber}
-use Rattle.sets.specs.Rebuild.{afterRebuildFinish, rebuildFilled}
+use Rattle.sets.specs.Questions.{checkNumber, firstNo}
+use Rattle.sets.specs.Rebuild.{afterRebuildFinish, askRebuildFinish, rebuildFilled}
 use Rattle.sets.proofs.Decides.{decided-refused}
 use Rattle.sets.proofs.KeptBits.{retained-256}
 use Rattle.sets.proofs.RebuildSteps.{adds-few, refinish-left, sum-inside}
@@ -14,23 +14,29 @@ use borrow.Author.Needs.{needs}
 use Rattle.sets.proofs.rebuild.SharedSegmentCacheBuilder.finish.Statement.{statement}
 use Rattle.sets.proofs.rebuild.SharedSegmentCacheBuilder.finish.Tie as tie
 
-abbrev from : tie.After-enum-told → tie.Start
-from c = c .before .before .before .before .before .before .before .before .before .before
+abbrev from : tie.After-check-finish → tie.Start
+from c = c .before .before .before .before .before .before .before .before
+
+-- what its questions come to
+asks : (c : tie.After-check-finish) → let a = from c .args in
+    firstNo (askRebuildFinish (a .self) (length (a .index .now)) (a .starts .now) (a .lengths .now) (length (a .scratch .now)) (length (a .arena .now)))
+    ≡ checkNumber (c .check-finish .result)
+asks c = sym (c .check-finish .ensures)
 
 -- where no question is answered no, what they tell
-asked : (c : tie.After-enum-told) → let a = from c .args in
+asked : (c : tie.After-enum-told) → let a = from (c .before .before) .args in
     RefinishAsked (a .self) (length (a .index .now)) (a .starts .now) (a .lengths .now) (length (a .scratch .now)) (length (a .arena .now))
-asked c = refinish-asked _ _ _ _ _ _ (sym (c .before .before .check-finish .ensures) ∙ ap checkNumber (c .enum-told .given .1))
+asked c = refinish-asked _ _ _ _ _ _ (asks (c .before .before) ∙ ap checkNumber (c .enum-told .given .1))
 
 returns : tie.Need-returns
 unfolding afterRebuildFinish
 returns c =
     let told = c .before .refusal .given in
-    rw (sym (c .before .before .before .check-finish .ensures) ∙ ap checkNumber (told .1)) (sym (decided-refused (told .0 .0) _ _))
+    rw (asks (c .before .before .before) ∙ ap checkNumber (told .1)) (sym (decided-refused (told .0 .0) _ _))
 
 into-build-requires : tie.Need-into-build-requires
 into-build-requires c κs =
-    let a = from (c .before) .args in
+    let a = from (c .before .before .before) .args in
     let q = asked (c .before) .areas in
     let few = retained-256 (a .self .kept) in
     let short : rebuildFilled (a .self) ≤ 2 ^ 30 = omega (arith, q .filled-held, q .arena-short) in
@@ -50,8 +56,8 @@ returns-2 c =
     let d = v .before .before .before .before .before .before .before in
     let i = d .before .before .before in
     let b = i .before .before in
-    let a = from b .args in
-    rw (sym (b .before .before .check-finish .ensures) ∙ ap checkNumber (b .enum-told .given .1))
+    let a = from (b .before .before) .args in
+    rw (asks (b .before .before) ∙ ap checkNumber (b .enum-told .given .1))
     (refinish-left (a .self) (a .index .now) (a .starts .now) (a .lengths .now) (a .scratch .now) _ _ _ _ _
     (i .into-build .ensures) (d .add-segment .ensures .0) (d .add-segment .ensures .1) (v .pack-index .ensures .0) (v .pack-index .ensures .1))
 

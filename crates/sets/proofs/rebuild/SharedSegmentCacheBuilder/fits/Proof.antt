@@ -1,12 +1,13 @@
 -- `fits` meets its contract. Assumes nothing.
 use mathlib.Core.Path.{_≡_, sym, _∙_}
+use mathlib.Core.Bool.{true}
 use mathlib.Core.List.{[], _∷_}
 use Prim.Native.Nat.{_+_, _≤_}
 use native.Mathlib.Omega.{arith}
 use borrow.Author.Tests.{le-leb, lt-leb}
 use Rattle.sets.specs.Kept.{retained}
 use Rattle.sets.specs.Rebuild.{rebuildFits, segmentFor}
-use Rattle.sets.specs.Questions.{all, bytesFit}
+use Rattle.sets.specs.Questions.{all, bytesFit, countsFit}
 use Rattle.sets.specs.declared.rebuild.SharedSegmentCacheBuilder.{SharedSegmentCacheBuilder}
 use Rattle.sets.proofs.Said.{said-no, said-yes}
 use Rattle.sets.proofs.Counts.{counts-records}
@@ -19,8 +20,11 @@ use Rattle.sets.proofs.rebuild.SharedSegmentCacheBuilder.fits.Tie as ti
 abbrev from : tie.Else2 → tie.Start
 from c = c .before .before .before .before
 
+counted : (c : tie.Else1) → let r = c .before .before .args .self in countsFit (r .config) (r .«expected_entries») (r .«bucket_count») (r .«filter_words») ≡ true
+counted c = said-yes (c .before .counts-fit .ensures) (c .if1 .left)
+
 few : (c : tie.Else2) → from c .args .self .«inserted_entries» ≤ 1_048_576
-few c = omega (arith, c .if2 .left, counts-records _ _ _ _ (said-yes (c .before .before .before .counts-fit .ensures) (c .before .before .if1 .left)))
+few c = omega (arith, c .if2 .left, counts-records _ _ _ _ (counted (c .before .before)))
 
 -- the segments that it asks for
 segments : (c : tie.After-segment-for) → let r = from (c .before .before .before) .args .self in
@@ -41,8 +45,7 @@ yes3 : (c : tie.Else3) → let r = self c in
 unfolding rebuildFits
 yes3 c =
     let b = c .before .before .before .before in
-    let d = b .before .before in
-    rw (said-yes (d .before .counts-fit .ensures) (d .if1 .left), le-leb _ _ (b .if2 .left), ← segments (c .before), le-leb _ _ (c .if3 .left))
+    rw (counted (b .before .before), le-leb _ _ (b .if2 .left), ← segments (c .before), le-leb _ _ (c .if3 .left))
 
 yes4 : (c : tie.Else4) → let r = self (c .before .before) in
     rebuildFits r ≡ all (bytesFit (r .«inserted_entries») (r .«logical_value_bytes») ∷ bytesFit (r .«inserted_entries») (r .«record_header_bytes») ∷ [])
@@ -54,9 +57,7 @@ returns c = rw (said-no (c .before .counts-fit .ensures) (c .if1 .taken))
 
 returns-2 : tie.Need-returns-2
 unfolding rebuildFits
-returns-2 c =
-    let b = c .before .before in
-    rw (said-yes (b .before .counts-fit .ensures) (b .if1 .left), lt-leb _ _ (c .if2 .taken))
+returns-2 c = rw (counted (c .before .before), lt-leb _ _ (c .if2 .taken))
 
 add-if3 : tie.Need-add-if3
 add-if3 c =
@@ -67,8 +68,7 @@ returns-3 : tie.Need-returns-3
 unfolding rebuildFits
 returns-3 c =
     let b = c .before .before .before .before in
-    let d = b .before .before in
-    rw (said-yes (d .before .counts-fit .ensures) (d .if1 .left), le-leb _ _ (b .if2 .left), ← segments (c .before), lt-leb _ _ (c .if3 .taken))
+    rw (counted (b .before .before), le-leb _ _ (b .if2 .left), ← segments (c .before), lt-leb _ _ (c .if3 .taken))
 
 bytes-fit-requires : tie.Need-bytes-fit-requires
 bytes-fit-requires c κs = few (c .before .before .before .before)

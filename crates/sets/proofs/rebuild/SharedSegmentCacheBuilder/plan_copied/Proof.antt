@@ -7,6 +7,7 @@ use borrow.Author.Tests.{lt-ltb, le-ltb, le-leb, lt-leb}
 use Rattle.hash_parts.specs.Duration.{expiryOutcome}
 use Rattle.index.specs.Build.{emptySlot}
 use Rattle.sets.specs.Questions.{deadlineRefusal}
+use Rattle.sets.specs.BuildPlans.{planned}
 use Rattle.sets.specs.RebuildPlans.{askRoom, planCopied, planRoom}
 use Rattle.sets.specs.Rebuild.{areasHoldRebuild, askCopied, copiedDeadline}
 use Rattle.sets.proofs.RebuildAsked.{rebuild-areas-asked}
@@ -49,6 +50,11 @@ yes4 : (c : tie.Else4) → Yes 4 (from (first c))
 unfolding askCopied
 yes4 c = yes3 (c .before .before) ∙ rw (lt-ltb _ _ (c .if4 .left))
 
+-- what the rest of the plan comes to
+rest : (c : tie.After-plan-room) → let a = from (first (c .before .before .before .before .before .before)) .args in
+    planRoom (a .self) (c .before .before .deadline .given .0 .0) (a .hash) (a .key-bytes) (a .value-bytes) (a .index .now) (a .arena-len) ≡ planned (c .plan-room .result)
+rest c = sym (c .plan-room .ensures)
+
 returns : tie.Need-returns
 unfolding planCopied askCopied planRoom askRoom
 returns c = rw (said-no (c .before .areas-hold .ensures) (c .if1 .taken))
@@ -82,7 +88,7 @@ unfolding planCopied askCopied planRoom askRoom
 returns-6 c =
     let b = c .before .before .before .before in
     let at = sym (b .encode-expiry-at-tick .ensures) ∙ ap expiryOutcome (c .before .before .deadline .given .1) in
-    sym (yes4 (b .before .before) ∙ rw at (sym (c .plan-room .ensures)))
+    sym (yes4 (b .before .before) ∙ rw at (rest c))
 
 pub plan-copied-spec : {M : Type 1} → statement M
 plan-copied-spec =

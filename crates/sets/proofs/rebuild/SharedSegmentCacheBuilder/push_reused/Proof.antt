@@ -27,10 +27,16 @@ asks s =
     let a = s .args in
     firstNo (askReused (a .self) (a .hash) (a .key .now) (a .value .now) (a .source) (a .index .now) (length (a .filter .now)) (a .starts .now) (a .lengths .now) (a .arena .now))
 
+-- and what it then is
+abbrev place : tie.Start → ℕ
+place s =
+    let a = s .args in
+    emptySlot (a .index .now) (a .self .«bucket_count») (a .hash) .value
+
 -- its plan has a place for the record
-placed : (c : tie.After-slot) → let s = from (c .before .before) in let a = s .args in
+placed : (c : tie.After-slot) → let s = from (c .before .before) in
     (asks s ≡ 0)
-    × (emptySlot (a .index .now) (a .self .«bucket_count») (a .hash) .value ≡ c .slot .given .0 .0)
+    × (place s ≡ c .slot .given .0 .0)
 unfolding planReused
 placed c = planned-yes _ _ _ (sym (c .before .before .plan-reused .ensures) ∙ ap slotPlanned (c .slot .given .1))
 
@@ -48,12 +54,14 @@ reused-at-requires c κs =
     let short = q .areas .arena-short in
     (q .kept, at, q .announced, omega (arith, n .key-bytes), omega (arith, n .value-bytes), omega (arith, n .header-bytes))
 
+-- it has none
+refused : (c : tie.After-refusal) → asks (from (c .before .before)) ≡ errorNumber (c .refusal .given .0 .0)
+unfolding planReused
+refused c = planned-no _ _ (place (from (c .before .before))) (sym (c .before .before .plan-reused .ensures) ∙ ap slotPlanned (c .refusal .given .1))
+
 returns : tie.Need-returns
-unfolding afterReused planReused
-returns c =
-    let b = c .before .before .before in
-    let told = c .before .refusal .given in
-    rw (planned-no (asks (from b)) (errorNumber (told .0 .0)) _ (sym (b .plan-reused .ensures) ∙ ap slotPlanned (told .1))) (sym (decided-refused (told .0 .0) _ _))
+unfolding afterReused
+returns c = rw (refused (c .before)) (sym (decided-refused (c .before .refusal .given .0 .0) _ _))
 
 returns-2 : tie.Need-returns-2
 unfolding afterReused

@@ -2,8 +2,8 @@
 use mathlib.Core.Path.{_≡_, sym, ap, _∙_}
 use native.Mathlib.Omega.{arith}
 use lib.ListN.{length}
-use Rattle.sets.specs.Questions.{bucketsIn, checkNumber}
-use Rattle.sets.specs.Rebuild.{afterRebuildOpen}
+use Rattle.sets.specs.Questions.{bucketsIn, checkNumber, firstNo}
+use Rattle.sets.specs.Rebuild.{afterRebuildOpen, askRebuildOpen}
 use Rattle.sets.specs.declared.rebuild.SharedSegmentCacheBuilder.{SharedSegmentCacheBuilder}
 use Rattle.sets.proofs.Counts.{counts-records}
 use Rattle.sets.proofs.Decides.{decided-refused}
@@ -13,23 +13,30 @@ use borrow.Author.Needs.{needs}
 use Rattle.sets.proofs.rebuild.SharedSegmentCacheBuilder.try_new.Statement.{statement}
 use Rattle.sets.proofs.rebuild.SharedSegmentCacheBuilder.try_new.Tie as tie
 
-abbrev from : tie.After-enum-told → tie.Start
-from c = c .before .before .before .before .before .before .before .before .before .before .before
+abbrev from : tie.After-check-rebuild-open → tie.Start
+from c = c .before .before .before .before .before .before .before .before .before
 
 abbrev told : tie.After-keep-words-arg → tie.After-enum-told
 told c = c .before .before .before .before .before .before .before .before .before .before .before
 
+-- what its questions come to
+asks : (c : tie.After-check-rebuild-open) → let a = from c .args in
+    firstNo (askRebuildOpen (a .source) (a .source-starts .now) (a .source-lengths .now) (length (a .arena .now)) (a .entry-count) (a .copied-record-capacity)
+    (a .used-source-segments .now) (length (a .index .now)) (length (a .filter .now)) (length (a .starts .now)) (length (a .lengths .now)))
+    ≡ checkNumber (c .check-rebuild-open .result)
+asks c = sym (c .check-rebuild-open .ensures)
+
 -- where no question is answered no, what they tell
-asked : (c : tie.After-enum-told) → let a = from c .args in
+asked : (c : tie.After-enum-told) → let a = from (c .before .before) .args in
     ReopenAsked (a .source) (a .source-starts .now) (a .source-lengths .now) (length (a .arena .now)) (a .entry-count) (a .copied-record-capacity) (a .used-source-segments .now)
     (length (a .index .now)) (length (a .filter .now)) (length (a .starts .now)) (length (a .lengths .now))
-asked c = reopen-asked _ _ _ _ _ _ _ _ _ _ _ (sym (c .before .before .check-rebuild-open .ensures) ∙ ap checkNumber (c .enum-told .given .1))
+asked c = reopen-asked _ _ _ _ _ _ _ _ _ _ _ (asks (c .before .before) ∙ ap checkNumber (c .enum-told .given .1))
 
 returns : tie.Need-returns
 unfolding afterRebuildOpen
 returns c =
     let told = c .before .refusal .given in
-    rw (sym (c .before .before .before .check-rebuild-open .ensures) ∙ ap checkNumber (told .1)) (sym (decided-refused (told .0 .0) _ _))
+    rw (asks (c .before .before .before) ∙ ap checkNumber (told .1)) (sym (decided-refused (told .0 .0) _ _))
 
 opened-rebuild-requires : tie.Need-opened-rebuild-requires
 opened-rebuild-requires c κs = counts-records _ _ _ _ (asked c .counts)
@@ -37,7 +44,7 @@ opened-rebuild-requires c κs = counts-records _ _ _ _ (asked c .counts)
 mul-clear-words : tie.Need-mul-clear-words
 mul-clear-words c =
     let o = c .before .before in
-    let s = from (o .before) in
+    let s = from (o .before .before .before) in
     let a = s .args in
     let n : o .opened-rebuild .result .«bucket_count» ≡ bucketsIn (a .source .config) (a .entry-count) =
     ap (λ (b : SharedSegmentCacheBuilder). b .«bucket_count») (o .opened-rebuild .ensures) in
@@ -62,8 +69,8 @@ returns-2 c =
     let v = w .before .before .before .before in
     let o = v .before .before .before in
     let b = o .before in
-    let a = from b .args in
-    rw (sym (b .before .before .check-rebuild-open .ensures) ∙ ap checkNumber (b .enum-told .given .1))
+    let a = from (b .before .before) .args in
+    rw (asks (b .before .before) ∙ ap checkNumber (b .enum-told .given .1))
     (reopen-left (a .source) (a .entry-count) (a .used-source-segments .now) (a .source-now-tick) _ _ _ _ _ _ _ _ _
     (o .opened-rebuild .ensures) (v .clear-words .ensures) (w .clear-words2 .ensures) (x .keep-words .ensures) (y .keep-words2 .ensures))
 
