@@ -31,7 +31,7 @@ pub record Visiting (answer : FindStep) (says : ℕ → FindStep) (m : ℕ) : Ty
   pub eight : length places ≡ 8
   pub same : answer ≡ visited (λ j after. andThen (says j) after) places 0 Next
 
-module _ {answer : FindStep} {says : ℕ → FindStep} {m : ℕ} (v : Visiting answer says m) where
+module _ (answer : FindStep) (says : ℕ → FindStep) {m : ℕ} (v : Visiting answer says m) where
   pub visiting-ends : m ≡ 0 → answer ≡ Next
   visiting-ends z = v .same ∙ visit-none (λ j after. andThen (says j) after) (v .places) 0 Next (sym (v .marked) ∙ z)
 

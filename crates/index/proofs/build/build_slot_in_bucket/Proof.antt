@@ -3,6 +3,7 @@ use mathlib.Core.Path.{_≡_, sym, _∙_}
 use Prim.Native.Nat.{_+_, _*_}
 use native.Mathlib.Omega.{arith}
 use native.Mathlib.Nat.{mul-comm}
+use lib.ListN.{getD}
 use borrow.Author.Needs.{needs}
 use Rattle.index.specs.Build.{holdsKey, buildRecord}
 use Rattle.index.specs.declared.build.BuildSlot.the-variants.{Full}
@@ -17,6 +18,11 @@ Inv-loop index bucket records expiry key tag slot₀ left₀ slot left =
 
 abbrev μ-loop : tie.MeasureT-loop
 μ-loop index bucket records expiry key tag slot₀ left₀ slot left = left
+
+-- whether the slot holds the key
+held : (c : tie.After-holds-key Inv-loop μ-loop) → let l = c .before .before .before .before in let a = l .before .before .before .before .args in
+    holdsKey (buildRecord (a .expiry) (a .records .now)) (a .key .now) (a .tag) (getD (a .index .now) (l .loop .slot) 0) ≡ c .holds-key .result
+held c = sym (c .holds-key .ensures)
 
 loop-holds : tie.Need-loop-holds Inv-loop μ-loop
 loop-holds c = (omega arith, rw (mul-comm (c .before .before .before .args .bucket) 8))
@@ -38,7 +44,7 @@ returns-2 c =
     let t = holdsKey (buildRecord (a .expiry) (a .records .now)) (a .key .now) (a .tag) in
     sym
     (slot-same t (a .index .now) (l .loop .left) (l .loop .slot) Full
-    (c .before .before .before .before .loop-test .taken) (omega arith) (c .before .before .if1 .left) (sym (c .before .holds-key .ensures) ∙ c .if2 .taken))
+    (c .before .before .before .before .loop-test .taken) (omega arith) (c .before .before .if1 .left) (held (c .before) ∙ c .if2 .taken))
     ∙ l .loop .inv .1
 
 loop-again : tie.Need-loop-again Inv-loop μ-loop
@@ -49,7 +55,7 @@ loop-again c =
       omega arith,
       sym
           (slot-passed t (a .index .now) (l .loop .left) (l .loop .slot) Full
-          (c .before .before .before .before .loop-test .taken) (omega arith) (c .before .before .if1 .left) (sym (c .before .holds-key .ensures) ∙ c .if2 .left))
+          (c .before .before .before .before .loop-test .taken) (omega arith) (c .before .before .if1 .left) (held (c .before) ∙ c .if2 .left))
           ∙ l .loop .inv .1,
     )
 

@@ -9,7 +9,7 @@ use Rattle.hash_parts.specs.Hash.{firstBucket, tagOf}
 use Rattle.index.specs.declared.build.BuildSlot.the-variants.{Full}
 use Rattle.index.specs.Build.{holdsKey, buildRecord, slotFor, slotOutcome}
 use Rattle.index.proofs.Walks.{next-within}
-use Rattle.index.proofs.Slots.{slots-short, bucketsAnswer, buckets-first, buckets-end, buckets-on, buckets-found}
+use Rattle.index.proofs.Slots.{slots-short, bucketAnswer, bucketsAnswer, buckets-first, buckets-end, buckets-on, buckets-found}
 use Rattle.index.proofs.build.find_build_slot.Statement.{statement}
 use Rattle.index.proofs.build.find_build_slot.Tie as tie
 
@@ -20,6 +20,12 @@ Inv-loop index buckets records expiry key hash tag bucket₀ left₀ bucket left
 
 abbrev μ-loop : tie.MeasureT-loop
 μ-loop index buckets records expiry key hash tag bucket₀ left₀ bucket left = left
+
+-- what the slots of the bucket say
+said : (c : tie.After-build-slot-in-bucket Inv-loop μ-loop) → let l = c .before .before in let a = l .before .before .before .before .before .before .before .args in
+    bucketAnswer (holdsKey (buildRecord (a .expiry) (a .records .now)) (a .key .now) (l .before .before .hash-tag .result)) (a .index .now) (l .loop .bucket) Full
+    ≡ c .build-slot-in-bucket .result
+said c = sym (c .build-slot-in-bucket .ensures)
 
 returns : tie.Need-returns Inv-loop μ-loop
 returns c =
@@ -46,25 +52,21 @@ returns-2 c =
     let a = l .before .before .before .before .before .before .before .args in
     let t = holdsKey (buildRecord (a .expiry) (a .records .now)) (a .key .now) (l .before .before .hash-tag .result) in
     let r = c .before .build-slot-in-bucket .result in
-    let e = c .before .build-slot-in-bucket .ensures in
     let other : r ≡ Full → ⊥ = λ (f : r ≡ Full). ⊎-elim (λ p. omega arith) (λ p. omega arith) (rw f at (c .match .keys2)) in
-    ap slotOutcome
-    (e
-    ∙ sym (buckets-found t (a .index .now) (a .buckets) (l .loop .left) (l .loop .bucket)
-    (c .before .before .loop-test .taken) (λ f. other (e ∙ f)))
-    ∙ sym (l .loop .inv .2))
+    let found = buckets-found t (a .index .now) (a .buckets) (l .loop .left) (l .loop .bucket) (c .before .before .loop-test .taken) (λ f. other (sym (said (c .before)) ∙ f)) in
+    rw (l .loop .inv .2, found, said (c .before))
 
 loop-again : tie.Need-loop-again Inv-loop μ-loop
 loop-again c =
     let l = c .before .before .before .before .before in
     let a = l .before .before .before .before .before .before .before .args in
     let t = holdsKey (buildRecord (a .expiry) (a .records .now)) (a .key .now) (l .before .before .hash-tag .result) in
-    let full = sym (c .before .before .before .build-slot-in-bucket .ensures) ∙ c .before .enum-told .given .1 in
     let e = c .next-bucket .ensures in (
       omega (arith, e, next-within (l .loop .bucket) (a .buckets)),
       omega arith,
-      l .loop .inv .2 ∙ rw e (buckets-on t (a .index .now) (a .buckets) (l .loop .left) (l .loop .bucket)
-          (c .before .before .before .before .loop-test .taken) full),
+      rw (l .loop .inv .2, e)
+          (buckets-on t (a .index .now) (a .buckets) (l .loop .left) (l .loop .bucket) (c .before .before .before .before .loop-test .taken)
+          (said (c .before .before .before) ∙ c .before .enum-told .given .1)),
     )
 
 returns-3 : tie.Need-returns-3 Inv-loop μ-loop

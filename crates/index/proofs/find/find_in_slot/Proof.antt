@@ -25,8 +25,11 @@ read s =
 abbrev slot : tie.After-entry → tie.After-content
 slot e = e .before .before .before .before .before
 
+reads : (c : tie.After-record-at-location) → read (start (c .before .before .before)) (c .before .before .before .content .given .0 .1 .0) ≡ c .record-at-location .result
+reads c = sym (c .record-at-location .ensures)
+
 under : (e : tie.After-entry) → read (start (slot e)) (slot e .content .given .0 .1 .0) ≡ Read (e .entry .given .0 .0)
-under e = sym (e .before .before .record-at-location .ensures) ∙ e .entry .given .1
+under e = reads (e .before .before) ∙ e .entry .given .1
 
 -- the record whose key was compared
 abbrev entry : tie.After-same-bytes → tie.After-entry
@@ -57,9 +60,8 @@ returns-3 c =
     let k = c .before .before .before .before .before in
     let a = start k .args in
     let used = k .content .given in
-    let unread = sym (c .before .before .record-at-location .ensures) ∙ c .enum-told2 .given .1 in
     slot-broken (read (start k)) (a .arena .now) (a .key .now) (a .tag) (a .slot) (a .content) (used .0 .0) (used .0 .1 .0) (used .1)
-    (c .before .before .before .if1 .left) unread
+    (c .before .before .before .if1 .left) (reads (c .before .before) ∙ c .enum-told2 .given .1)
 
 returns-4 : tie.Need-returns-4
 returns-4 c =

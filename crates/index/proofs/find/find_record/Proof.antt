@@ -1,6 +1,5 @@
 -- `find_record` meets its contract: the buckets left answer as the whole walk does. Assumes nothing.
-use Rattle.index.specs.declared.find.FoundRecord.{FoundRecord}
-use mathlib.Core.Path.{_≡_, refl, sym, ap, _∙_}
+use mathlib.Core.Path.{_≡_, refl, sym, _∙_}
 use mathlib.Core.Logic.{⊎-elim}
 use mathlib.Core.Bool.{Bool}
 use mathlib.Core.List.{List}
@@ -8,9 +7,8 @@ use Prim.Native.Nat.{ℕ, _+_, _*_, _-_, _≤_, _<_}
 use native.Mathlib.Omega.{arith}
 use borrow.Author.Needs.{needs}
 use Rattle.index.specs.Filter.{filterHas}
-use Rattle.index.specs.Find.{Look, endsAt, findIn, inBucket, looksFrom, slotsOf}
-use Rattle.index.specs.Slot.{keptTag}
-use Rattle.index.specs.View.{recordIn}
+use Rattle.index.specs.Find.{Look, endsAt, findIn, inBucket}
+use Rattle.index.specs.declared.find.FoundRecord.{FoundRecord}
 use Rattle.index.specs.declared.find.FindStep.the-variants.{Hit, Next}
 use Rattle.index.proofs.Walks.{next-within}
 use Rattle.index.proofs.Finds.{bucketsFound, found-end, found-hit, found-stop, found-filtered, found-on, filter-late, find-short, find-walks, Looks, stops}
@@ -55,20 +53,12 @@ looks s =
     let a = s .args in
     Looks (a .view) (a .packed) (a .index .now) (a .buckets) (a .starts .now) (a .lengths .now) (a .arena .now) (a .key .now) (a .hash)
 
--- what the slots of the bucket say is what the search of it gave
+-- what the search of the bucket gave is what its slots say
 said : (b : Searched)
     → let l = walk b in
     let s = start l in
-    inBucket (s .args .packed) (looks s (l .loop .bucket)) ≡ b .find-in-bucket .result
-said b =
-    let l = walk b in
-    let a = start l .args in
-    let read = recordIn (a .view) (a .arena .now) (a .starts .now) (a .lengths .now) in
-    let slots = slotsOf (a .packed) (a .buckets) (a .index .now) (l .loop .bucket) in
-    sym
-    (b .find-in-bucket .ensures
-    ∙ ap (λ (t : ℕ). inBucket (a .packed) (looksFrom read (a .arena .now) (a .key .now) (keptTag (a .packed) t) (8 * l .loop .bucket) slots))
-    (l .before .before .hash-tag .ensures))
+    b .find-in-bucket .result ≡ inBucket (s .args .packed) (looks s (l .loop .bucket))
+said b = rw (← walk b .before .before .hash-tag .ensures) (b .find-in-bucket .ensures)
 
 -- the bucket before the filter was asked
 abbrev searched : Filtered → Searched
@@ -105,10 +95,9 @@ returns-2 c =
     let b : Searched = c .before .before .before in
     let l = walk b in
     let s = start l in
-    sym
-    (l .loop .inv .2
-    ∙ found-hit (s .args .packed) (may s) (looks s) (s .args .buckets) (l .loop .probe) (l .loop .left) (l .loop .bucket) (b .before .loop-test .taken) _
-    (said b ∙ c .before .step .given .1))
+    rw (l .loop .inv .2)
+    (sym (found-hit (s .args .packed) (may s) (looks s) (s .args .buckets) (l .loop .probe) (l .loop .left) (l .loop .bucket) (b .before .loop-test .taken) _
+    (sym (said b) ∙ c .before .step .given .1)))
 
 returns-3 : tie.Need-returns-3 Inv-loop μ-loop
 returns-3 c =
@@ -118,10 +107,9 @@ returns-3 c =
     let r = b .find-in-bucket .result in
     let n : (x : FoundRecord) → r ≡ Hit x → ⊥ = λ x (f : r ≡ Hit x). ⊎-elim (λ p. omega arith) (λ p. omega arith) (rw f at (c .before .match .keys2)) in
     let m : r ≡ Next → ⊥ = λ (f : r ≡ Next). ⊎-elim (λ p. omega arith) (λ p. omega arith) (rw f at (c .match2 .keys2)) in
-    sym
-    (l .loop .inv .2
-    ∙ found-stop (s .args .packed) (may s) (looks s) (s .args .buckets) (l .loop .probe) (l .loop .left) (l .loop .bucket) (b .before .loop-test .taken)
-    (said b ∙ stops r n m))
+    rw (l .loop .inv .2)
+    (sym (found-stop (s .args .packed) (may s) (looks s) (s .args .buckets) (l .loop .probe) (l .loop .left) (l .loop .bucket) (b .before .loop-test .taken)
+    (sym (said b) ∙ stops r n m)))
 
 returns-4 : tie.Need-returns-4 Inv-loop μ-loop
 returns-4 c =
@@ -129,10 +117,9 @@ returns-4 c =
     let b = searched f in
     let l = walk b in
     let s = start l in
-    sym
-    (l .loop .inv .2
-    ∙ found-filtered (s .args .packed) (may s) (looks s) (s .args .buckets) (l .loop .probe) (l .loop .left) (l .loop .bucket) (b .before .loop-test .taken)
-    (said b ∙ f .before .enum-told .given .1) (asked f ∙ c .if2 .taken))
+    rw (l .loop .inv .2)
+    (sym (found-filtered (s .args .packed) (may s) (looks s) (s .args .buckets) (l .loop .probe) (l .loop .left) (l .loop .bucket) (b .before .loop-test .taken)
+    (sym (said b) ∙ f .before .enum-told .given .1) (asked f ∙ c .if2 .taken)))
 
 loop-again : tie.Need-loop-again Inv-loop μ-loop
 loop-again c =
@@ -143,16 +130,14 @@ loop-again c =
     let e = c .next-bucket .ensures in
     let on =
     found-on (s .args .packed) (may s) (looks s) (s .args .buckets) (l .loop .probe) (l .loop .left) (l .loop .bucket) (b .before .loop-test .taken)
-    (said b ∙ f .before .enum-told .given .1) (asked f ∙ c .before .if2 .left) in
-    (omega (arith, e, next-within (l .loop .bucket) (s .args .buckets)), omega arith, l .loop .inv .2 ∙ rw e on, omega arith, λ (h : 0 < l .loop .probe + 1). refl)
+    (sym (said b) ∙ f .before .enum-told .given .1) (asked f ∙ c .before .if2 .left) in
+    (omega (arith, e, next-within (l .loop .bucket) (s .args .buckets)), omega arith, rw (l .loop .inv .2) (rw e on), omega arith, λ (h : 0 < l .loop .probe + 1). refl)
 
 returns-5 : tie.Need-returns-5 Inv-loop μ-loop
 returns-5 c =
     let l = c .before in
     let s = start l in
-    sym
-    (l .loop .inv .2
-    ∙ found-end (s .args .packed) (may s) (looks s) (s .args .buckets) (l .loop .probe) (l .loop .left) (l .loop .bucket) (c .loop-test .left))
+    rw (l .loop .inv .2) (sym (found-end (s .args .packed) (may s) (looks s) (s .args .buckets) (l .loop .probe) (l .loop .left) (l .loop .bucket) (c .loop-test .left)))
 
 pub find-record-spec : {M : Type 1} → statement M
 find-record-spec =

@@ -1,10 +1,8 @@
 -- `packed_slot_at` meets its contract: a reference lies in the two words that end and begin it. Assumes nothing.
-use mathlib.Core.Path.{_≡_, refl, sym, ap, _∙_}
-use Prim.Native.Nat.{ℕ, _+_, _*_, _-_, _%_, _<_}
+use mathlib.Core.Path.{_≡_, refl, sym}
+use Prim.Native.Nat.{_+_, _*_, _-_, _%_, _<_}
 use native.Mathlib.Omega.{arith}
 use lib.ListN.{getD}
-use Rattle.hash_parts.specs.ZeroBytes.{bytesOf}
-use Rattle.index.specs.Packed.{packedSlot, referenceIn}
 use Rattle.index.proofs.PackedReads.{slot-at}
 use borrow.Author.Needs.{needs}
 use Rattle.index.proofs.find.packed_slot_at.Statement.{statement}
@@ -16,9 +14,8 @@ returns c =
     let p = c .before .before .before .before .before .pre in
     let x = a .index .now in
     let e : a .offset % 8 ≡ a .offset = omega arith in
-    c .packed-slot .ensures
-    ∙ ap (λ (j : ℕ). packedSlot (getD (bytesOf 8 (getD x (a .bucket) 0)) j 0) (referenceIn (getD x (a .buckets + 7 * a .bucket + a .offset - 1) 0) 0 j)) e
-    ∙ sym (slot-at (a .buckets) x (a .bucket) (a .offset) _ 0 (p .0) (p .2) (p .1) (λ h. refl) (λ (h : a .offset < 7). absurd (omega arith)))
+    rw (c .packed-slot .ensures, e)
+    (sym (slot-at (a .buckets) x (a .bucket) (a .offset) _ 0 (p .0) (p .2) (p .1) (λ h. refl) (λ (h : a .offset < 7). absurd (omega arith))))
 
 returns-2 : tie.Need-returns-2
 returns-2 c =
@@ -26,10 +23,8 @@ returns-2 c =
     let p = c .before .before .before .before .before .before .pre in
     let x = a .index .now in
     let e : a .offset % 8 ≡ a .offset = omega arith in
-    c .packed-slot2 .ensures
-    ∙ ap (λ (j : ℕ). packedSlot (getD (bytesOf 8 (getD x (a .bucket) 0)) j 0) (referenceIn (getD x (a .buckets + 7 * a .bucket + a .offset - 1) 0)
-    (getD x (a .buckets + 7 * a .bucket + a .offset) 0) j)) e
-    ∙ sym (slot-at (a .buckets) x (a .bucket) (a .offset) _ (getD x (a .buckets + 7 * a .bucket + a .offset) 0) (p .0) (p .2) (p .1) (λ h. refl) (λ (h : a .offset < 7). refl))
+    rw (c .packed-slot2 .ensures, e)
+    (sym (slot-at (a .buckets) x (a .bucket) (a .offset) _ (getD x (a .buckets + 7 * a .bucket + a .offset) 0) (p .0) (p .2) (p .1) (λ h. refl) (λ (h : a .offset < 7). refl)))
 
 pub packed-slot-at-spec : {M : Type 1} → statement M
 packed-slot-at-spec =

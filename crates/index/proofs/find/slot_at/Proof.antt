@@ -1,5 +1,5 @@
 -- `slot_at` meets its contract. Assumes nothing.
-use mathlib.Core.Path.{sym, _∙_}
+use mathlib.Core.Path.{sym}
 use native.Mathlib.Omega.{arith}
 use borrow.Author.Needs.{needs}
 use Rattle.index.proofs.SlotReads.{slot-short, slot-past, slot-in}
@@ -19,7 +19,7 @@ returns-2 c =
 returns-3 : tie.Need-returns-3
 returns-3 c =
     let a = c .before .before .before .before .args in
-    c .bucket-slot .ensures ∙ sym (slot-in (a .packed) (a .buckets) (a .index .now) (a .slot) (omega arith) (omega arith))
+    rw (c .bucket-slot .ensures) (sym (slot-in (a .packed) (a .buckets) (a .index .now) (a .slot) (omega arith) (omega arith)))
 
 pub slot-at-spec : {M : Type 1} → statement M
 slot-at-spec = tie.close (tie.spec returns returns-2 (λ c κs. search needs) returns-3)

@@ -1,5 +1,4 @@
 -- `record_at_location` meets its contract, test by test. Assumes nothing.
-use mathlib.Core.Path.{_∙_}
 use native.Mathlib.Omega.{arith}
 use borrow.Author.Tests.{lt-ltb, le-ltb}
 use Rattle.index.proofs.Views.{location-none, location-outside, location-inside}
@@ -31,8 +30,10 @@ returns-4 c =
 returns-5 : tie.Need-returns-5
 returns-5 c =
     let a = c .before .before .before .before .before .before .before .before .before .before .before .args in
-    c .record-in-segment .ensures ∙ location-inside (a .view) (a .arena .now) (a .starts .now) (a .lengths .now) (a .stored) (omega arith)
-    (simp (lt-ltb _ _ (c .before .before .before .before .before .if2 .left), lt-ltb _ _ (c .before .before .before .before .if3 .left), lt-ltb _ _ (c .before .before .before .if4 .left)))
+    let d = c .before .before .before in
+    rw (c .record-in-segment .ensures)
+    (location-inside (a .view) (a .arena .now) (a .starts .now) (a .lengths .now) (a .stored) (omega arith)
+    (simp (lt-ltb _ _ (d .before .before .if2 .left), lt-ltb _ _ (d .before .if3 .left), lt-ltb _ _ (d .if4 .left))))
 
 pub record-at-location-spec : {M : Type 1} → statement M
 record-at-location-spec =
