@@ -2,18 +2,20 @@
 use mathlib.Core.Path.{_≡_, refl, sym, ap, ap₂, _∙_}
 use mathlib.Core.Bool.{Bool, true, false, cond}
 use mathlib.Core.List.{List, [], _∷_, _++_, append-assoc, append-nil}
-use Prim.Native.Nat.{ℕ, _+_, _*_, _-_, _≤_, _<_}
+use Prim.Native.Nat.{ℕ, suc, _+_, _*_, _-_, _≤_, _<_}
 use native.Mathlib.Nat.{le-of-eq}
 use native.Mathlib.Numerals.{add-one}
 use native.Mathlib.Omega.{arith}
 use borrow.Author.Tests.{eqb-true, eq-eqb, ne-eqb, le-leb, lt-leb}
 use borrow.Rule.Slice.PartMut.{putMid}
 use lib.Dec.{eqb}
-use lib.ListN.{length, getD, take, drop, set, length-append, length-drop, drop-of-length-le}
-use lib.Seq.{take-all, take-at, drop-at, drop-drop, set-at, drop-cons, getD-drop}
+use lib.ListN.{length, getD, take, drop, set, length-append, length-drop, drop-of-length-le, take-append-drop}
+use lib.Seq.{length-take-le, take-all, take-at, drop-at, drop-drop, set-at, drop-cons}
 use Rattle.hash_parts.specs.Outcome.{accepted, refused}
 use Rattle.hash_parts.specs.declared.error.SegmentCacheBuildError.the-variants.{AreaTooShort}
-use Rattle.records.specs.Area.{over, pasted, written, spanned, sameBytes}
+use Rattle.hash_parts.specs.ZeroBytes.{bytesOf, numberOf}
+use Rattle.hash_parts.proofs.Bytes.{Bytes, no-bytes, one-byte, bytes-drop, bytes-number, bytes-take}
+use Rattle.records.specs.Area.{over, part, pasted, written, spanned, sameBytes}
 use Rattle.records.specs.Compare.{wordIn}
 use Rattle.records.specs.declared.record.Span.{Span}
 
@@ -163,47 +165,46 @@ same-end a b i h k = rw (drop-of-length-le a h, drop-of-length-le b k)
 
 -- ---- eight bytes at a time
 
-digit : (a b x y : ℕ) → a < 256 → b < 256 → a + 256 * x ≡ b + 256 * y → (a ≡ b) × (x ≡ y)
-digit a b x y h k e = (omega arith, omega arith)
+-- the same bytes before others
+same-front : (x a b : List ℕ) → sameBytes (x ++ a) (x ++ b) ≡ sameBytes a b
+unfolding sameBytes
+same-front [] a b = refl
+same-front (y ∷ x) a b = rw (eq-eqb y y refl) (same-front x a b)
+
+all-bytes : (l : List ℕ) → ((j : ℕ) → getD l j 0 < 256) → Bytes l
+all-bytes [] f = no-bytes
+all-bytes (b ∷ l) f = one-byte (f 0) (all-bytes l (λ j. f (suc j)))
+
+-- a part of bytes is that of its number
+part-number : (l : List ℕ) (i : ℕ) → i + 8 ≤ length l → ((j : ℕ) → getD l j 0 < 256) → bytesOf 8 (wordIn l i) ≡ part i 8 l
+part-number l i h f = bytes-number 8 (bytes-take 8 (bytes-drop i (all-bytes l f))) (length-take-le 8 (drop i l) (omega (arith, length-drop i l)))
 
 module _ (a b : List ℕ) (i : ℕ) (h : i + 8 ≤ length a) (k : i + 8 ≤ length b) where
   pub same-words : ((j : ℕ) → getD a j 0 < 256) → ((j : ℕ) → getD b j 0 < 256) → wordIn a i ≡ wordIn b i → sameBytes (drop i a) (drop i b) ≡ sameBytes (drop (i + 8) a) (drop (i + 8) b)
   same-words f g e =
-      let d₀ = digit (getD a i 0) (getD b i 0) _ _ (f i) (g i) e in
-      let d₁ = digit (getD a (i + 1) 0) (getD b (i + 1) 0) _ _ (f (i + 1)) (g (i + 1)) (d₀ .1) in
-      let d₂ = digit (getD a (i + 2) 0) (getD b (i + 2) 0) _ _ (f (i + 2)) (g (i + 2)) (d₁ .1) in
-      let d₃ = digit (getD a (i + 3) 0) (getD b (i + 3) 0) _ _ (f (i + 3)) (g (i + 3)) (d₂ .1) in
-      let d₄ = digit (getD a (i + 4) 0) (getD b (i + 4) 0) _ _ (f (i + 4)) (g (i + 4)) (d₃ .1) in
-      let d₅ = digit (getD a (i + 5) 0) (getD b (i + 5) 0) _ _ (f (i + 5)) (g (i + 5)) (d₄ .1) in
-      let d₆ = digit (getD a (i + 6) 0) (getD b (i + 6) 0) _ _ (f (i + 6)) (g (i + 6)) (d₅ .1) in
-      same-next a b i (omega arith) (omega arith) (d₀ .0)
-      ∙ next 1 (omega arith) (d₁ .0)
-      ∙ next 2 (omega arith) (d₂ .0)
-      ∙ next 3 (omega arith) (d₃ .0)
-      ∙ next 4 (omega arith) (d₄ .0)
-      ∙ next 5 (omega arith) (d₅ .0)
-      ∙ next 6 (omega arith) (d₆ .0)
-      ∙ next 7 (omega arith) (d₆ .1)
-    where
-      next : (n : ℕ) → n < 8 → getD a (i + n) 0 ≡ getD b (i + n) 0 → sameBytes (drop (i + n) a) (drop (i + n) b) ≡ sameBytes (drop (i + (n + 1)) a) (drop (i + (n + 1)) b)
-      next n l e =
-          let s : i + n + 1 ≡ i + (n + 1) = omega arith in
-          same-next a b (i + n) (omega arith) (omega arith) e ∙ ap (λ (m : ℕ). sameBytes (drop m a) (drop m b)) s
+      let p : part i 8 a ≡ part i 8 b = sym (part-number a i h f) ∙ ap (bytesOf 8) e ∙ part-number b i k g in
+      let x : drop i a ≡ part i 8 a ++ drop (i + 8) a = sym (take-append-drop 8 (drop i a)) ∙ ap (λ (l : List ℕ). part i 8 a ++ l) (drop-drop 8 i a) in
+      let y : drop i b ≡ part i 8 b ++ drop (i + 8) b = sym (take-append-drop 8 (drop i b)) ∙ ap (λ (l : List ℕ). part i 8 b ++ l) (drop-drop 8 i b) in
+      rw (x, y, p) (same-front (part i 8 b) (drop (i + 8) a) (drop (i + 8) b))
 
   pub words-differ : (wordIn a i ≡ wordIn b i → ⊥) → sameBytes (drop i a) (drop i b) ≡ false
   words-differ n = go (sameBytes (drop i a) (drop i b)) refl
     where
-      at : (l : List ℕ) (j : ℕ) → getD l (i + j) 0 ≡ getD (drop i l) j 0
-      at l j = sym (getD-drop i l j 0)
-
       go : (t : Bool) → sameBytes (drop i a) (drop i b) ≡ t → t ≡ false
       go false e = refl
-      go true e = absurd (n (words (same-true (drop i a) (drop i b) e)))
-        where
-          byte : drop i a ≡ drop i b → (j : ℕ) → getD a (i + j) 0 ≡ getD b (i + j) 0
-          byte s j = at a j ∙ ap (λ (l : List ℕ). getD l j 0) s ∙ sym (at b j)
+      go true e = absurd (n (ap (λ (l : List ℕ). numberOf (take 8 l)) (same-true (drop i a) (drop i b) e)))
 
-          words : drop i a ≡ drop i b → wordIn a i ≡ wordIn b i
-          words s =
-              let z : i + 0 ≡ i = omega arith in
-              omega (arith, rw z at (byte s 0), byte s 1, byte s 2, byte s 3, byte s 4, byte s 5, byte s 6, byte s 7)
+-- the number of a part is made of its bytes
+module _ (s : List ℕ) (at : ℕ) (h : at + 8 ≤ length s) where
+  first-byte : (j n : ℕ) → j < 8 → numberOf (part (at + j) (suc n) s) ≡ getD s (at + j) 0 + 256 * numberOf (part (at + suc j) n s)
+  unfolding numberOf
+  first-byte j n l = let e : suc (at + j) ≡ at + suc j = omega arith in rw (drop-cons s (at + j) 0 (omega arith), e)
+
+  pub word-of : getD s at 0 + getD s (at + 1) 0 * 256 + getD s (at + 2) 0 * 65536 + getD s (at + 3) 0 * 16777216 + getD s (at + 4) 0 * 4294967296
+      + getD s (at + 5) 0 * 1099511627776 + getD s (at + 6) 0 * 281474976710656 + getD s (at + 7) 0 * 72057594037927936 ≡ wordIn s at
+  unfolding numberOf
+  word-of =
+      let z : at + 0 ≡ at = omega arith in
+      let e₀ : numberOf (part at 8 s) ≡ getD s at 0 + 256 * numberOf (part (at + 1) 7 s) = rw z at (first-byte 0 7 (omega arith)) in
+      omega (arith, e₀, first-byte 1 6 (omega arith), first-byte 2 5 (omega arith), first-byte 3 4 (omega arith), first-byte 4 3 (omega arith), first-byte 5 2 (omega arith),
+      first-byte 6 1 (omega arith), first-byte 7 0 (omega arith))

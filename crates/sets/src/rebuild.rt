@@ -329,7 +329,7 @@ impl SharedSegmentCacheBuilder {
 
     // The state with one copied record more.
     fn copied_grown(mut self, size: usize, key_bytes: usize, value_bytes: usize) -> Self
-        requires { ⌜ (self .«inserted_entries» < self .«expected_entries») × (self .«copied_bytes» + size ≤ 2 ^ 30) × («key_bytes» + «value_bytes» ≤ size) × (self .«logical_key_bytes» ≤ 2 ^ 50) × (self .«logical_value_bytes» ≤ 2 ^ 50) × (self .«record_header_bytes» ≤ 2 ^ 50) ⌝ }
+        requires { ⌜ (self .«inserted_entries» < self .«expected_entries») × (self .«copied_bytes» + size ≤ mostArenaBytes) × («key_bytes» + «value_bytes» ≤ size) × (self .«logical_key_bytes» ≤ 2 ^ 50) × (self .«logical_value_bytes» ≤ 2 ^ 50) × (self .«record_header_bytes» ≤ 2 ^ 50) ⌝ }
         ensures { λ r. ⌜ r ≡ copiedGrown self size «key_bytes» «value_bytes» ⌝ }
     {
         self.inserted_entries += 1;

@@ -1,7 +1,6 @@
 -- `segment_cache_probe` meets its contract: the form of the words, then the call and what it hands back. Assumes nothing.
 use Rattle.capi.specs.Calls.{exportedProbe}
 use borrow.Author.Tests.{eq-eqb, ne-eqb}
-use mathlib.Core.Path.{sym, _∙_}
 use borrow.Author.Needs.{needs}
 use Rattle.capi_probe.proofs.segment_cache_probe.Statement.{statement}
 use Rattle.capi_probe.proofs.segment_cache_probe.Tie as tie
@@ -12,7 +11,7 @@ returns c = rw (ne-eqb _ _ (c .if1 .taken))
 
 returns-2 : tie.Need-returns-2
 unfolding exportedProbe
-returns-2 c = rw (eq-eqb _ _ (c .before .before .before .if1 .left), sym (c .before .before .load-set .ensures) ∙ c .enum-told .given .1)
+returns-2 c = rw (eq-eqb _ _ (c .before .before .before .if1 .left), ← c .before .before .load-set .ensures, c .enum-told .given .1)
 
 returns-3 : tie.Need-returns-3
 unfolding exportedProbe
@@ -22,18 +21,14 @@ returns-3 c =
     let opened = call .before .before in
     let load = opened .before .before in
     let test = load .before in
-    rw (eq-eqb _ _ (test .if1 .left), sym (load .load-set .ensures) ∙ opened .state .given .1, sym (call .probe-hashed-at-tick .ensures .0), sym (tell .tell-record .ensures))
+    rw (eq-eqb _ _ (test .if1 .left), ← load .load-set .ensures, opened .state .given .1, ← call .probe-hashed-at-tick .ensures .0, ← tell .tell-record .ensures)
 
 pub segment-cache-probe-spec : {M : Type 1} → statement M
 segment-cache-probe-spec =
     tie.close
     (tie.spec
     returns
-    (λ c κs. search needs)
-    (λ c. search needs)
-    (λ c. search needs)
+    (λ c κs. search needs) (λ c. search needs) (λ c. search needs)
     returns-2
-    (λ c κs. search needs)
-    (λ c κs. search needs)
-    (λ c. search needs)
+    (λ c κs. search needs) (λ c κs. search needs) (λ c. search needs)
     returns-3)

@@ -1,7 +1,6 @@
 -- `segment_cache_push` meets its contract: the form of the words, then the call and what it hands back. Assumes nothing.
 use Rattle.capi.specs.Calls.{exportedPush}
 use borrow.Author.Tests.{eq-eqb, ne-eqb}
-use mathlib.Core.Path.{sym, _∙_}
 use borrow.Author.Needs.{needs}
 use Rattle.capi_push.proofs.segment_cache_push.Statement.{statement}
 use Rattle.capi_push.proofs.segment_cache_push.Tie as tie
@@ -20,7 +19,7 @@ returns-3 c =
     let load = c .before .before in
     let test₂ = load .before .before in
     let test = test₂ .before in
-    rw (eq-eqb _ _ (test .if1 .left), eq-eqb _ _ (test₂ .if2 .left), sym (load .load-builder .ensures) ∙ c .enum-told .given .1)
+    rw (eq-eqb _ _ (test .if1 .left), eq-eqb _ _ (test₂ .if2 .left), ← load .load-builder .ensures, c .enum-told .given .1)
 
 returns-4 : tie.Need-returns-4
 unfolding exportedPush
@@ -30,7 +29,7 @@ returns-4 c =
     let load = opened .before .before in
     let test₂ = load .before .before in
     let test = test₂ .before in
-    rw (eq-eqb _ _ (test .if1 .left), eq-eqb _ _ (test₂ .if2 .left), sym (load .load-builder .ensures) ∙ opened .state .given .1, sym (life .load-lifetime .ensures) ∙ c .enum-told2 .given .1)
+    rw (eq-eqb _ _ (test .if1 .left), eq-eqb _ _ (test₂ .if2 .left), ← load .load-builder .ensures, opened .state .given .1, ← life .load-lifetime .ensures, c .enum-told2 .given .1)
 
 returns-5 : tie.Need-returns-5
 unfolding exportedPush
@@ -46,10 +45,10 @@ returns-5 c =
     rw (
       eq-eqb _ _ (test .if1 .left),
       eq-eqb _ _ (test₂ .if2 .left),
-      sym (load .load-builder .ensures) ∙ opened .state .given .1,
-      sym (life .load-lifetime .ensures) ∙ lived .ttl .given .1,
-      sym (call .push .ensures),
-      sym (tell .tell-push .ensures),
+      ← load .load-builder .ensures, opened .state .given .1,
+      ← life .load-lifetime .ensures, lived .ttl .given .1,
+      ← call .push .ensures,
+      ← tell .tell-push .ensures,
     )
 
 pub segment-cache-push-spec : {M : Type 1} → statement M
@@ -58,21 +57,9 @@ segment-cache-push-spec =
     (tie.spec
     returns
     returns-2
-    (λ c κs. search needs)
-    (λ c. search needs)
-    (λ c. search needs)
-    (λ c. search needs)
+    (λ c κs. search needs) (λ c. search needs) (λ c. search needs) (λ c. search needs)
     returns-3
-    (λ c κs. search needs)
-    (λ c. search needs)
-    (λ c. search needs)
-    (λ c. search needs)
+    (λ c κs. search needs) (λ c. search needs) (λ c. search needs) (λ c. search needs)
     returns-4
-    (λ c κs. search needs)
-    (λ c κs. search needs)
-    (λ c. search needs)
-    (λ c. search needs)
-    (λ c. search needs)
-    (λ c. search needs)
-    (λ c. search needs)
+    (λ c κs. search needs) (λ c κs. search needs) (λ c. search needs) (λ c. search needs) (λ c. search needs) (λ c. search needs) (λ c. search needs)
     returns-5)

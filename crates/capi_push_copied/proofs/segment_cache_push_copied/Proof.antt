@@ -1,7 +1,6 @@
 -- `segment_cache_push_copied` meets its contract: the form of the words, then the call and what it hands back. Assumes nothing.
 use Rattle.capi.specs.Rebuilds.{exportedCopied}
 use borrow.Author.Tests.{eq-eqb, ne-eqb}
-use mathlib.Core.Path.{sym, _∙_}
 use borrow.Author.Needs.{needs}
 use Rattle.capi_push_copied.proofs.segment_cache_push_copied.Statement.{statement}
 use Rattle.capi_push_copied.proofs.segment_cache_push_copied.Tie as tie
@@ -20,7 +19,7 @@ returns-3 c =
     let load = c .before .before in
     let test₂ = load .before .before in
     let test = test₂ .before in
-    rw (eq-eqb _ _ (test .if1 .left), eq-eqb _ _ (test₂ .if2 .left), sym (load .load-rebuild .ensures) ∙ c .enum-told .given .1)
+    rw (eq-eqb _ _ (test .if1 .left), eq-eqb _ _ (test₂ .if2 .left), ← load .load-rebuild .ensures, c .enum-told .given .1)
 
 returns-4 : tie.Need-returns-4
 unfolding exportedCopied
@@ -32,8 +31,8 @@ returns-4 c =
     rw (
       eq-eqb _ _ (second .before .if1 .left),
       eq-eqb _ _ (second .if2 .left),
-      sym (loads .load-rebuild .ensures) ∙ given .state .given .1,
-      sym (lives .load-lifetime .ensures) ∙ c .enum-told2 .given .1,
+      ← loads .load-rebuild .ensures, given .state .given .1,
+      ← lives .load-lifetime .ensures, c .enum-told2 .given .1,
     )
 
 returns-5 : tie.Need-returns-5
@@ -49,10 +48,10 @@ returns-5 c =
     rw (
       eq-eqb _ _ (second .before .if1 .left),
       eq-eqb _ _ (second .if2 .left),
-      sym (loads .load-rebuild .ensures) ∙ given .state .given .1,
-      sym (lives .load-lifetime .ensures) ∙ timed .ttl .given .1,
-      sym (pushes .push-copied .ensures),
-      sym (tells .tell-rebuild-push .ensures),
+      ← loads .load-rebuild .ensures, given .state .given .1,
+      ← lives .load-lifetime .ensures, timed .ttl .given .1,
+      ← pushes .push-copied .ensures,
+      ← tells .tell-rebuild-push .ensures,
     )
 
 pub segment-cache-push-copied-spec : {M : Type 1} → statement M
@@ -61,21 +60,9 @@ segment-cache-push-copied-spec =
     (tie.spec
     returns
     returns-2
-    (λ c κs. search needs)
-    (λ c. search needs)
-    (λ c. search needs)
-    (λ c. search needs)
+    (λ c κs. search needs) (λ c. search needs) (λ c. search needs) (λ c. search needs)
     returns-3
-    (λ c κs. search needs)
-    (λ c. search needs)
-    (λ c. search needs)
-    (λ c. search needs)
+    (λ c κs. search needs) (λ c. search needs) (λ c. search needs) (λ c. search needs)
     returns-4
-    (λ c κs. search needs)
-    (λ c κs. search needs)
-    (λ c. search needs)
-    (λ c. search needs)
-    (λ c. search needs)
-    (λ c. search needs)
-    (λ c. search needs)
+    (λ c κs. search needs) (λ c κs. search needs) (λ c. search needs) (λ c. search needs) (λ c. search needs) (λ c. search needs) (λ c. search needs)
     returns-5)

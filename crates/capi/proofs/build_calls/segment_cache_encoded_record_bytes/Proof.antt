@@ -36,7 +36,7 @@ returns c = rw (ne-eqb _ _ (c .if1 .taken))
 
 returns-2 : tie.Need-returns-2
 unfolding exportedSize
-returns-2 c = rw (eq-eqb _ _ (c .before .before .before .if1 .left), sym (c .before .before .load-setting .ensures) ∙ c .enum-told .given .1)
+returns-2 c = rw (eq-eqb _ _ (c .before .before .before .if1 .left), ← c .before .before .load-setting .ensures, c .enum-told .given .1)
 
 width-refusal-requires : tie.Need-width-refusal-requires
 width-refusal-requires c κs =
@@ -60,10 +60,10 @@ returns-4 c =
     let load = opened .before .before in
     rw (
       eq-eqb _ _ (load .before .if1 .left),
-      sym (load .load-setting .ensures) ∙ opened .config .given .1,
-      sym (wide .width-refusal .ensures) ∙ call .before .if2 .left,
-      sym (call .encoded-record-bytes .ensures),
-      sym (tell .tell-size .ensures),
+      ← load .load-setting .ensures, opened .config .given .1,
+      ← wide .width-refusal .ensures, call .before .if2 .left,
+      ← call .encoded-record-bytes .ensures,
+      ← tell .tell-size .ensures,
     )
 
 pub segment-cache-encoded-record-bytes-spec : {M : Type 1} → statement M
@@ -71,13 +71,9 @@ segment-cache-encoded-record-bytes-spec =
     tie.close
     (tie.spec
     returns
-    (λ c κs. search needs)
-    (λ c. search needs)
-    (λ c. search needs)
+    (λ c κs. search needs) (λ c. search needs) (λ c. search needs)
     returns-2
     width-refusal-requires
     returns-3
-    (λ c κs. search needs)
-    (λ c κs. search needs)
-    (λ c. search needs)
+    (λ c κs. search needs) (λ c κs. search needs) (λ c. search needs)
     returns-4)

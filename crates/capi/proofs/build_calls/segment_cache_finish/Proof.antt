@@ -1,7 +1,6 @@
 -- `segment_cache_finish` meets its contract: the form of the words, then the call and what it hands back. Assumes nothing.
 use Rattle.capi.specs.Calls.{exportedFinish}
 use borrow.Author.Tests.{eq-eqb, ne-eqb}
-use mathlib.Core.Path.{sym, _∙_}
 use borrow.Author.Needs.{needs}
 use Rattle.capi.proofs.build_calls.segment_cache_finish.Statement.{statement}
 use Rattle.capi.proofs.build_calls.segment_cache_finish.Tie as tie
@@ -12,7 +11,7 @@ returns c = rw (ne-eqb _ _ (c .if1 .taken))
 
 returns-2 : tie.Need-returns-2
 unfolding exportedFinish
-returns-2 c = rw (eq-eqb _ _ (c .before .before .before .if1 .left), sym (c .before .before .load-builder .ensures) ∙ c .enum-told .given .1)
+returns-2 c = rw (eq-eqb _ _ (c .before .before .before .if1 .left), ← c .before .before .load-builder .ensures, c .enum-told .given .1)
 
 returns-3 : tie.Need-returns-3
 unfolding exportedFinish
@@ -22,22 +21,14 @@ returns-3 c =
     let opened = call .before .before .before .before .before .before in
     let load = opened .before .before in
     let test = load .before in
-    rw (eq-eqb _ _ (test .if1 .left), sym (load .load-builder .ensures) ∙ opened .state .given .1, sym (call .finish .ensures), sym (tell .tell-finish .ensures))
+    rw (eq-eqb _ _ (test .if1 .left), ← load .load-builder .ensures, opened .state .given .1, ← call .finish .ensures, ← tell .tell-finish .ensures)
 
 pub segment-cache-finish-spec : {M : Type 1} → statement M
 segment-cache-finish-spec =
     tie.close
     (tie.spec
     returns
-    (λ c κs. search needs)
-    (λ c. search needs)
-    (λ c. search needs)
+    (λ c κs. search needs) (λ c. search needs) (λ c. search needs)
     returns-2
-    (λ c κs. search needs)
-    (λ c κs. search needs)
-    (λ c. search needs)
-    (λ c. search needs)
-    (λ c. search needs)
-    (λ c. search needs)
-    (λ c. search needs)
+    (λ c κs. search needs) (λ c κs. search needs) (λ c. search needs) (λ c. search needs) (λ c. search needs) (λ c. search needs) (λ c. search needs)
     returns-3)

@@ -1,7 +1,6 @@
 -- `segment_cache_rebuild_finish` meets its contract: the form of the words, then the call and what it hands back. Assumes nothing.
 use Rattle.capi.specs.Rebuilds.{exportedRebuildFinish}
 use borrow.Author.Tests.{eq-eqb, ne-eqb}
-use mathlib.Core.Path.{sym, _∙_}
 use borrow.Author.Needs.{needs}
 use Rattle.capi.proofs.rebuild_calls.segment_cache_rebuild_finish.Statement.{statement}
 use Rattle.capi.proofs.rebuild_calls.segment_cache_rebuild_finish.Tie as tie
@@ -20,7 +19,7 @@ returns-3 c =
     let load = c .before .before in
     let test₂ = load .before in
     let test = test₂ .before in
-    rw (eq-eqb _ _ (test .if1 .left), eq-eqb _ _ (test₂ .if2 .left), sym (load .load-rebuild .ensures) ∙ c .enum-told .given .1)
+    rw (eq-eqb _ _ (test .if1 .left), eq-eqb _ _ (test₂ .if2 .left), ← load .load-rebuild .ensures, c .enum-told .given .1)
 
 returns-4 : tie.Need-returns-4
 unfolding exportedRebuildFinish
@@ -33,9 +32,9 @@ returns-4 c =
     rw (
       eq-eqb _ _ (second .before .if1 .left),
       eq-eqb _ _ (second .if2 .left),
-      sym (loads .load-rebuild .ensures) ∙ given .state .given .1,
-      sym (finishes .finish .ensures),
-      sym (tells .tell-rebuild-finish .ensures),
+      ← loads .load-rebuild .ensures, given .state .given .1,
+      ← finishes .finish .ensures,
+      ← tells .tell-rebuild-finish .ensures,
     )
 
 pub segment-cache-rebuild-finish-spec : {M : Type 1} → statement M
@@ -44,16 +43,8 @@ segment-cache-rebuild-finish-spec =
     (tie.spec
     returns
     returns-2
-    (λ c κs. search needs)
-    (λ c. search needs)
-    (λ c. search needs)
+    (λ c κs. search needs) (λ c. search needs) (λ c. search needs)
     returns-3
-    (λ c κs. search needs)
-    (λ c κs. search needs)
-    (λ c. search needs)
-    (λ c. search needs)
-    (λ c. search needs)
-    (λ c. search needs)
-    (λ c. search needs)
+    (λ c κs. search needs) (λ c κs. search needs) (λ c. search needs) (λ c. search needs) (λ c. search needs) (λ c. search needs) (λ c. search needs)
     (λ c. search needs)
     returns-4)

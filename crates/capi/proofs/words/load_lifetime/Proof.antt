@@ -1,7 +1,6 @@
 -- `load_lifetime` meets its contract by its tests. Assumes nothing.
 use Rattle.capi.specs.Words.{lifetimeIn}
 use borrow.Author.Tests.{eq-eqb, ne-eqb}
-use mathlib.Core.Path.{sym}
 use borrow.Author.Needs.{needs}
 use Rattle.capi.proofs.words.load_lifetime.Statement.{statement}
 use Rattle.capi.proofs.words.load_lifetime.Tie as tie
@@ -16,7 +15,7 @@ returns-2 c = rw (ne-eqb _ _ (c .before .if1 .left), ne-eqb _ _ (c .if2 .taken))
 
 returns-3 : tie.Need-returns-3
 unfolding lifetimeIn
-returns-3 c = rw (ne-eqb _ _ (c .before .before .before .before .if1 .left), eq-eqb _ _ (c .before .before .before .if2 .left), sym (c .capped-nanos .ensures))
+returns-3 c = rw (ne-eqb _ _ (c .before .before .before .before .if1 .left), eq-eqb _ _ (c .before .before .before .if2 .left), ← c .capped-nanos .ensures)
 
 pub load-lifetime-spec : {M : Type 1} → statement M
 load-lifetime-spec =
@@ -24,7 +23,5 @@ load-lifetime-spec =
     (tie.spec
     returns
     returns-2
-    (λ c. search needs)
-    (λ c. search needs)
-    (λ c κs. search needs)
+    (λ c. search needs) (λ c. search needs) (λ c κs. search needs)
     returns-3)

@@ -21,7 +21,7 @@ returns-2 c =
     let a = t .before .before .before .args in
     let whole = c .before .before .copy-words2 in
     stored-behind (settingBefore (a .config) []) (a .rest .now) (a .out .now) (k .copy-words .last .0) (whole .last .0) 6 refl (t .if1 .left)
-    (rw (sym (f .before .before .before .expiry-flag .ensures), sym (f .before .before .tick-secs .ensures), sym (f .before .tick-nanos .ensures), sym (f .flag-of .ensures))
+    (rw (← f .before .before .before .expiry-flag .ensures, ← f .before .before .tick-secs .ensures, ← f .before .tick-nanos .ensures, ← f .flag-of .ensures)
     (k .copy-words .ensures))
     (whole .ensures)
 
@@ -31,17 +31,6 @@ store-state-spec =
     (tie.spec
     (λ c. search needs)
     returns
-    (λ c κs. search needs)
-    (λ c κs. search needs)
-    (λ c κs. search needs)
-    (λ c κs. search needs)
-    (λ c. search needs)
-    (λ c. search needs)
-    (λ c. search needs)
-    (λ c κs. search needs)
-    (λ c. search needs)
-    (λ c. search needs)
-    (λ c. search needs)
-    (λ c κs. search needs)
-    (λ c. search needs)
+    (λ c κs. search needs) (λ c κs. search needs) (λ c κs. search needs) (λ c κs. search needs) (λ c. search needs) (λ c. search needs)
+    (λ c. search needs) (λ c κs. search needs) (λ c. search needs) (λ c. search needs) (λ c. search needs) (λ c κs. search needs) (λ c. search needs)
     returns-2)

@@ -22,9 +22,7 @@ pub width-refusal-spec : {M : Type 1} → statement M
 width-refusal-spec =
     tie.close
     (tie.spec
-    (λ c. search needs)
-    (λ c. search needs)
-    (λ c κs. search needs)
+    (λ c. search needs) (λ c. search needs) (λ c κs. search needs)
     returns
     (λ c. search needs)
     returns-2

@@ -38,11 +38,9 @@ pub encode-expiry-at-tick-spec : {M : Type 1} → statement M
 encode-expiry-at-tick-spec =
     tie.close
     (tie.spec
-    (λ c. search needs)
-    (λ c. search needs)
+    (λ c. search needs) (λ c. search needs)
     returns
-    (λ c. search needs)
-    (λ c. search needs)
+    (λ c. search needs) (λ c. search needs)
     returns-2
     (λ c κs. search needs)
     returns-3

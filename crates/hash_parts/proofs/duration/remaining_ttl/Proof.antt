@@ -29,9 +29,7 @@ remaining-ttl-spec =
     (tie.spec
     returns
     returns-2
-    (λ c. search needs)
-    (λ c. search needs)
+    (λ c. search needs) (λ c. search needs)
     returns-3
-    (λ c. search needs)
-    (λ c κs. search needs)
+    (λ c. search needs) (λ c κs. search needs)
     returns-4)

@@ -57,8 +57,7 @@ search-ticks-spec =
     returns
     (λ c. omega arith)
     loop-holds
-    (λ c. omega arith)
-    (λ c. omega arith)
+    (λ c. omega arith) (λ c. omega arith)
     covers-requires
     (λ c. omega arith)
     loop-again

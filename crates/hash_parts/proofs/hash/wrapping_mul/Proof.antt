@@ -33,6 +33,5 @@ wrapping-mul-spec =
     add-middle
     mul-middle-2
     add-middle-2
-    (λ c. search needs)
-    (λ c. search needs)
+    (λ c. search needs) (λ c. search needs)
     returns)

@@ -74,13 +74,10 @@ build-slot-in-bucket-spec =
     μ-loop
     (λ c. omega arith)
     loop-holds
-    (λ c. omega arith)
-    (λ c. omega arith)
+    (λ c. omega arith) (λ c. omega arith)
     returns
     (λ c κs. search needs)
     returns-2
-    (λ c. omega arith)
-    (λ c. omega arith)
-    (λ c. omega arith)
+    (λ c. omega arith) (λ c. omega arith) (λ c. omega arith)
     loop-again
     returns-3)

@@ -44,10 +44,7 @@ clear-words-spec =
     μ-loop
     returns
     loop-holds
-    (λ c. omega arith)
-    (λ c. omega arith)
-    (λ c. omega arith)
-    (λ c. omega arith)
+    (λ c. omega arith) (λ c. omega arith) (λ c. omega arith) (λ c. omega arith)
     loop-again
     (λ c. omega arith)
     returns-2)

@@ -83,14 +83,10 @@ find-build-slot-spec =
     Inv-loop
     μ-loop
     returns
-    (λ c κs. search needs)
-    (λ c κs. search needs)
+    (λ c κs. search needs) (λ c κs. search needs)
     loop-holds
-    (λ c κs. omega arith)
-    (λ c. search needs)
+    (λ c κs. omega arith) (λ c. search needs)
     returns-2
-    (λ c κs. search needs)
-    (λ c. omega arith)
-    (λ c. omega arith)
+    (λ c κs. search needs) (λ c. omega arith) (λ c. omega arith)
     loop-again
     returns-3)

@@ -70,11 +70,8 @@ find-empty-build-slot-spec =
     returns
     (λ c κs. search needs)
     loop-holds
-    (λ c κs. omega arith)
-    (λ c. search needs)
+    (λ c κs. omega arith) (λ c. search needs)
     returns-2
-    (λ c κs. search needs)
-    (λ c. omega arith)
-    (λ c. omega arith)
+    (λ c κs. search needs) (λ c. omega arith) (λ c. omega arith)
     loop-again
     returns-3)

@@ -54,11 +54,7 @@ holds-key-spec =
     returns
     (λ c κs. search needs)
     returns-2
-    (λ c. search needs)
-    (λ c κs. search needs)
-    (λ c. search needs)
-    (λ c. search needs)
+    (λ c. search needs) (λ c κs. search needs) (λ c. search needs) (λ c. search needs)
     returns-3
-    (λ c κs. search needs)
-    (λ c κs. search needs)
+    (λ c κs. search needs) (λ c κs. search needs)
     returns-4)

@@ -110,15 +110,11 @@ find-in-bucket-spec =
     (tie.spec
     Inv-loop
     μ-loop
-    (λ c κs. tt)
-    (λ c κs. omega arith)
+    (λ c κs. tt) (λ c κs. omega arith)
     loop-holds
-    (λ c κs. tt)
-    (λ c. omega arith)
-    (λ c. omega arith)
+    (λ c κs. tt) (λ c. omega arith) (λ c. omega arith)
     bucket-slot-requires
-    (λ c κs. tt)
-    (λ c. search needs)
+    (λ c κs. tt) (λ c. search needs)
     returns
     (λ c κs. tt)
     loop-less

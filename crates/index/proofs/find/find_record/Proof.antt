@@ -146,19 +146,14 @@ find-record-spec =
     Inv-loop
     μ-loop
     returns
-    (λ c κs. tt)
-    (λ c κs. tt)
+    (λ c κs. tt) (λ c κs. tt)
     loop-holds
-    (λ c κs. omega arith)
-    (λ c. search needs)
+    (λ c κs. omega arith) (λ c. search needs)
     returns-2
     (λ c. search needs)
     returns-3
     (λ c κs. tt)
     returns-4
-    (λ c. omega arith)
-    (λ c κs. tt)
-    (λ c. omega arith)
-    (λ c. omega arith)
+    (λ c. omega arith) (λ c κs. tt) (λ c. omega arith) (λ c. omega arith)
     loop-again
     returns-5)

@@ -10,8 +10,6 @@ pub has-empty-spec : {M : Type 1} → statement M
 has-empty-spec =
     tie.close
     (tie.spec
-    (λ c. search needs)
-    (λ c. search needs)
-    (λ c κs. search needs)
+    (λ c. search needs) (λ c. search needs) (λ c κs. search needs)
     returns
     (λ c. search needs))

@@ -40,12 +40,7 @@ copy-words-spec =
     Inv-loop
     μ-loop
     loop-holds
-    (λ c. search needs)
-    (λ c. search needs)
-    (λ c. search needs)
-    (λ c. search needs)
-    (λ c. omega arith)
-    (λ c. omega arith)
+    (λ c. search needs) (λ c. search needs) (λ c. search needs) (λ c. search needs) (λ c. omega arith) (λ c. omega arith)
     loop-again
     same-length
     returns)

@@ -50,13 +50,7 @@ finish-packed-index-spec =
     returns
     returns-2
     loop-holds
-    (λ c. omega arith)
-    (λ c κs. omega arith)
-    (λ c. search needs)
-    (λ c. omega arith)
-    (λ c. omega arith)
+    (λ c. omega arith) (λ c κs. omega arith) (λ c. search needs) (λ c. omega arith) (λ c. omega arith)
     loop-again
-    (λ c κs. omega arith)
-    (λ c. search needs)
-    (λ c. search needs)
+    (λ c κs. omega arith) (λ c. search needs) (λ c. search needs)
     returns-3)

@@ -59,10 +59,6 @@ next-start-spec =
     returns
     (λ c. omega arith)
     loop-holds
-    (λ c. omega arith)
-    (λ c. omega arith)
-    (λ c κs. tt)
-    (λ c. omega arith)
-    (λ c. omega arith)
+    (λ c. omega arith) (λ c. omega arith) (λ c κs. tt) (λ c. omega arith) (λ c. omega arith)
     loop-again
     returns-2)

@@ -81,24 +81,15 @@ write-lengths-spec =
     (tie.spec
     Inv-loop
     μ-loop
-    (λ c κs. omega arith)
-    (λ c. omega arith)
+    (λ c κs. omega arith) (λ c. omega arith)
     loop-holds
-    (λ c. omega arith)
-    (λ c. omega arith)
-    (λ c. omega arith)
-    (λ c. omega arith)
-    (λ c. omega arith)
+    (λ c. omega arith) (λ c. omega arith) (λ c. omega arith) (λ c. omega arith) (λ c. omega arith)
     sub-lengths
     mul-lengths-3
     slice-write-lengths
-    (λ c. omega arith)
-    (λ c. omega arith)
+    (λ c. omega arith) (λ c. omega arith)
     loop-again
-    (λ c. omega arith)
-    (λ c. omega arith)
-    (λ c κs. tt)
-    (λ c. omega arith)
+    (λ c. omega arith) (λ c. omega arith) (λ c κs. tt) (λ c. omega arith)
     slice-write-lengths-2
     same-length
     returns)

@@ -90,9 +90,7 @@ write-starts-spec =
     returns
     mul-starts
     slice-write-starts
-    (λ c. omega arith)
-    (λ c κs. omega arith)
-    (λ c. omega arith)
+    (λ c. omega arith) (λ c κs. omega arith) (λ c. omega arith)
     loop-again
     same-length-2
     returns-2)

@@ -16,12 +16,7 @@ pub put-answer-spec : {M : Type 1} → statement M
 put-answer-spec =
     tie.close
     (tie.spec
-    (λ c. search needs)
-    (λ c κs. search needs)
-    (λ c. search needs)
-    (λ c κs. search needs)
-    (λ c κs. search needs)
-    (λ c. search needs)
+    (λ c. search needs) (λ c κs. search needs) (λ c. search needs) (λ c κs. search needs) (λ c κs. search needs) (λ c. search needs)
     returns
     (λ c. search needs)
     returns-2)

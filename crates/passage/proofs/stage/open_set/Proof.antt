@@ -1,9 +1,8 @@
 -- `open_set` meets its contract: in turn it is the library's open. Assumes nothing.
 use mathlib.Core.Logic.{⊎-elim}
-use mathlib.Core.Path.{_≡_, sym, ap}
+use mathlib.Core.Path.{_≡_}
 use native.Mathlib.Omega.{arith}
 use Rattle.passage_lines.specs.Reply.{replyText}
-use Rattle.sets.specs.Build.{Opened}
 use Rattle.passage.specs.Stage.{answerText, openStep}
 use Rattle.passage.specs.declared.stage.Stage.the-variants.{Fresh}
 use Rattle.passage.proofs.Turns.{open-out, open-slots}
@@ -23,7 +22,7 @@ mul-t25 c =
     let a = s .args in
     let b = c .before .before .builder .given in
     let l = open-slots (a .config) (a .records) (a .index .now) (a .filter .now) (a .starts .now) (a .lengths .now) (a .arena .now) (b .0 .0)
-    (sym (ap (λ (o : Opened). o .answer) (rw (b .1) at (c .before .before .before .before .before .before .before .before .try-new .ensures)))) in
+    (rw (← c .before .before .before .before .before .before .before .before .try-new .ensures, b .1)) in
     omega (arith, l, s .good .1 .1 .1 .0 .1)
 
 returns-2 : tie.Need-returns-2
@@ -42,13 +41,9 @@ open-set-spec =
     (tie.spec
     (λ c. search needs)
     returns
-    (λ c κs. search needs)
-    (λ c. search needs)
-    (λ c. search needs)
+    (λ c κs. search needs) (λ c. search needs) (λ c. search needs)
     mul-t25
-    (λ c. search needs)
-    (λ c. search needs)
+    (λ c. search needs) (λ c. search needs)
     returns-2
-    (λ c. search needs)
-    (λ c. search needs)
+    (λ c. search needs) (λ c. search needs)
     returns-3)

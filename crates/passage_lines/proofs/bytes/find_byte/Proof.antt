@@ -37,7 +37,6 @@ find-byte-spec =
     loop-holds
     (λ c. omega arith)
     returns
-    (λ c. omega arith)
-    (λ c. omega arith)
+    (λ c. omega arith) (λ c. omega arith)
     loop-again
     returns-2)

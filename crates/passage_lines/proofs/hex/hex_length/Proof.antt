@@ -28,8 +28,7 @@ pub hex-length-spec : {M : Type 1} → statement M
 hex-length-spec =
     tie.close
     (tie.spec
-    (λ c. search needs)
-    (λ c κs. search needs)
+    (λ c. search needs) (λ c κs. search needs)
     returns
     returns-2
     (λ c κs. search needs)

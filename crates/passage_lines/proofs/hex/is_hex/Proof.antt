@@ -43,15 +43,10 @@ is-hex-spec =
     Inv-loop
     μ-loop
     loop-holds
-    (λ c. omega arith)
-    (λ c. omega arith)
-    (λ c κs. tt)
+    (λ c. omega arith) (λ c. omega arith) (λ c κs. tt)
     returns
-    (λ c. omega arith)
-    (λ c. omega arith)
-    (λ c κs. tt)
+    (λ c. omega arith) (λ c. omega arith) (λ c κs. tt)
     returns-2
-    (λ c. omega arith)
-    (λ c. omega arith)
+    (λ c. omega arith) (λ c. omega arith)
     loop-again
     returns-3)

@@ -88,8 +88,7 @@ write-bytes-spec =
     Inv-loop
     μ-loop
     loop-holds
-    (λ c. omega arith)
-    (λ c κs. tt)
+    (λ c. omega arith) (λ c κs. tt)
     add-digit
     shared-slice-read-digit-2
     (λ c κs. tt)

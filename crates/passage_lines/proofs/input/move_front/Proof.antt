@@ -46,8 +46,7 @@ move-front-spec =
     (λ c. omega arith)
     slice-read-block
     slice-write-block
-    (λ c. omega arith)
-    (λ c. omega arith)
+    (λ c. omega arith) (λ c. omega arith)
     loop-again
     same-length
     returns)

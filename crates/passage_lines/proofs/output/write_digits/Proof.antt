@@ -44,14 +44,12 @@ write-digits-spec =
     μ-loop
     loop-holds
     sub-i
-    (λ c. omega arith)
-    (λ c. omega arith)
+    (λ c. omega arith) (λ c. omega arith)
     slice-write-digits
     (λ c. omega arith)
     loop-again
     sub-i-2
-    (λ c. omega arith)
-    (λ c. omega arith)
+    (λ c. omega arith) (λ c. omega arith)
     slice-write-digits-2
     same-length
     returns)

@@ -76,8 +76,7 @@ write-hex-spec =
     add-out
     slice-write-out-2
     add-at
-    (λ c. omega arith)
-    (λ c. omega arith)
+    (λ c. omega arith) (λ c. omega arith)
     loop-again
     same-length
     returns)

@@ -64,7 +64,5 @@ write-accepted-spec =
     put-number-requires
     put-number-requires-2
     put-number-requires-3
-    (λ c. search needs)
-    (λ c κs. search needs)
-    (λ c. search needs)
+    (λ c. search needs) (λ c κs. search needs) (λ c. search needs)
     returns)

@@ -39,7 +39,5 @@ write-refused-spec =
     (tie.spec
     (λ c κs. search needs)
     put-number-requires
-    (λ c. search needs)
-    (λ c κs. search needs)
-    (λ c. search needs)
+    (λ c. search needs) (λ c κs. search needs) (λ c. search needs)
     returns)

@@ -67,15 +67,12 @@ parse-number-spec =
     μ-loop
     returns
     loop-holds
-    (λ c. omega arith)
-    (λ c κs. tt)
+    (λ c. omega arith) (λ c κs. tt)
     returns-2
-    (λ c. omega arith)
-    (λ c. omega arith)
+    (λ c. omega arith) (λ c. omega arith)
     returns-3
     mul-value
     add-value
-    (λ c. omega arith)
-    (λ c. omega arith)
+    (λ c. omega arith) (λ c. omega arith)
     loop-again
     returns-4)

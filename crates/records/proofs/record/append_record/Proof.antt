@@ -56,9 +56,7 @@ pub append-record-spec : {M : Type 1} → statement M
 append-record-spec =
     tie.close
     (tie.spec
-    (λ c κs. search needs)
-    (λ c. search needs)
-    (λ c. search needs)
+    (λ c κs. search needs) (λ c. search needs) (λ c. search needs)
     returns
     returns-2
     put-record-requires

@@ -44,8 +44,7 @@ copy-over-spec =
     loop-holds
     (λ c. omega arith)
     slice-write-out
-    (λ c. omega arith)
-    (λ c. omega arith)
+    (λ c. omega arith) (λ c. omega arith)
     loop-again
     same-length
     returns)

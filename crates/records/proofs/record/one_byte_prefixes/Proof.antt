@@ -43,6 +43,5 @@ one-byte-prefixes-spec =
     returns-2
     (λ c κs. search needs)
     returns-3
-    (λ c. search needs)
-    (λ c κs. search needs)
+    (λ c. search needs) (λ c κs. search needs)
     returns-4)

@@ -1,10 +1,9 @@
 -- `record_at` meets its contract: two prefixes of one byte are their bytes. Assumes nothing.
-use mathlib.Core.Path.{sym, ap₂, _∙_}
-use Prim.Native.Nat.{ℕ, _+_, _≤_, _<_}
+use mathlib.Core.Path.{sym, _∙_}
+use Prim.Native.Nat.{_+_, _≤_, _<_}
 use native.Mathlib.Omega.{arith}
 use lib.ListN.{length, getD}
 use borrow.Author.Needs.{needs}
-use Rattle.records.specs.Record.{recordOf}
 use Rattle.records.proofs.Parts.{at-short, prefixes-short}
 use Rattle.records.proofs.record.record_at.Statement.{statement}
 use Rattle.records.proofs.record.record_at.Tie as tie
@@ -36,9 +35,8 @@ returns : tie.Need-returns
 returns c =
     let a = c .before .before .before .before .before .before .args in
     let p = short (c .before .before .before) in
-    c .record-at-lengths .ensures
-    ∙ ap₂ (λ (k v : ℕ). recordOf (a .expiry) (a .records .now) (a .location) k v (a .location + 2)) (c .before .before .byte-at .ensures .0) (c .before .byte-at2 .ensures .0)
-    ∙ sym (at-short (a .expiry) (a .records .now) (a .location) (p .0) (p .1) (p .2))
+    rw (at-short (a .expiry) (a .records .now) (a .location) (p .0) (p .1) (p .2), ← c .before .before .byte-at .ensures .0, ← c .before .byte-at2 .ensures .0)
+    (c .record-at-lengths .ensures)
 
 pub record-at-spec : {M : Type 1} → statement M
 record-at-spec =

@@ -59,13 +59,9 @@ pub record-at-prefixes-spec : {M : Type 1} → statement M
 record-at-prefixes-spec =
     tie.close
     (tie.spec
-    (λ c κs. search needs)
-    (λ c. search needs)
-    (λ c. search needs)
+    (λ c κs. search needs) (λ c. search needs) (λ c. search needs)
     returns
-    (λ c κs. search needs)
-    (λ c. search needs)
-    (λ c. search needs)
+    (λ c κs. search needs) (λ c. search needs) (λ c. search needs)
     returns-2
     record-at-lengths-requires
     returns-3)

@@ -47,12 +47,9 @@ same-bytes-spec =
     μ-loop
     returns
     loop-holds
-    (λ c. omega arith)
-    (λ c κs. omega arith)
-    (λ c κs. omega arith)
+    (λ c. omega arith) (λ c κs. omega arith) (λ c κs. omega arith)
     returns-2
-    (λ c. omega arith)
-    (λ c. omega arith)
+    (λ c. omega arith) (λ c. omega arith)
     loop-again
     (λ c κs. omega arith)
     returns-3)

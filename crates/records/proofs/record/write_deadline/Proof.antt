@@ -28,10 +28,7 @@ pub write-deadline-spec : {M : Type 1} → statement M
 write-deadline-spec =
     tie.close
     (tie.spec
-    (λ c. search needs)
-    (λ c. search needs)
-    (λ c. search needs)
-    (λ c. search needs)
+    (λ c. search needs) (λ c. search needs) (λ c. search needs) (λ c. search needs)
     slice-write-out
     (λ c. search needs)
     slice-write-out-2

@@ -55,8 +55,7 @@ put-varint-spec =
     Inv-loop
     μ-loop
     loop-holds
-    (λ c. omega arith)
-    (λ c. omega arith)
+    (λ c. omega arith) (λ c. omega arith)
     slice-write-output
     add-at
     (λ c. omega arith)

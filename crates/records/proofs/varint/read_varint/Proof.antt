@@ -114,8 +114,7 @@ read-varint-spec =
     μ-loop
     loop-holds
     returns
-    (λ c. omega arith)
-    (λ c κs. tt)
+    (λ c. omega arith) (λ c κs. tt)
     mul-t13
     add-t14
     (λ c. omega arith)
@@ -123,13 +122,10 @@ read-varint-spec =
     mul-value
     add-value
     mul-scale
-    (λ c. omega arith)
-    (λ c. omega arith)
-    (λ c. omega arith)
+    (λ c. omega arith) (λ c. omega arith) (λ c. omega arith)
     loop-again
     returns-3
-    (λ c. omega arith)
-    (λ c κs. tt)
+    (λ c. omega arith) (λ c κs. tt)
     returns-4
     (λ c. omega arith)
     add-t22

@@ -82,8 +82,7 @@ copy-kept-spec =
     Inv-loop
     μ-loop
     loop-holds
-    (λ c. omega arith)
-    (λ c. omega arith)
+    (λ c. omega arith) (λ c. omega arith)
     mul-area
     (λ c. omega arith)
     mul-area-2

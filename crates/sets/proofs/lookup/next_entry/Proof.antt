@@ -58,11 +58,9 @@ next-entry-spec =
     μ-loop
     (λ c. search needs)
     loop-holds
-    (λ c κs. search needs)
-    (λ c. search needs)
+    (λ c κs. search needs) (λ c. search needs)
     returns
-    (λ c. search needs)
-    (λ c. search needs)
+    (λ c. search needs) (λ c. search needs)
     loop-less
     loop-again
     returns-2)

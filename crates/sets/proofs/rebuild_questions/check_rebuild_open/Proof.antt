@@ -100,8 +100,7 @@ check-rebuild-open-spec =
     returns
     returns-2
     returns-3
-    (λ c κs. search needs)
-    (λ c κs. search needs)
+    (λ c κs. search needs) (λ c κs. search needs)
     add-if4
     returns-4
     (λ c κs. search needs)

@@ -101,7 +101,6 @@ fits-spec =
     returns-4
     add-if5
     returns-5
-    (λ c. search needs)
-    (λ c. search needs)
+    (λ c. search needs) (λ c. search needs)
     bytes-fit-requires-3
     returns-6)

@@ -113,10 +113,7 @@ plan-push-spec =
     returns-3
     returns-4
     slice-aggregate-find-build-slot
-    (λ c κs. search needs)
-    (λ c. search needs)
-    (λ c. search needs)
-    (λ c. search needs)
+    (λ c κs. search needs) (λ c. search needs) (λ c. search needs) (λ c. search needs)
     plan-record-requires
     returns-5
     returns-6

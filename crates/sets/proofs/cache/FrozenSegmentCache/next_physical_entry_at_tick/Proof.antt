@@ -51,8 +51,7 @@ next-physical-entry-at-tick-spec =
     returns
     (λ c κs. search needs)
     next-entry-requires
-    (λ c. search needs)
-    (λ c. search needs)
+    (λ c. search needs) (λ c. search needs)
     returns-2
     (λ c κs. search needs)
     returns-3)

@@ -40,9 +40,7 @@ probe-hashed-at-tick-spec =
     (tie.spec
     (λ c κs. search needs)
     returns
-    (λ c κs. search needs)
-    (λ c. search needs)
-    (λ c. search needs)
+    (λ c κs. search needs) (λ c. search needs) (λ c. search needs)
     returns-2
     (λ c κs. search needs)
     returns-3)

@@ -50,7 +50,6 @@ kept-in-words-spec =
     (λ c κs. search needs)
     (λ c. omega (arith, counted c .1))
     (λ c. omega (arith, counted c .1, c .before .before .before .pre))
-    (λ c. omega arith)
-    (λ c. omega arith)
+    (λ c. omega arith) (λ c. omega arith)
     loop-again
     returns)

@@ -31,13 +31,10 @@ pub add-segment-spec : {M : Type 1} → statement M
 add-segment-spec =
     tie.close
     (tie.spec
-    (λ c κs. search needs)
-    (λ c κs. search needs)
-    (λ c. search needs)
+    (λ c κs. search needs) (λ c κs. search needs) (λ c. search needs)
     slice-write-starts
     (λ c. search needs)
     slice-write-lengths
-    (λ c. search needs)
-    (λ c. search needs)
+    (λ c. search needs) (λ c. search needs)
     returns
     returns-2)

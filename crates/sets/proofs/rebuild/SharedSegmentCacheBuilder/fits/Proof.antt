@@ -97,8 +97,7 @@ fits-spec =
     (λ c κs. search needs)
     returns
     returns-2
-    (λ c κs. search needs)
-    (λ c κs. search needs)
+    (λ c κs. search needs) (λ c κs. search needs)
     add-if3
     returns-3
     bytes-fit-requires

@@ -42,9 +42,7 @@ holds-record-spec =
     moved-location-requires
     add-stored
     view-requires
-    (λ c κs. search needs)
-    (λ c. search needs)
-    (λ c. search needs)
+    (λ c κs. search needs) (λ c. search needs) (λ c. search needs)
     returns
     (λ c κs. search needs)
     returns-2)

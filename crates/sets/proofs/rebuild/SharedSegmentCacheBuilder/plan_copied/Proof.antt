@@ -100,10 +100,7 @@ plan-copied-spec =
     (λ c κs. search needs)
     returns-3
     returns-4
-    (λ c κs. search needs)
-    (λ c. search needs)
-    (λ c. search needs)
-    (λ c κs. search needs)
+    (λ c κs. search needs) (λ c. search needs) (λ c. search needs) (λ c κs. search needs)
     returns-5
     plan-room-requires
     returns-6)

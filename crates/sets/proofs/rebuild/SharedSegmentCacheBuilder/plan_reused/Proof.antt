@@ -107,10 +107,7 @@ plan-reused-spec =
     returns-4
     holds-record-requires
     returns-5
-    (λ c κs. search needs)
-    (λ c. search needs)
-    (λ c. search needs)
-    (λ c. search needs)
+    (λ c κs. search needs) (λ c. search needs) (λ c. search needs) (λ c. search needs)
     returns-6
     returns-7
     returns-8)

@@ -21,8 +21,5 @@ reused-at-spec =
     tie.close
     (tie.spec
     moved-location-requires
-    (λ c κs. search needs)
-    (λ c κs. omega arith)
-    (λ c. search needs)
-    (λ c. search needs)
+    (λ c κs. search needs) (λ c κs. omega arith) (λ c. search needs) (λ c. search needs)
     returns)
