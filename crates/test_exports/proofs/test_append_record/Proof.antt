@@ -1,5 +1,5 @@
 -- `test_append_record` meets its contract: a record has bytes, so that none written is a record that did not fit. Assumes nothing.
-use mathlib.Core.Path.{sym, ap, _∙_}
+use mathlib.Core.Path.{ap}
 use mathlib.Core.List.{List}
 use Prim.Native.Nat.{ℕ}
 use borrow.Author.Needs.{needs}
@@ -21,7 +21,7 @@ returns : tie.Need-returns
 returns c =
     let w = c .before .before .before .before in
     let a = from w .args in
-    let none = wrote-none (bytes w) (a .rest .now) (record-long _ (a .key .now) (a .value .now) (a .expires-at)) (sym (w .append-record .ensures .0) ∙ c .before .if1 .taken) in
+    let none = wrote-none (bytes w) (a .rest .now) (record-long _ (a .key .now) (a .value .now) (a .expires-at)) (rw (w .append-record .ensures .0) at (c .before .if1 .taken)) in
     rw (← (c .before .before .before .before .before .before .expiry-of .ensures), none, c .number .ensures) (told-refused AreaTooShort (a .out .now), w .append-record .ensures .1)
 
 returns-2 : tie.Need-returns-2

@@ -1,6 +1,4 @@
 -- `ask` meets its contract. Assumes nothing.
-use mathlib.Core.Path.{sym, ap, _∙_}
-use Rattle.book.specs.Made.{getGives}
 use borrow.Author.Needs.{needs}
 use Rattle.book_lists.proofs.build_list.ask.Statement.{statement}
 use Rattle.book_lists.proofs.build_list.ask.Tie as tie
@@ -8,17 +6,17 @@ use Rattle.book_lists.proofs.build_list.ask.Tie as tie
 returns : tie.Need-returns
 returns c = λ current sets j stands.
     let k = c .before .before .before .before .before in
-    ap (getGives (k .before .before .before .before .before .before .before .before .args .arena .now)) (sym (c .before .span .given .1)) ∙ k .make-lookup .ensures .1 current sets j stands .1
+    rw (c .before .span .given .1) at (k .make-lookup .ensures .1 current sets j stands .1)
 
 returns-2 : tie.Need-returns-2
 returns-2 c = λ current sets j stands.
     let k = c .before .before .before .before in
-    ap (getGives (k .before .before .before .before .before .before .before .before .args .arena .now)) (sym (c .enum-told .given .1)) ∙ k .make-lookup .ensures .1 current sets j stands .1
+    rw (c .enum-told .given .1) at (k .make-lookup .ensures .1 current sets j stands .1)
 
 returns-3 : tie.Need-returns-3
 returns-3 c = λ current sets j stands.
     let k = c .before .before .before .before .before in
-    ap (getGives (k .before .before .before .before .before .before .before .before .args .arena .now)) (sym (c .before .refusal .given .1)) ∙ k .make-lookup .ensures .1 current sets j stands .1
+    rw (c .before .refusal .given .1) at (k .make-lookup .ensures .1 current sets j stands .1)
 
 pub ask-spec : {M : Type 1} → statement M
 ask-spec =

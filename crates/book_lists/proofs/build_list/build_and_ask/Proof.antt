@@ -1,5 +1,4 @@
 -- `build_and_ask` meets its contract. Assumes nothing.
-use mathlib.Core.Path.{_∙_}
 use mathlib.Core.List.{[], _∷_}
 use Rattle.book.specs.Calls.{push, finish, lookup}
 use Rattle.book.specs.Made.{areasOf, openLeft}
@@ -33,7 +32,7 @@ returns-2 c =
     let m = n .make-open in
     let areas = areasOf (m .last .1 .1 .0) (m .last .1 .1 .1 .0) (a .starts .now) (a .lengths .now) in
     let w = unopened (a .arena .now) in
-    k .push-twice .ensures ∙ goes-on calls (openLeft w (a .arena .now) areas) (l .builder .given .1) (m .ensures .1 w)
+    rw (k .push-twice .ensures) (goes-on calls (openLeft w (a .arena .now) areas) (l .builder .given .1) (m .ensures .1 w))
 
 pub build-and-ask-spec : {M : Type 1} → statement M
 build-and-ask-spec =

@@ -1,5 +1,5 @@
 -- `finish_and_ask` meets its contract. Assumes nothing.
-use mathlib.Core.Path.{refl, _∙_}
+use mathlib.Core.Path.{refl}
 use mathlib.Core.List.{[], _∷_}
 use Rattle.book.specs.Calls.{lookup}
 use Rattle.book.specs.Made.{areasOf, setWith, finishLeft}
@@ -26,7 +26,7 @@ returns-2 c =
     let m = n .make-finish in
     let calls = lookup 0 (a .asked-key .now) (a .asked-hash) (a .now-tick) ∷ [] in
     let areas = areasOf (m .last .1 .1 .0) (a .filter .now) (m .last .1 .1 .1 .1 .0) (m .last .1 .1 .1 .1 .1 .0) in
-    c .before .before .ask .ensures idle (setWith (k .cache .given .0 .0) areas ∷ []) 0 refl ∙ goes-on calls (finishLeft [] (a .arena .now) areas) (k .cache .given .1) (m .ensures .1 [])
+    rw (c .before .before .ask .ensures idle (setWith (k .cache .given .0 .0) areas ∷ []) 0 refl) (goes-on calls (finishLeft [] (a .arena .now) areas) (k .cache .given .1) (m .ensures .1 []))
 
 pub finish-and-ask-spec : {M : Type 1} → statement M
 finish-and-ask-spec =

@@ -1,5 +1,4 @@
 -- `copy_and_finish` meets its contract. Assumes nothing.
-use mathlib.Core.Path.{_∙_}
 use mathlib.Core.List.{[], _∷_}
 use Rattle.book.specs.Calls.{refinish, lookup}
 use Rattle.book.specs.Made.{areasOf}
@@ -17,7 +16,8 @@ returns c = λ source.
     let m = n .make-copy in
     let calls = refinish (a .scratch .now) ∷ lookup 1 (a .asked-key .now) (a .asked-hash) (a .now-tick) ∷ [] in
     let areas = areasOf (m .last .1 .1 .1 .1 .1 .0) (m .last .1 .1 .1 .1 .1 .1 .0) (a .starts .now) (a .lengths .now) in
-    k .refinish-and-ask .ensures source ∙ repush-goes-on calls (source ∷ []) (m .last .1 .1 .1 .1 .1 .1 .1 .1 .1 .0) areas (m .result) (l .rebuild-after .ensures) (m .ensures .1 (source ∷ []))
+    rw (k .refinish-and-ask .ensures source)
+    (repush-goes-on calls (source ∷ []) (m .last .1 .1 .1 .1 .1 .1 .1 .1 .1 .0) areas (m .result) (l .rebuild-after .ensures) (m .ensures .1 (source ∷ [])))
 
 pub copy-and-finish-spec : {M : Type 1} → statement M
 copy-and-finish-spec =

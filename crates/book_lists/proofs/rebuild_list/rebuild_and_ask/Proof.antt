@@ -42,7 +42,7 @@ returns-2 c =
     let areas = areasOf (lent .0) (lent .1 .0) (lent .1 .1 .0) (lent .1 .1 .1 .0) in
     let source = setWith (a .source) (areasOf (a .source-index .now) (a .source-filter .now) (a .source-starts .now) (a .source-lengths .now)) in
     let w = worldOf (a .arena .now) idle (source ∷ []) in
-    k .reuse-and-copy .ensures source ∙ goes-on calls (reopenLeft w areas) (l .builder .given .1) (m .ensures .1 idle (source ∷ []) refl)
+    rw (k .reuse-and-copy .ensures source) (goes-on calls (reopenLeft w areas) (l .builder .given .1) (m .ensures .1 idle (source ∷ []) refl))
 
 pub rebuild-and-ask-spec : {M : Type 1} → statement M
 rebuild-and-ask-spec =

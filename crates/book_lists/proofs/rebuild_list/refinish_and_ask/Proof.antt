@@ -1,5 +1,5 @@
 -- `refinish_and_ask` meets its contract. Assumes nothing.
-use mathlib.Core.Path.{refl, _∙_}
+use mathlib.Core.Path.{refl}
 use mathlib.Core.List.{[], _∷_}
 use Rattle.book.specs.Calls.{lookup}
 use Rattle.book.specs.Made.{areasOf, setWith, refinishLeft}
@@ -26,8 +26,8 @@ returns-2 c = λ source.
     let m = n .make-refinish in
     let calls = lookup 1 (a .asked-key .now) (a .asked-hash) (a .now-tick) ∷ [] in
     let areas = areasOf (m .last .1 .0) (a .filter .now) (m .last .1 .1 .1 .0) (m .last .1 .1 .1 .1 .0) in
-    c .before .before .ask .ensures idle (source ∷ setWith (k .build .given .0 .0 .cache) areas ∷ []) 1 refl
-    ∙ goes-on calls (refinishLeft (source ∷ []) (a .arena .now) areas) (k .build .given .1) (m .ensures .1 (source ∷ []))
+    rw (c .before .before .ask .ensures idle (source ∷ setWith (k .build .given .0 .0 .cache) areas ∷ []) 1 refl)
+    (goes-on calls (refinishLeft (source ∷ []) (a .arena .now) areas) (k .build .given .1) (m .ensures .1 (source ∷ [])))
 
 pub refinish-and-ask-spec : {M : Type 1} → statement M
 refinish-and-ask-spec =

@@ -1,5 +1,4 @@
 -- `reuse_and_copy` meets its contract. Assumes nothing.
-use mathlib.Core.Path.{_∙_}
 use mathlib.Core.List.{[], _∷_}
 use Rattle.book.specs.Calls.{copy, refinish, lookup}
 use Rattle.book.specs.Made.{areasOf}
@@ -18,7 +17,7 @@ returns c = λ source.
     let asked = lookup 1 (a .asked-key .now) (a .asked-hash) (a .now-tick) ∷ [] in
     let calls = copy (a .key .now) (a .value .now) (a .hash) (a .ttl) ∷ refinish (a .scratch .now) ∷ asked in
     let areas = areasOf (m .last .1 .1 .1 .1 .1 .0) (m .last .1 .1 .1 .1 .1 .1 .0) (a .starts .now) (a .lengths .now) in
-    k .copy-and-finish .ensures source ∙ repush-goes-on calls (source ∷ []) (a .arena .now) areas (m .result) (l .rebuild-after .ensures) (m .ensures .1 (source ∷ []))
+    rw (k .copy-and-finish .ensures source) (repush-goes-on calls (source ∷ []) (a .arena .now) areas (m .result) (l .rebuild-after .ensures) (m .ensures .1 (source ∷ [])))
 
 pub reuse-and-copy-spec : {M : Type 1} → statement M
 reuse-and-copy-spec =

@@ -1,5 +1,5 @@
 -- `checked_mul` meets its contract: the seconds fit exactly where they are at most the quotient. Assumes nothing.
-use Prim.Native.Nat.{_*_, _-_, _/_}
+use Prim.Native.Nat.{_*_, _/_}
 use native.Mathlib.Omega.{arith}
 use Rattle.hash_parts.proofs.Deadlines.{part-fits, product-out, product-in, secs-past, secs-fit}
 use borrow.Author.Needs.{needs}

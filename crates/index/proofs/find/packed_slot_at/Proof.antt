@@ -1,6 +1,6 @@
 -- `packed_slot_at` meets its contract: a reference lies in the two words that end and begin it. Assumes nothing.
 use mathlib.Core.Path.{_≡_, refl, sym}
-use Prim.Native.Nat.{_+_, _*_, _-_, _%_, _<_}
+use Prim.Native.Nat.{_+_, _*_, _%_, _<_}
 use native.Mathlib.Omega.{arith}
 use lib.ListN.{getD}
 use Rattle.index.proofs.PackedReads.{slot-at}
