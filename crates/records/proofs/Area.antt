@@ -206,5 +206,14 @@ module _ (s : List ℕ) (at : ℕ) (h : at + 8 ≤ length s) where
   word-of =
       let z : at + 0 ≡ at = omega arith in
       let e₀ : numberOf (part at 8 s) ≡ getD s at 0 + 256 * numberOf (part (at + 1) 7 s) = rw z at (first-byte 0 7 (omega arith)) in
-      omega (arith, e₀, first-byte 1 6 (omega arith), first-byte 2 5 (omega arith), first-byte 3 4 (omega arith), first-byte 4 3 (omega arith), first-byte 5 2 (omega arith),
-      first-byte 6 1 (omega arith), first-byte 7 0 (omega arith))
+      omega (
+        arith,
+        e₀,
+        first-byte 1 6 (omega arith),
+        first-byte 2 5 (omega arith),
+        first-byte 3 4 (omega arith),
+        first-byte 4 3 (omega arith),
+        first-byte 5 2 (omega arith),
+        first-byte 6 1 (omega arith),
+        first-byte 7 0 (omega arith),
+      )

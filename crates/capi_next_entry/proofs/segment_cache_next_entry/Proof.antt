@@ -24,7 +24,8 @@ returns-3 c =
     let test = load .before in
     rw (
       eq-eqb _ _ (test .if1 .left),
-      ← load .load-set .ensures, opened .state .given .1,
+      ← load .load-set .ensures,
+      opened .state .given .1,
       ← call .next-physical-entry-at-tick .ensures .0,
       ← step .as-probe .ensures,
       ← tell .tell-record .ensures,

@@ -45,8 +45,10 @@ returns-5 c =
     rw (
       eq-eqb _ _ (test .if1 .left),
       eq-eqb _ _ (test₂ .if2 .left),
-      ← load .load-builder .ensures, opened .state .given .1,
-      ← life .load-lifetime .ensures, lived .ttl .given .1,
+      ← load .load-builder .ensures,
+      opened .state .given .1,
+      ← life .load-lifetime .ensures,
+      lived .ttl .given .1,
       ← call .push .ensures,
       ← tell .tell-push .ensures,
     )

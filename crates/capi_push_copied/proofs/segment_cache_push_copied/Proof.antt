@@ -31,8 +31,10 @@ returns-4 c =
     rw (
       eq-eqb _ _ (second .before .if1 .left),
       eq-eqb _ _ (second .if2 .left),
-      ← loads .load-rebuild .ensures, given .state .given .1,
-      ← lives .load-lifetime .ensures, c .enum-told2 .given .1,
+      ← loads .load-rebuild .ensures,
+      given .state .given .1,
+      ← lives .load-lifetime .ensures,
+      c .enum-told2 .given .1,
     )
 
 returns-5 : tie.Need-returns-5
@@ -48,8 +50,10 @@ returns-5 c =
     rw (
       eq-eqb _ _ (second .before .if1 .left),
       eq-eqb _ _ (second .if2 .left),
-      ← loads .load-rebuild .ensures, given .state .given .1,
-      ← lives .load-lifetime .ensures, timed .ttl .given .1,
+      ← loads .load-rebuild .ensures,
+      given .state .given .1,
+      ← lives .load-lifetime .ensures,
+      timed .ttl .given .1,
       ← pushes .push-copied .ensures,
       ← tells .tell-rebuild-push .ensures,
     )

@@ -60,8 +60,10 @@ returns-4 c =
     let load = opened .before .before in
     rw (
       eq-eqb _ _ (load .before .if1 .left),
-      ← load .load-setting .ensures, opened .config .given .1,
-      ← wide .width-refusal .ensures, call .before .if2 .left,
+      ← load .load-setting .ensures,
+      opened .config .given .1,
+      ← wide .width-refusal .ensures,
+      call .before .if2 .left,
       ← call .encoded-record-bytes .ensures,
       ← tell .tell-size .ensures,
     )

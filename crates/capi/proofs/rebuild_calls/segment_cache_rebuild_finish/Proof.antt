@@ -32,7 +32,8 @@ returns-4 c =
     rw (
       eq-eqb _ _ (second .before .if1 .left),
       eq-eqb _ _ (second .if2 .left),
-      ← loads .load-rebuild .ensures, given .state .given .1,
+      ← loads .load-rebuild .ensures,
+      given .state .given .1,
       ← finishes .finish .ensures,
       ← tells .tell-rebuild-finish .ensures,
     )

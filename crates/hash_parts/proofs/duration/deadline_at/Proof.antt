@@ -1,5 +1,4 @@
 -- `deadline_at` meets its contract: past the limit every number of ticks is refused. Assumes nothing.
-use Prim.Native.Nat.{_-_}
 use native.Mathlib.Omega.{arith}
 use Rattle.hash_parts.specs.Duration.{nanosOf}
 use Rattle.hash_parts.proofs.Deadlines.{deadline-in, deadline-out}
