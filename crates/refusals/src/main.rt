@@ -1,91 +1,54 @@
 // Refusals at the boundaries of each number: 9, 11 and 12, which the program passage cannot reach, and others
-// beside them. Each line names what was changed in a state that passes, and the number of the answer.
-mod pushes;
+// beside them. The cases are lines of standard input: each names what is changed in words that pass, and how.
+// A line of the output has the name, and the number of each call's answer: 0 where the call is accepted.
+use crate::calls::ask;
+use crate::place::Words;
+use crate::text::changed;
+use crate::text::find;
+use libc::STDIN_FILENO;
+
+mod build_calls;
+mod calls;
+mod place;
 mod rebuild_calls;
-mod rebuild_opens;
-mod rebuild_source;
-mod rebuilds_asked;
-mod sets_asked;
+mod set_calls;
+mod text;
 
-use hash_parts::duration::Duration;
-use hash_parts::setting::SegmentCacheConfig;
-use sets::builder::OpenAnswer;
-use sets::builder::SegmentCacheBuilder;
+fn main() {
+    let mut text = [0; 16_384];
+    let length = io::read_full(STDIN_FILENO, &mut text);
+    run(&text[0..length]);
+}
 
-// Opens for so many records with just the areas that seven records need.
-fn open(name: &[u8], config: SegmentCacheConfig, records: usize) {
-    let segments = [0u64; 256];
-    match SegmentCacheBuilder::try_new(
-        config,
-        records,
-        &mut [0u64; 8],
-        &mut [0u64; 1],
-        &segments,
-        &segments,
-        &[0u8; 16],
-    ) {
-        OpenAnswer::Opened(_) => show::number(name, 0),
-        OpenAnswer::Refused(refusal) => show::number(name, refusal.number() as u64),
+fn run(text: &[u8]) {
+    let mut passing = [0; 48];
+    let mut at = 0;
+    while at < text.len() {
+        let end = find(text, at, b'\n');
+        let next = run_line(&text[at..end], passing);
+        passing = next;
+        at = end + 1;
     }
 }
 
-fn opens() {
-    let plain = SegmentCacheConfig::without_expiry();
-    open(b"open", plain, 7);
-    open(b"open, a bucket too many", plain, 8);
-    open(
-        b"open, occupancy 0",
-        plain.with_target_bucket_occupancy(0),
-        1,
-    );
-    open(
-        b"open, occupancy 8",
-        plain.with_target_bucket_occupancy(8),
-        1,
-    );
-    open(
-        b"open, filter words too many",
-        plain.with_negative_filter_bits_per_entry(10),
-        7,
-    );
-    open(b"open, records past the largest", plain, 1_048_577);
-    open(
-        b"open, tick of 999999999 ns",
-        SegmentCacheConfig::with_relative_expiry(Duration {
-            secs: 0,
-            nanos: 999_999_999,
-        }),
-        1,
-    );
-    open(
-        b"open, tick of 1000000000 ns",
-        SegmentCacheConfig::with_relative_expiry(Duration {
-            secs: 0,
-            nanos: 1_000_000_000,
-        }),
-        1,
-    );
-    open(
-        b"open, tick of no length",
-        SegmentCacheConfig::with_relative_expiry(Duration { secs: 0, nanos: 0 }),
-        1,
-    );
-    // Nanoseconds are asked before the occupancy.
-    open(
-        b"open, bad tick and occupancy",
-        SegmentCacheConfig::with_relative_expiry(Duration {
-            secs: 0,
-            nanos: 1_000_000_000,
-        }).with_target_bucket_occupancy(0),
-        1,
-    );
+// The words that pass, for the lines after this one.
+fn run_line(line: &[u8], passing: Words) -> Words {
+    if line.len() == 0 {
+        return passing;
+    }
+    let first = line[0];
+    if first == b'#' {
+        return passing;
+    }
+    if first == b'=' {
+        return changed(line, [0; 48]);
+    }
+    ask(name_of(line), changed(line, passing));
+    passing
 }
 
-fn main() {
-    opens();
-    pushes::run();
-    sets_asked::run();
-    rebuild_opens::run();
-    rebuilds_asked::run();
-    rebuild_calls::run();
+// What stands before the changes.
+fn name_of(line: &[u8]) -> &[u8] {
+    let end = find(line, 0, b':');
+    &line[0..end]
 }

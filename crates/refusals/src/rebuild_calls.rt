@@ -1,249 +1,180 @@
-// The questions of an open rebuild's calls after question 1, each at its boundary.
-use crate::rebuild_source::arena;
-use crate::rebuild_source::lengths;
-use crate::rebuild_source::opened;
-use crate::rebuilds_asked::finish_number;
-use crate::rebuilds_asked::push_number;
-use hash_parts::duration::Duration;
-use hash_parts::duration::Lifetime;
-use hash_parts::setting::SegmentCacheConfig;
-use sets::rebuild::RebuildOpenAnswer;
-use sets::rebuild::SegmentRecordLocation;
-use sets::rebuild::SharedSegmentCacheBuilder;
+// The calls of a rebuild. Its source has one record of five bytes at 0: two of header, key "a", value "AB".
+use crate::place;
+use crate::place::Words;
+use crate::place::lent;
+use crate::text::between;
+use capi::rebuild_calls::segment_cache_rebuild_finish;
+use capi::rebuild_calls::segment_cache_rebuild_open;
+use capi_push_copied::segment_cache_push_copied;
+use capi_push_reused::segment_cache_push_reused;
 
-fn show_reused(
-    name: &[u8],
-    builder: SharedSegmentCacheBuilder,
-    key: &[u8],
-    value: &[u8],
-    location: usize,
-    header_bytes: usize,
-    index: &mut [u64],
-) {
-    let source = SegmentRecordLocation {
-        location,
-        header_bytes,
-    };
-    let answer = builder.push_reused(
-        1,
-        key,
-        value,
-        source,
-        index,
-        &mut [0u64; 1],
-        &[0u64; 256],
-        &lengths(),
-        &arena(),
-    );
-    show::number(name, push_number(answer));
+// Flags that keep every segment but one. They are one more than any case lends, so that none need be dropped.
+fn keep_flags(dropped: usize) -> [u8; 258] {
+    let mut flags = [1; 258];
+    flags[dropped % 258] = 0;
+    flags
+}
+
+pub(crate) fn rebuild_open(words: Words) -> u64 {
+    let flags = keep_flags(words[place::DROPPED] as usize);
+    let flag_count = lent(words[place::FLAGS], 258);
+    let arena_bytes = lent(words[place::ARENA], 16);
+    let source_starts = [words[place::START]; 256];
+    let source_lengths = [words[place::LENGTH]; 256];
+    let source_starts_words = lent(words[place::STARTS], 256);
+    let source_lengths_words = lent(words[place::LENGTHS], 256);
+    let arena = [0; 16];
+    open_in_new_areas(
+        words,
+        &source_starts[0..source_starts_words],
+        &source_lengths[0..source_lengths_words],
+        &arena[0..arena_bytes],
+        &flags[0..flag_count],
+    )
+}
+
+fn open_in_new_areas(
+    words: Words,
+    source_starts: &[u64],
+    source_lengths: &[u64],
+    arena: &[u8],
+    flags: &[u8],
+) -> u64 {
+    let records = words[place::RECORDS] as usize;
+    let copies = words[place::COPIES] as usize;
+    let index_words = lent(words[place::INDEX], 8);
+    let filter_words = lent(words[place::FILTER], 1);
+    let starts_words = lent(words[place::NEW_STARTS], 256);
+    let lengths_words = lent(words[place::NEW_LENGTHS], 256);
+    let mut index = [0; 8];
+    let mut filter = [0; 1];
+    let mut starts = [0; 256];
+    let mut lengths = [0; 256];
+    segment_cache_rebuild_open(
+        &words[0..15],
+        source_starts,
+        source_lengths,
+        arena,
+        records,
+        copies,
+        flags,
+        0,
+        &mut [0; 22],
+        &mut index[0..index_words],
+        &mut filter[0..filter_words],
+        &mut starts[0..starts_words],
+        &mut lengths[0..lengths_words],
+    )
+}
+
+// Key and value are parts of the arena, where bytes of others stand behind the record.
+pub(crate) fn push_reused(words: Words) -> u64 {
+    let starts_words = lent(words[place::STARTS], 256);
+    let lengths_words = lent(words[place::LENGTHS], 256);
+    let starts = [words[place::START]; 256];
+    let lengths = [words[place::LENGTH]; 256];
+    let arena = b"\x01\x02aABACb\0\0\0\0\0\0\0\0";
+    let key_from = words[place::KEY_FROM] as usize;
+    let key_to = words[place::KEY_TO] as usize;
+    let value_from = words[place::VALUE_FROM] as usize;
+    let value_to = words[place::VALUE_TO] as usize;
+    reuse(
+        words,
+        between(arena, key_from, key_to),
+        between(arena, value_from, value_to),
+        &starts[0..starts_words],
+        &lengths[0..lengths_words],
+        between(arena, 0, words[place::ARENA] as usize),
+    )
 }
 
 fn reuse(
-    name: &[u8],
-    builder: SharedSegmentCacheBuilder,
+    mut words: Words,
     key: &[u8],
     value: &[u8],
-    location: usize,
-    header_bytes: usize,
-) {
-    show_reused(
-        name,
-        builder,
+    starts: &[u64],
+    lengths: &[u64],
+    arena: &[u8],
+) -> u64 {
+    let location = words[place::LOCATION] as usize;
+    let header_bytes = words[place::HEADER_BYTES] as usize;
+    let index_words = lent(words[place::INDEX], 8);
+    let filter_words = lent(words[place::FILTER], 1);
+    let mut index = [words[place::INDEX_WORD]; 8];
+    let mut filter = [0; 1];
+    segment_cache_push_reused(
+        &mut words[0..22],
+        1,
         key,
         value,
         location,
         header_bytes,
-        &mut [0u64; 8],
-    );
+        &mut index[0..index_words],
+        &mut filter[0..filter_words],
+        starts,
+        lengths,
+        arena,
+        &mut [0; 2],
+    )
 }
 
-// The source's one record stands at 0: two bytes of header, key "a", value "AB".
-fn records(b: SharedSegmentCacheBuilder) {
-    reuse(b"reused", b, b"a", b"AB", 0, 2);
-    reuse(b"reused, another key", b, b"b", b"AB", 0, 2);
-    reuse(b"reused, a longer key", b, b"aA", b"B", 0, 2);
-    reuse(b"reused, another value", b, b"a", b"AC", 0, 2);
-    reuse(b"reused, a shorter value", b, b"a", b"A", 0, 2);
-    reuse(b"reused, a byte of header less", b, b"a", b"AB", 0, 1);
-    reuse(b"reused, a byte of header more", b, b"a", b"AB", 0, 3);
-    reuse(b"reused, a byte on", b, b"a", b"AB", 1, 2);
-    reuse(b"reused, past the segment", b, b"a", b"AB", 5, 2);
+// The record to copy has four bytes.
+pub(crate) fn push_copied(words: Words) -> u64 {
+    let lifetime_words = lent(words[place::LIFETIME], 2);
+    let starts_words = lent(words[place::STARTS], 256);
+    let lengths_words = lent(words[place::LENGTHS], 256);
+    let lifetime = [words[place::SECONDS], words[place::NANOSECONDS]];
+    let starts = [words[place::START]; 256];
+    let lengths = [words[place::LENGTH]; 256];
+    copy(
+        words,
+        &lifetime[0..lifetime_words],
+        &starts[0..starts_words],
+        &lengths[0..lengths_words],
+    )
 }
 
-fn reused_questions(b: SharedSegmentCacheBuilder) {
-    let all_in = SharedSegmentCacheBuilder {
-        inserted_entries: 7,
-        ..b
-    };
-    reuse(b"reused, all announced in", all_in, b"a", b"AB", 0, 2);
-    reuse(
-        b"reused, segment not kept",
-        b,
-        b"a",
-        b"AB",
-        0x1_0000_0000,
-        2,
-    );
-    reuse(b"reused, segment 256", b, b"a", b"AB", 0x100_0000_0000, 2);
-    // The kept segment is asked before the record, and the walk comes last.
-    reuse(
-        b"reused, another key of a segment not kept",
-        b,
-        b"b",
-        b"AB",
-        0x1_0000_0000,
-        2,
-    );
-    show_reused(
-        b"reused, no empty slot",
-        b,
-        b"a",
-        b"AB",
-        0,
-        2,
-        &mut [1u64; 8],
-    );
-    show_reused(
-        b"reused, another key and no empty slot",
-        b,
-        b"b",
-        b"AB",
-        0,
-        2,
-        &mut [1u64; 8],
-    );
-}
-
-fn show_copied(name: &[u8], builder: SharedSegmentCacheBuilder, ttl: Lifetime, index: &mut [u64]) {
-    let answer = builder.push_copied(
+fn copy(mut words: Words, lifetime: &[u64], starts: &[u64], lengths: &[u64]) -> u64 {
+    let index_words = lent(words[place::INDEX], 8);
+    let filter_words = lent(words[place::FILTER], 1);
+    let arena_bytes = lent(words[place::ARENA], 16);
+    let mut index = [words[place::INDEX_WORD]; 8];
+    let mut filter = [0; 1];
+    let mut arena = [0; 16];
+    segment_cache_push_copied(
+        &mut words[0..22],
         2,
         b"b",
         b"C",
-        ttl,
-        index,
-        &mut [0u64; 1],
-        &[0u64; 256],
-        &lengths(),
-        &mut arena(),
-    );
-    show::number(name, push_number(answer));
+        lifetime,
+        &mut index[0..index_words],
+        &mut filter[0..filter_words],
+        starts,
+        lengths,
+        &mut arena[0..arena_bytes],
+        &mut [0; 2],
+    )
 }
 
-fn copy(name: &[u8], builder: SharedSegmentCacheBuilder, ttl: Lifetime) {
-    show_copied(name, builder, ttl, &mut [0u64; 8]);
-}
-
-fn brief(secs: u64, nanos: u32) -> Lifetime {
-    Lifetime::For(Duration { secs, nanos })
-}
-
-fn lifetimes(b: SharedSegmentCacheBuilder) {
-    copy(b"copied", b, Lifetime::Never);
-    copy(
-        b"copied, lifetime where expiry is off",
-        b,
-        brief(0, 999_999_999),
-    );
-    copy(
-        b"copied, lifetime of 1000000000 ns",
-        b,
-        brief(0, 1_000_000_000),
-    );
-    let config = SegmentCacheConfig::with_relative_expiry(Duration { secs: 1, nanos: 0 });
-    let last = SharedSegmentCacheBuilder {
-        config: config.with_negative_filter_bits_per_entry(8),
-        source_now_tick: 65_533,
-        ..b
-    };
-    copy(b"copied, deadline 65534", last, brief(1, 0));
-    copy(b"copied, deadline 65535", last, brief(1, 1));
-}
-
-// A copied record takes four bytes of the eleven after the source.
-fn copied_questions(b: SharedSegmentCacheBuilder) {
-    let all_in = SharedSegmentCacheBuilder {
-        inserted_entries: 7,
-        ..b
-    };
-    copy(b"copied, all announced in", all_in, Lifetime::Never);
-    // Nanoseconds are asked before the count, and the count before the lifetime.
-    copy(
-        b"copied, all in, lifetime of 1000000000 ns",
-        all_in,
-        brief(0, 1_000_000_000),
-    );
-    copy(b"copied, all in, lifetime", all_in, brief(1, 0));
-    let fits = SharedSegmentCacheBuilder {
-        copied_bytes: 7,
-        ..b
-    };
-    let byte_short = SharedSegmentCacheBuilder {
-        copied_bytes: 8,
-        ..b
-    };
-    copy(b"copied, to the arena's end", fits, Lifetime::Never);
-    copy(b"copied, a byte past it", byte_short, Lifetime::Never);
-    show_copied(b"copied, no empty slot", b, Lifetime::Never, &mut [1u64; 8]);
-    show_copied(
-        b"copied, a byte past the end, no empty slot",
-        byte_short,
-        Lifetime::Never,
-        &mut [1u64; 8],
-    );
-}
-
-fn finish(name: &[u8], builder: SharedSegmentCacheBuilder, scratch: &mut [u64]) {
-    let answer = builder.finish(
-        &mut [0u64; 8],
-        &mut [0u64; 256],
-        &mut lengths(),
-        scratch,
-        &arena(),
-    );
-    show::number(name, finish_number(answer));
-}
-
-fn finishes(b: SharedSegmentCacheBuilder) {
-    let one_missing = SharedSegmentCacheBuilder {
-        inserted_entries: 6,
-        ..b
-    };
-    let all_in = SharedSegmentCacheBuilder {
-        inserted_entries: 7,
-        ..b
-    };
-    let config = all_in.config;
-    let words = SharedSegmentCacheBuilder {
-        config: config.with_atomic_word_index(),
-        ..all_in
-    };
-    finish(b"rebuild finish", all_in, &mut [0u64; 1]);
-    finish(b"rebuild finish too early", one_missing, &mut [0u64; 1]);
-    finish(
-        b"rebuild finish, scratch a word short",
-        all_in,
-        &mut [0u64; 0],
-    );
-    finish(
-        b"rebuild finish too early, scratch a word short",
-        one_missing,
-        &mut [0u64; 0],
-    );
-    finish(
-        b"rebuild finish, no scratch for the other layout",
-        words,
-        &mut [0u64; 0],
-    );
-}
-
-pub(crate) fn run() {
-    let RebuildOpenAnswer::Opened(b) = opened(1, &[1u8; 1]) else {
-        show::text(b"refused\n");
-        return;
-    };
-    records(b);
-    reused_questions(b);
-    lifetimes(b);
-    copied_questions(b);
-    finishes(b);
+pub(crate) fn rebuild_finish(words: Words) -> u64 {
+    let index_words = lent(words[place::INDEX], 8);
+    let starts_words = lent(words[place::STARTS], 256);
+    let lengths_words = lent(words[place::LENGTHS], 256);
+    let scratch_words = lent(words[place::SCRATCH], 1);
+    let arena_bytes = lent(words[place::ARENA], 16);
+    let mut index = [0; 8];
+    let mut starts = [words[place::START]; 256];
+    let mut lengths = [words[place::LENGTH]; 256];
+    let mut scratch = [0; 1];
+    let arena = [0; 16];
+    segment_cache_rebuild_finish(
+        &words[0..22],
+        &mut index[0..index_words],
+        &mut starts[0..starts_words],
+        &mut lengths[0..lengths_words],
+        &mut scratch[0..scratch_words],
+        &arena[0..arena_bytes],
+        &mut [0; 15],
+        &mut [0; 4],
+    )
 }
