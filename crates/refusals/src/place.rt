@@ -32,10 +32,10 @@ pub(crate) const SECONDS: usize = 32;
 
 pub(crate) const NANOSECONDS: usize = 33;
 
-// Announced records, and copies among them.
+// What a builder or a rebuild announces: records, and bytes of copies.
 pub(crate) const RECORDS: usize = 34;
 
-pub(crate) const COPIES: usize = 35;
+pub(crate) const COPIED_BYTES: usize = 35;
 
 // How many keep flags are lent, and the segment that they drop.
 pub(crate) const FLAGS: usize = 36;

@@ -41,7 +41,7 @@ fn open_in_new_areas(
     flags: &[u8],
 ) -> u64 {
     let records = words[place::RECORDS] as usize;
-    let copies = words[place::COPIES] as usize;
+    let copied_bytes = words[place::COPIED_BYTES] as usize;
     let index_words = lent(words[place::INDEX], 8);
     let filter_words = lent(words[place::FILTER], 1);
     let starts_words = lent(words[place::NEW_STARTS], 256);
@@ -56,7 +56,7 @@ fn open_in_new_areas(
         source_lengths,
         arena,
         records,
-        copies,
+        copied_bytes,
         flags,
         0,
         &mut [0; 22],
