@@ -21,7 +21,7 @@ fn main() {
 }
 
 fn run(text: &[u8]) {
-    let mut passing = [0; 48];
+    let mut passing = [0; place::COUNT];
     let mut at = 0;
     while at < text.len() {
         let end = find(text, at, b'\n');
@@ -41,7 +41,7 @@ fn run_line(line: &[u8], passing: Words) -> Words {
         return passing;
     }
     if first == b'=' {
-        return changed(line, [0; 48]);
+        return changed(line, [0; place::COUNT]);
     }
     ask(name_of(line), changed(line, passing));
     passing

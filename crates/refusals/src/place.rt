@@ -2,7 +2,9 @@
 // builder, 15 of a set, 22 of a rebuild. The others say what is lent and given to the calls.
 ghost use Prim.Native.Nat.{_≤_};
 
-pub(crate) type Words = [u64; 48];
+pub(crate) const COUNT: usize = 47;
+
+pub(crate) type Words = [u64; COUNT];
 
 // How much of each area is lent.
 pub(crate) const INDEX: usize = 22;

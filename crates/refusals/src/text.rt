@@ -1,4 +1,5 @@
 // Lines of the table: a name, and behind a colon the changes, each a place, `=` and a word in decimal.
+use crate::place;
 use crate::place::Words;
 use hash_parts::hash::wrapping_mul;
 ghost use Prim.Native.Nat.{_≤_};
@@ -26,8 +27,8 @@ pub(crate) fn changed(line: &[u8], from: Words) -> Words {
     while at < line.len() {
         let equals = find(line, at, b'=');
         let end = find(line, equals, b' ');
-        let place = number(between(line, at, equals)) as usize % 48;
-        words[place] = number(between(line, equals + 1, end));
+        let changed_at = number(between(line, at, equals)) as usize % place::COUNT;
+        words[changed_at] = number(between(line, equals + 1, end));
         at = end + 1;
     }
     words
