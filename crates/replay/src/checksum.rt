@@ -24,7 +24,13 @@ pub(crate) fn with_words(sum: u64, words: &[u64], count: u64) -> u64 {
     total
 }
 
-pub(crate) fn with_bytes(sum: u64, bytes: &[u8]) -> u64 {
+// The sum with so many bytes of the arena from a place on.
+pub(crate) fn with_bytes(sum: u64, arena: &[u8], place: u64, count: u64) -> u64 {
+    let span = Span {
+        at: place as usize,
+        len: count as usize,
+    };
+    let bytes = value_slice(arena, span);
     let mut total = sum;
     let mut i = 0;
     while i < bytes.len() {
@@ -49,22 +55,16 @@ pub(crate) fn with_segments(
     let mut total = sum;
     let mut i = 0;
     while i < starts.len() {
-        if i as u64 >= count {
+        if i as u64 >= count || i >= lengths.len() {
             return total;
         }
-        if i >= lengths.len() {
-            return total;
-        }
-        total = with_segment(total, starts[i], lengths[i], arena);
+        total = with_bytes(
+            joined(joined(total, starts[i]), lengths[i]),
+            arena,
+            starts[i],
+            lengths[i],
+        );
         i += 1;
     }
     total
-}
-
-fn with_segment(sum: u64, start: u64, length: u64, arena: &[u8]) -> u64 {
-    let span = Span {
-        at: start as usize,
-        len: length as usize,
-    };
-    with_bytes(joined(joined(sum, start), length), value_slice(arena, span))
 }

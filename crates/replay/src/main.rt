@@ -1,69 +1,97 @@
 // Replays the Rust's answers: each line of standard input is a call and what the Rust answered. Counts
 // the calls, and the answers of the port that differ. The port is asked by the calls that it exports.
-use crate::areas::unmade;
-use crate::calls::set_asked;
-use crate::calls::set_made;
-use crate::program::next_turn;
-use crate::program::read_line;
-use crate::program::replay_line;
-use crate::program::turns_left;
-use crate::program::without_line;
-use crate::tally::Tally;
-use passage_lines::input::Input;
+use crate::calls::answer_words;
+use crate::calls::make_call;
+use crate::calls::part;
+use crate::calls::shown;
+use crate::calls::state_words;
+use crate::line::LONGEST_LINE;
+use crate::line::Line;
+use crate::line::MOST_BYTES;
+use crate::line::next_line;
+use crate::line::number_after;
+use crate::line::read_line;
+use crate::tally::START;
 
-mod answer;
-mod areas;
-mod build;
 mod calls;
 mod checksum;
-mod lookups;
-mod names;
-mod program;
-mod rebuilds;
-mod request;
+mod line;
 mod tally;
 
 // The set that an open makes, and three rebuilds.
 const SETS: usize = 4;
 
+const ARENA_BYTES: usize = 131_072;
+
 fn main() {
-    let mut block = [0; 65_536];
-    let mut key = [0; 1_024];
-    let mut value = [0; 32_768];
-    let mut arena = [0; 131_072];
-    let none = unmade();
-    let mut sets = [none; SETS];
-    let mut tally = Tally::new();
-    let nothing = Input {
-        at: 0,
-        end: 0,
-        skipping: false,
-    };
-    let mut reader = without_line(nothing, false);
-    let mut made = 0;
-    let mut left = u64::MAX;
-    while left > 0 {
-        left = turns_left(left, reader.ended);
-        let input = reader.input;
-        reader = next_turn(input, &mut block);
-        let request = read_line(reader, &block, &mut key, &mut value);
-        made = set_made(request, made);
-        let asked = set_asked(request, made) % SETS;
-        let source = request.n0 as usize % SETS;
-        let replayed = replay_line(
-            tally,
-            request,
-            reader,
-            &block,
-            &key,
-            &value,
-            sets[source],
-            sets[asked],
+    let mut text = [0; LONGEST_LINE];
+    let mut bytes = [0; MOST_BYTES];
+    let mut arena = [0; ARENA_BYTES];
+    // The words of the build or the rebuild that is open.
+    let mut state = [0; 22];
+    let mut sets = [[0; 15]; SETS];
+    let mut indexes = [[0; 1_024]; SETS];
+    let mut filters = [[0; 1_024]; SETS];
+    let mut starts = [[0; 256]; SETS];
+    let mut sizes = [[0; 256]; SETS];
+    let mut tally = START;
+    let mut number = 1;
+    while number < u64::MAX {
+        let end = next_line(&mut text);
+        let line = read_line(&text, end, &mut bytes);
+        let told = answer(
+            line,
+            &bytes,
             &mut arena,
+            &mut state,
+            &mut sets,
+            &mut indexes,
+            &mut filters,
+            &mut starts,
+            &mut sizes,
         );
-        let areas = replayed.areas;
-        sets[asked] = areas;
-        tally = replayed.tally;
+        tally = tally.compared(number, line, told);
+        number = number_after(number, end);
     }
     tally.show();
+}
+
+// What the port answers to a line, as the list has it.
+fn answer(
+    line: Line,
+    bytes: &[u8; MOST_BYTES],
+    arena: &mut [u8; ARENA_BYTES],
+    state: &mut [u64],
+    sets: &mut [[u64; 15]; SETS],
+    indexes: &mut [[u64; 1_024]; SETS],
+    filters: &mut [[u64; 1_024]; SETS],
+    starts: &mut [[u64; 256]; SETS],
+    sizes: &mut [[u64; 256]; SETS],
+) -> [u64; 12] {
+    let kind = line.kind;
+    let numbers = line.numbers;
+    let made = numbers[1] as usize % SETS;
+    let source = numbers[2] as usize % SETS;
+    let source_set = sets[source];
+    let source_starts = starts[source];
+    let source_sizes = sizes[source];
+    let mut told = [0; 12];
+    let refusal = make_call(
+        line,
+        bytes,
+        &source_set,
+        &source_starts,
+        &source_sizes,
+        part(state, 0, state_words(kind)),
+        &mut sets[made],
+        &mut indexes[made],
+        &mut filters[made],
+        &mut starts[made],
+        &mut sizes[made],
+        arena,
+        part(&mut told, 1, answer_words(kind)),
+    );
+    told[0] = refusal;
+    let set = sets[made];
+    shown(kind, told, state, set, arena)
 }

@@ -1,50 +1,37 @@
 // Counting the calls by kind, and telling differences.
-use crate::names::COMMENT;
-use crate::names::KINDS;
-use crate::names::NO_LINE;
-use crate::names::UNREADABLE;
-use crate::names::name_of;
-use crate::request::between;
-use crate::request::field_end;
-use records::record::same_bytes;
+use crate::calls::NOTHING;
+use crate::calls::UNREADABLE;
+use crate::calls::name_of;
+use crate::line::ANSWER;
+use crate::line::Line;
 
 const SHOWN_DIFFERENCES: u64 = 10;
 
+// The refusal, and the words that a call writes.
+const WORDS: usize = 12;
+
 pub(crate) struct Tally {
-    // The number of the line that was read last.
-    pub(crate) line: u64,
-    pub(crate) differences: u64,
-    pub(crate) counts: [u64; KINDS],
+    differences: u64,
+    counts: [u64; 16],
 }
+
+pub(crate) const START: Tally = Tally {
+    differences: 0,
+    counts: [0; 16],
+};
 
 fn more(count: u64) -> u64 {
     std::num::wrapping_add_u64(count, 1)
 }
 
 impl Tally {
-    pub(crate) fn new() -> Tally {
-        Tally {
-            line: 0,
-            differences: 0,
-            counts: [0; KINDS],
-        }
-    }
-
-    // One call more, which the Rust answered with a text and the port with another.
-    pub(crate) fn compared(self, kind: usize, wanted: &[u8], answer: &[u8]) -> Tally {
-        if kind == NO_LINE {
-            return self;
-        }
-        let line = more(self.line);
-        if kind == COMMENT {
-            return Tally { line, ..self };
-        }
-        let at = kind % KINDS;
+    // One line more, with what the port told.
+    pub(crate) fn compared(self, number: u64, line: Line, told: [u64; WORDS]) -> Tally {
+        let at = line.kind % 16;
         let mut counts = self.counts;
         counts[at] = more(counts[at]);
         Tally {
-            line,
-            differences: with_difference(self.differences, line, wanted, answer),
+            differences: with_difference(self.differences, number, line, told),
             counts,
         }
     }
@@ -52,32 +39,44 @@ impl Tally {
     pub(crate) fn show(self) {
         let counts = self.counts;
         let mut kind = 0;
-        while kind < UNREADABLE {
+        while kind <= UNREADABLE {
             show_count(name_of(kind), counts[kind]);
             kind += 1;
         }
-        show::number(b"unreadable lines", counts[UNREADABLE]);
-        show::number(b"differences", self.differences);
+        show::number(b"differences     ", self.differences);
     }
 }
 
-fn show_count(name: [u8; 16], count: u64) {
-    show::number(between(&name, 0, field_end(&name, 0)), count);
-}
-
 // The number of differences, and where there is one more, its line; only the first ones are shown.
-fn with_difference(before: u64, line: u64, wanted: &[u8], answer: &[u8]) -> u64 {
-    if same_bytes(wanted, answer) {
+fn with_difference(before: u64, number: u64, line: Line, told: [u64; WORDS]) -> u64 {
+    let numbers = line.numbers;
+    let at = first_difference(numbers, told);
+    if at >= WORDS || line.kind == NOTHING {
         return before;
     }
     if before < SHOWN_DIFFERENCES {
         show::text(b"line");
-        show::decimal(line);
-        show::text(b": Rust");
-        show::text(wanted);
-        show::text(b", port");
-        show::text(answer);
-        show::text(b"\n");
+        show::decimal(number);
+        show::text(b": word");
+        show::decimal(at as u64);
+        show::text(b", Rust");
+        show::decimal(numbers[ANSWER + at]);
+        show::number(b", port", told[at]);
     }
     more(before)
+}
+
+fn show_count(name: [u8; 16], count: u64) {
+    show::number(&name, count);
+}
+
+fn first_difference(numbers: [u64; 22], told: [u64; WORDS]) -> usize {
+    let mut i = 0;
+    while i < WORDS {
+        if numbers[ANSWER + i] != told[i] {
+            return i;
+        }
+        i += 1;
+    }
+    i
 }

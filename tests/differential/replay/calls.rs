@@ -31,23 +31,23 @@ pub struct Build<'a> {
     builder: Builder,
 }
 
-pub fn open_line(list: &mut List, setting: Setting, records: usize, answer: &str) {
-    let Setting {
-        tick,
-        occupied,
-        packed,
-        bits,
-    } = setting;
-    let numbers = vec![records as u64, occupied.into(), packed.into(), bits.into()];
-    let numbers = [numbers, text::optional(tick)].concat();
-    list.call("open", &[], &[], &numbers, answer);
+// The first number of a line is that of the set which it makes or asks. An open makes the first.
+const FIRST: u64 = 0;
+
+// The setting stands as in the words that the call takes.
+pub fn open_line(list: &mut List, setting: Setting, records: usize, rust: Result<[u64; 2], u64>) {
+    let [flag, secs, nanos] = text::optional(1, setting.tick);
+    let Setting { packed, bits, .. } = setting;
+    let layout = [setting.occupied.into(), packed.into(), bits.into()];
+    let numbers = [&[FIRST, records as u64, flag, secs, nanos], &layout[..]].concat();
+    list.call("open", &[], &[], &numbers, &text::answer(rust));
 }
 
 impl<'a> Build<'a> {
     pub fn open(list: &'a mut List, setting: Setting, records: usize) -> Option<Build<'a>> {
         let builder = Builder::open(setting, records).ok()?;
-        let counts = builder.counts();
-        open_line(list, setting, records, &text::spaced(&counts[2..4]));
+        let [_, _, buckets, words, ..] = builder.counts();
+        open_line(list, setting, records, Ok([buckets, words]));
         Some(Build {
             list,
             setting,
@@ -63,20 +63,27 @@ impl<'a> Build<'a> {
         let place = [slot.unwrap_or(0) as u64, records.len() as u64];
         set_hash(record.hash);
         let rust = (self.builder).push(&record.key, &record.value(), record.lifetime);
-        let more = text::optional(record.lifetime);
-        push_line(self.list, "push", record, &more, rust.map(|()| place));
+        let more = text::optional(2, record.lifetime);
+        push_line(
+            self.list,
+            "push",
+            FIRST,
+            record,
+            &more,
+            rust.map(|()| place),
+        );
     }
 
     // Ends the build, also where it is refused: the Rust's builder is gone then.
     pub fn finish(self) -> Option<Sets<'a>> {
-        let target = [SEGMENT_TARGET as u64];
         let filled = self.builder.records().len() as u64;
         let rust = self.builder.finish();
         let answer = match &rust {
-            Ok(set) => text::spaced(&[set.starts().len() as u64, set.stats()[4]]),
-            Err(refusal) => text::refused(*refusal),
+            Ok(set) => Ok([set.starts().len() as u64, set.stats()[4]]),
+            Err(refusal) => Err(*refusal),
         };
-        self.list.call("finish", &[], &[], &target, &answer);
+        let numbers = [FIRST, SEGMENT_TARGET as u64];
+        (self.list).call("finish", &[], &[], &numbers, &text::answer(answer));
         Some(Sets {
             list: self.list,
             sets: vec![Rc::new(rust.ok()?)],
@@ -90,15 +97,13 @@ impl<'a> Build<'a> {
 pub fn push_line(
     list: &mut List,
     name: &str,
+    set: u64,
     record: &Record,
     more: &[u64],
     rust: Result<[u64; 2], u64>,
 ) {
-    let answer = match rust {
-        Ok(place) => text::spaced(&place),
-        Err(refusal) => text::refused(refusal),
-    };
-    let numbers = [&[record.hash, record.times], more].concat();
+    let numbers = [&[set, record.hash, record.times], more].concat();
+    let answer = text::answer(rust);
     list.call(name, &record.key, &record.part, &numbers, &answer);
 }
 
@@ -122,19 +127,29 @@ pub enum Lookup {
     Probe,
 }
 
-fn told(record: Option<&Told<'_>>) -> String {
-    let Some(record) = record else {
-        return " none".to_string();
-    };
-    let numbers = [record.slot, record.location, record.key_offset];
-    let left = match record.left {
-        Some(None) => " never".to_string(),
-        Some(Some(left)) => text::spaced(&text::optional(Some(left))[1..]),
-        None => " none".to_string(),
-    };
-    let numbers = text::spaced(&numbers.map(|number| number as u64));
-    let (key, value) = (text::shown(record.key), text::shown(record.value));
-    [numbers, key, value, left].concat()
+// 1 and the value, or zeros.
+fn told_value(value: Option<&[u8]>) -> Vec<u64> {
+    let told = value.map_or([0; 3], |value| {
+        let [sum, length] = text::summed(value);
+        [1, sum, length]
+    });
+    text::answer(Ok(told))
+}
+
+// 1, slot, location, bytes before the key, key, value, and what is left of the time: its kind (0 for
+// ever, 1 a duration, 2 nothing), seconds and nanoseconds. Zeros where there is no record.
+fn told_record(record: Option<&Told<'_>>) -> Vec<u64> {
+    let told = record.map_or([0; 11], |record| {
+        let place = [record.slot, record.location, record.key_offset];
+        let [slot, location, offset] = place.map(|number| number as u64);
+        let ([key, key_len], [value, value_len]) =
+            (text::summed(record.key), text::summed(record.value));
+        let [kind, secs, nanos] = (record.left).map_or([2, 0, 0], |left| text::optional(1, left));
+        [
+            1, slot, location, offset, key, key_len, value, value_len, kind, secs, nanos,
+        ]
+    });
+    text::answer(Ok(told))
 }
 
 impl Sets<'_> {
@@ -144,23 +159,27 @@ impl Sets<'_> {
         (set % AREAS) as u64
     }
 
+    // The number of the set that a rebuild makes.
+    pub fn next_number(&self) -> u64 {
+        (self.sets.len() % AREAS) as u64
+    }
+
     pub fn look_up(&mut self, lookup: Lookup, set: usize, key: &[u8], hash: u64, tick: u64) {
         let (number, rust) = (self.number(set), &self.sets[set]);
-        let value = |value: Option<&[u8]>| value.map_or(" none".to_string(), text::shown);
         let (name, answer) = match lookup {
-            Lookup::Get => ("get", value(rust.value(key, hash, tick, true))),
-            Lookup::Peek => ("peek", value(rust.value(key, hash, tick, false))),
+            Lookup::Get => ("get", told_value(rust.value(key, hash, tick, true))),
+            Lookup::Peek => ("peek", told_value(rust.value(key, hash, tick, false))),
             Lookup::Take => {
                 let accessed = rust.take_accessed(key, hash);
-                ("take", text::spaced(&[accessed.into()]))
+                ("take", text::answer(Ok([accessed.into()])))
             }
-            Lookup::Probe => ("probe", told(rust.probed(key, hash, tick).as_ref())),
+            Lookup::Probe => ("probe", told_record(rust.probed(key, hash, tick).as_ref())),
         };
         let numbers = match lookup {
             Lookup::Take => vec![number, hash],
             _ => vec![number, hash, tick],
         };
-        self.list.call(name, key, &[], &numbers, &answer);
+        (self.list).call(name, key, &[], &numbers, &answer);
     }
 
     // From the first slot to the end of a set.
@@ -168,20 +187,21 @@ impl Sets<'_> {
         let (number, rust) = (self.number(set), &self.sets[set]);
         let mut steps = Vec::new();
         rust.visit(tick, |record| {
-            steps.push((record.slot, told(Some(&record))))
+            steps.push((record.slot, told_record(Some(&record))))
         });
         let mut from = 0;
         for (slot, answer) in steps {
             (self.list).call("walk", &[], &[], &[number, from, tick], &answer);
             from = slot as u64 + 1;
         }
-        (self.list).call("walk", &[], &[], &[number, from, tick], " none");
+        let end = told_record(None);
+        (self.list).call("walk", &[], &[], &[number, from, tick], &end);
     }
 
     pub fn stats(&mut self, set: usize) {
         let (number, stats) = (self.number(set), self.sets[set].stats());
-        let numbers = [&stats[..], &access_sets::methods(&stats)].concat();
-        (self.list).call("stats", &[], &[], &[number], &text::spaced(&numbers));
+        let answer = [&[0], &stats[..], &access_sets::methods(&stats)].concat();
+        (self.list).call("stats", &[], &[], &[number], &answer);
     }
 
     // Index words, filter words, and of each segment its start, its length and its bytes.
@@ -193,6 +213,6 @@ impl Sets<'_> {
             sum = text::with_words(sum, &[start, bytes.len() as u64]);
             sum = text::with_bytes(sum, &bytes);
         }
-        (self.list).call("checksum", &[], &[], &[number], &text::spaced(&[sum]));
+        (self.list).call("checksum", &[], &[], &[number], &[sum]);
     }
 }

@@ -1,7 +1,7 @@
 // What the replay list asks at the boundaries: refusals, long records and the most segments.
 use super::oracle::access_index::{Builder, Setting};
 use super::replay_calls::{Build, Lookup, Record, Sets, open_line};
-use crate::replay_text::{self as text, List};
+use crate::replay_text::List;
 use std::time::Duration;
 
 const TICK: Option<Duration> = Some(Duration::from_secs(1));
@@ -28,7 +28,7 @@ fn record(number: u64, bytes: u64) -> Record {
 // An open that the Rust refuses.
 fn refused_open(list: &mut List, setting: Setting, records: usize) {
     if let Err(refusal) = Builder::open(setting, records) {
-        open_line(list, setting, records, &text::refused(refusal));
+        open_line(list, setting, records, Err(refusal));
     }
 }
 

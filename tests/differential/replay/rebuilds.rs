@@ -57,11 +57,12 @@ impl Sets<'_> {
         let source = self.newest();
         let rust = Rebuild::open(&self.sets[source], &opening);
         let answer = match &rust {
-            Ok(rebuild) => text::spaced(&rebuild.numbers()[2..4]),
-            Err(refusal) => text::refused(*refusal),
+            Ok(rebuild) => Ok([rebuild.numbers()[2], rebuild.numbers()[3]]),
+            Err(refusal) => Err(*refusal),
         };
-        let numbers = [self.number(source), records as u64, capacity as u64, now];
-        (self.list).call("rebuild_open", keep, &[], &numbers, &answer);
+        let sets = [self.next_number(), self.number(source)];
+        let numbers = [&sets[..], &[records as u64, capacity as u64, now]].concat();
+        (self.list).call("rebuild_open", keep, &[], &numbers, &text::answer(answer));
         let opened = rust.is_ok();
         if opened {
             self.rebuild = rust.ok();
@@ -78,7 +79,7 @@ impl Sets<'_> {
 
     // Whether it was accepted.
     pub fn push_copied(&mut self, record: &Record) -> bool {
-        let more = text::optional(record.lifetime);
+        let more = text::optional(2, record.lifetime);
         self.rebuild_push("push_copied", record, &more, |rebuild| {
             rebuild.push_copied(&record.key, &record.value(), record.lifetime)
         })
@@ -92,6 +93,7 @@ impl Sets<'_> {
         more: &[u64],
         push: impl FnOnce(&mut Rebuild) -> Result<(), u64>,
     ) -> bool {
+        let set = self.next_number();
         let Some(rebuild) = self.rebuild.as_mut() else {
             return false;
         };
@@ -100,7 +102,7 @@ impl Sets<'_> {
         let rust = push(rebuild);
         let location = access::index_location(rebuild.index()[slot]);
         let place = [slot as u64, location as u64];
-        push_line(self.list, name, record, more, rust.map(|()| place));
+        push_line(self.list, name, set, record, more, rust.map(|()| place));
         rust.is_ok()
     }
 
@@ -112,13 +114,13 @@ impl Sets<'_> {
         let copied = rebuild.copied().len() as u64;
         let rust = rebuild.finish();
         let answer = match &rust {
-            Ok((set, totals)) => {
-                let segments = set.starts().len() as u64;
-                text::spaced(&[&[segments], &totals[..]].concat())
+            Ok((set, [records, bytes, copied, new])) => {
+                Ok([*records, *bytes, *copied, *new, set.starts().len() as u64])
             }
-            Err(refusal) => text::refused(*refusal),
+            Err(refusal) => Err(*refusal),
         };
-        (self.list).call("rebuild_finish", &[], &[], &[], &answer);
+        let numbers = [self.next_number()];
+        (self.list).call("rebuild_finish", &[], &[], &numbers, &text::answer(answer));
         let Ok((set, _)) = rust else {
             return false;
         };

@@ -6,9 +6,6 @@ pub struct List {
     pub text: String,
 }
 
-// Of more bytes an answer has the number and a checksum.
-const SHOWN_BYTES: usize = 32;
-
 impl List {
     pub fn new() -> List {
         List {
@@ -20,29 +17,33 @@ impl List {
         self.text.push_str(&format!("# {comment}\n"));
     }
 
-    // Each part of the answer has a space before it.
-    pub fn call(&mut self, name: &str, key: &[u8], value: &[u8], numbers: &[u64], answer: &str) {
+    pub fn call(&mut self, name: &str, key: &[u8], value: &[u8], numbers: &[u64], answer: &[u64]) {
         let (key, value) = (hex(key), hex(value));
-        self.text.push_str(&format!(
-            "{name} {key} {value}{} ={answer}\n",
-            spaced(numbers)
-        ));
+        let (numbers, answer) = (spaced(numbers), spaced(answer));
+        self.text
+            .push_str(&format!("{name} {key} {value}{numbers} ={answer}\n"));
     }
 }
 
-pub fn spaced(numbers: &[u64]) -> String {
+// 0 and the words that a call writes, or the number of the refusal.
+pub fn answer<const WORDS: usize>(rust: Result<[u64; WORDS], u64>) -> Vec<u64> {
+    match rust {
+        Ok(words) => [&[0], &words[..]].concat(),
+        Err(refusal) => {
+            assert!(
+                (1..8).contains(&refusal),
+                "the Rust has no refusal {refusal}"
+            );
+            vec![refusal]
+        }
+    }
+}
+
+fn spaced(numbers: &[u64]) -> String {
     numbers.iter().fold(String::new(), |mut text, number| {
         let _ = write!(text, " {number}");
         text
     })
-}
-
-pub fn refused(refusal: u64) -> String {
-    assert!(
-        (1..8).contains(&refusal),
-        "the Rust has no refusal {refusal}"
-    );
-    format!(" refused {refusal}")
 }
 
 fn hex(bytes: &[u8]) -> String {
@@ -55,17 +56,15 @@ fn hex(bytes: &[u8]) -> String {
     })
 }
 
-pub fn shown(bytes: &[u8]) -> String {
-    if bytes.len() > SHOWN_BYTES {
-        return format!(" bytes {} {}", bytes.len(), with_bytes(0, bytes));
-    }
-    format!(" {}", hex(bytes))
+// Bytes of an answer: their checksum and their number.
+pub fn summed(bytes: &[u8]) -> [u64; 2] {
+    [with_bytes(0, bytes), bytes.len() as u64]
 }
 
-// Whether there is a duration, its seconds and its nanoseconds; nothing at the end of a line.
-pub fn optional(duration: Option<Duration>) -> Vec<u64> {
-    duration.map_or(Vec::new(), |duration| {
-        vec![1, duration.as_secs(), duration.subsec_nanos().into()]
+// A number where there is a duration, its seconds and its nanoseconds, or zeros.
+pub fn optional(there: u64, duration: Option<Duration>) -> [u64; 3] {
+    duration.map_or([0; 3], |duration| {
+        [there, duration.as_secs(), duration.subsec_nanos().into()]
     })
 }
 

@@ -5,10 +5,10 @@ use Rattle.replay.proofs.tally.Tally.show.Statement.{statement}
 use Rattle.replay.proofs.tally.Tally.show.Tie as tie
 
 abbrev Inv-loop : tie.InvT-loop
-Inv-loop self counts kind₀ t4 t5 kind = kind ≤ 14
+Inv-loop self counts kind₀ t4 kind = kind ≤ 15
 
 abbrev μ-loop : tie.MeasureT-loop
-μ-loop self counts kind₀ t4 t5 kind = 14 - kind
+μ-loop self counts kind₀ t4 kind = 15 - kind
 
 pub show-spec : {M : Type 1} → statement M
 show-spec =
@@ -16,17 +16,6 @@ show-spec =
     (tie.spec
     Inv-loop
     μ-loop
-    (λ c. search needs)
-    (λ c κs. search needs)
-    (λ c. search needs)
-    (λ c. search needs)
-    (λ c κs. search needs)
-    (λ c. search needs)
-    (λ c. search needs)
-    (λ c. search needs)
-    (λ c. search needs)
-    (λ c. search needs)
-    (λ c κs. search needs)
-    (λ c. search needs)
-    (λ c κs. search needs)
+    (λ c. search needs) (λ c κs. search needs) (λ c. search needs) (λ c. search needs) (λ c κs. search needs) (λ c. search needs) (λ c. search needs)
+    (λ c. search needs) (λ c. search needs) (λ c κs. search needs)
     (λ c. search needs))

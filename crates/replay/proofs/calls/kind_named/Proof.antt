@@ -1,8 +1,8 @@
 -- `kind_named` ends. Assumes nothing.
 use Prim.Native.Nat.{_-_, _≤_}
 use borrow.Author.Needs.{needs}
-use Rattle.replay.proofs.names.kind_named.Statement.{statement}
-use Rattle.replay.proofs.names.kind_named.Tie as tie
+use Rattle.replay.proofs.calls.kind_named.Statement.{statement}
+use Rattle.replay.proofs.calls.kind_named.Tie as tie
 
 abbrev Inv-loop : tie.InvT-loop
 Inv-loop name kind₀ kind = kind ≤ 14
@@ -16,11 +16,5 @@ kind-named-spec =
     (tie.spec
     Inv-loop
     μ-loop
-    (λ c. search needs)
-    (λ c κs. search needs)
-    (λ c κs. search needs)
-    (λ c. search needs)
-    (λ c. search needs)
-    (λ c. search needs)
-    (λ c. search needs)
+    (λ c. search needs) (λ c κs. search needs) (λ c κs. search needs) (λ c. search needs) (λ c. search needs) (λ c. search needs) (λ c. search needs)
     (λ c. search needs))
