@@ -29,6 +29,8 @@ const PUSH_REUSED: u64 = 7;
 
 const PUSH_COPIED: u64 = 8;
 
+const REBUILD_FINISH: u64 = 9;
+
 pub(crate) fn ask(name: &[u8], words: Words) {
     show::text(name);
     match words[place::CALLS] {
@@ -49,7 +51,9 @@ fn answer(words: Words) -> u64 {
         REBUILD_OPEN => rebuild_open(words),
         PUSH_REUSED => push_reused(words),
         PUSH_COPIED => push_copied(words),
-        _ => rebuild_finish(words),
+        REBUILD_FINISH => rebuild_finish(words),
+        // No call has this number, so the table is wrong; no refusal does either.
+        _ => u64::MAX,
     }
 }
 

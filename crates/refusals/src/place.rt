@@ -19,10 +19,10 @@ pub(crate) const ARENA: usize = 26;
 
 pub(crate) const SCRATCH: usize = 27;
 
-// What every word of the index holds.
+// What every word of the index holds in finish and in the pushes of a rebuild.
 pub(crate) const INDEX_WORD: usize = 28;
 
-// Where every segment starts, and how long it is.
+// Of a rebuild and its source: where every segment starts, and how long it is.
 pub(crate) const START: usize = 29;
 
 pub(crate) const LENGTH: usize = 30;
@@ -44,7 +44,7 @@ pub(crate) const FLAGS: usize = 36;
 
 pub(crate) const DROPPED: usize = 37;
 
-// How much is lent of a rebuild's own areas, where those above are its source's.
+// How much is lent of a rebuild's own starts and lengths, where those above are its source's.
 pub(crate) const NEW_STARTS: usize = 38;
 
 pub(crate) const NEW_LENGTHS: usize = 39;

@@ -1,4 +1,5 @@
 // The calls of a rebuild. Its source has one record of five bytes at 0: two of header, key "a", value "AB".
+// Only a reused push reads it; the other calls have an arena of zeros.
 use crate::place;
 use crate::place::Words;
 use crate::place::lent;
@@ -74,6 +75,7 @@ pub(crate) fn push_reused(words: Words) -> u64 {
     let starts = [words[place::START]; 256];
     let lengths = [words[place::LENGTH]; 256];
     let arena = b"\x01\x02aABACb\0\0\0\0\0\0\0\0";
+    let arena_bytes = lent(words[place::ARENA], 16);
     let key_from = words[place::KEY_FROM] as usize;
     let key_to = words[place::KEY_TO] as usize;
     let value_from = words[place::VALUE_FROM] as usize;
@@ -84,7 +86,7 @@ pub(crate) fn push_reused(words: Words) -> u64 {
         between(arena, value_from, value_to),
         &starts[0..starts_words],
         &lengths[0..lengths_words],
-        between(arena, 0, words[place::ARENA] as usize),
+        between(arena, 0, arena_bytes),
     )
 }
 

@@ -117,6 +117,7 @@ pub(crate) fn answer_words(kind: usize) -> usize {
     }
 }
 
+// So many words from one on; all of them where there are not so many, which the call then refuses.
 pub(crate) fn part(words: &mut [u64], from: usize, count: usize) -> &mut [u64] {
     if words.len() < from {
         return words;
@@ -206,11 +207,20 @@ fn finish(
 ) -> u64 {
     let n = line.numbers;
     let kind = line.kind;
-    let count = n[2] as usize;
+    let target = n[2] as usize;
     let mut scratch = [0; 128];
     match kind {
         FINISH => {
-            segment_cache_finish(state, count, index, starts, sizes, &mut scratch, arena, set)
+            segment_cache_finish(
+                state,
+                target,
+                index,
+                starts,
+                sizes,
+                &mut scratch,
+                arena,
+                set,
+            )
         }
         _ => {
             segment_cache_rebuild_finish(state, index, starts, sizes, &mut scratch, arena, set, out)
@@ -268,6 +278,7 @@ fn push(
     }
 }
 
+// The second number is the hash, or the slot at which a walk goes on, and the third the tick.
 fn look_up(
     line: Line,
     bytes: &[u8],
@@ -352,9 +363,11 @@ fn with_word(told: [u64; 12], at: usize, word: u64) -> [u64; 12] {
     words
 }
 
-// With the checksum of bytes in place of where they stand, before their number.
+// With the checksum of bytes in place of where they stand, before their number. The sum begins with that
+// number: from 0, bytes of 0 would sum as none do.
 fn summed(told: [u64; 12], at: usize, arena: &[u8]) -> [u64; 12] {
-    let sum = with_bytes(0, arena, told[at % 12], told[(at % 12 + 1) % 12]);
+    let count = told[(at % 12 + 1) % 12];
+    let sum = with_bytes(count, arena, told[at % 12], count);
     with_word(told, at, sum)
 }
 

@@ -91,6 +91,7 @@ pub(crate) fn read_line(
     let numbers = read_numbers(between(line, value_stop, end));
     let key_end = read_bytes(between(line, name_end, key_stop), bytes, 0, 1);
     let value = between(line, value_at, value_stop);
+    // Only pushes have a value, and their third number says how often it comes.
     let value_end = read_bytes(value, bytes, key_end, numbers[3]);
     Line {
         kind: read_kind(line, name_end, value_end, numbers),

@@ -32,6 +32,7 @@ fn main() {
     let mut sets = [[0; 15]; SETS];
     let mut indexes = [[0; 1_024]; SETS];
     let mut filters = [[0; 1_024]; SETS];
+    // Where the segments of each set start, and how long they are.
     let mut starts = [[0; 256]; SETS];
     let mut sizes = [[0; 256]; SETS];
     let mut tally = START;
@@ -71,6 +72,7 @@ fn answer(
     let kind = line.kind;
     let numbers = line.numbers;
     let made = numbers[1] as usize % SETS;
+    // Of a line that opens a rebuild.
     let source = numbers[2] as usize % SETS;
     let source_set = sets[source];
     let source_starts = starts[source];

@@ -124,12 +124,12 @@ bit-at (suc n) w (suc i) h =
 abbrev bits : List ℕ → List Bool
 bits ws = flatMap (bitsOf 64) ws
 
-pub words-length : (ws : List ℕ) → length (bits ws) ≡ 64 * length ws
+words-length : (ws : List ℕ) → length (bits ws) ≡ 64 * length ws
 unfolding flatMap
 words-length [] = refl
 words-length (w ∷ ws) = length-append (bitsOf 64 w) (bits ws) ∙ omega (arith, bits-length 64 w, words-length ws)
 
--- the words behind the first
+-- a position in the words behind the first
 behind : (w q r : ℕ) → 64 * suc q + r ≡ length (bitsOf 64 w) + (64 * q + r)
 behind w q r = omega (arith, bits-length 64 w)
 
@@ -243,9 +243,9 @@ module _ (k : KeptSegments) where
   unfolding keptFlags
   flags-length = words-length (keptWords k)
 
-  pub retained-sum : countTrue (flatMap (bitsOf 64) (take 4 (keptWords k))) ≡ retained k
+  pub retained-words : countTrue (flatMap (bitsOf 64) (take 4 (keptWords k))) ≡ retained k
   unfolding retained keptFlags
-  retained-sum = refl
+  retained-words = refl
 
   pub is-kept-bit : (g : ℕ) → getD (bitsOf 64 (getD (keptWords k) (g / 64) 0)) (g % 64) false ≡ isKept k g
   unfolding isKept keptFlags

@@ -16,6 +16,7 @@ unfoldable pub bitsOf : ℕ → ℕ → List Bool
 bitsOf zero w = []
 bitsOf (suc n) w = eqb (w % 2) 1 ∷ bitsOf n (w / 2)
 
+-- its four words, that of the first segments first
 abbrev pub keptWords : KeptSegments → List ℕ
 keptWords k = k .w0 ∷ k .w1 ∷ k .w2 ∷ k .w3 ∷ []
 

@@ -34,7 +34,7 @@ impl KeptSegments {
         }
     }
 
-    // The word with the bits of the segments from 64 * at on.
+    // The word with the bits of the segments from 64 * at on; 0 where there is none.
     fn word(self, at: usize) -> u64
         ensures { λ r. ⌜ r ≡ getD (keptWords self) at 0 ⌝ }
     {

@@ -56,9 +56,10 @@ fn hex(bytes: &[u8]) -> String {
     })
 }
 
-// Bytes of an answer: their checksum and their number.
+// Bytes of an answer: their checksum, which begins with their number, and their number.
 pub fn summed(bytes: &[u8]) -> [u64; 2] {
-    [with_bytes(0, bytes), bytes.len() as u64]
+    let count = bytes.len() as u64;
+    [with_bytes(count, bytes), count]
 }
 
 // A number where there is a duration, its seconds and its nanoseconds, or zeros.

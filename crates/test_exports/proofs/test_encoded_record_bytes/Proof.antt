@@ -19,7 +19,10 @@ returns c =
 
 returns-2 : tie.Need-returns-2
 returns-2 c =
-    rw (← (c .before .before .before .before .before .expiry-of .ensures), ← (c .before .before .before .before .encoded-record-bytes .ensures), c .before .before .refusal .given .1) (rw (c .number .ensures) (told-refused (c .before .before .refusal .given .0 .0) (c .before .before .before .before .before .before .before .args .out .now)))
+    let told = c .before .before .refusal .given in
+    let call = c .before .before .before .before in
+    rw (← (call .before .expiry-of .ensures), ← (call .encoded-record-bytes .ensures), told .1, c .number .ensures)
+    (told-refused (told .0 .0) (call .before .before .before .args .out .now))
 
 pub test-encoded-record-bytes-spec : {M : Type 1} → statement M
 test-encoded-record-bytes-spec =

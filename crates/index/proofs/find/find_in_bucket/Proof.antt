@@ -33,18 +33,18 @@ reads s =
     recordIn (a .view) (a .arena .now) (a .starts .now) (a .lengths .now)
 
 -- what each slot of the bucket says, and what all of them do
-abbrev tells : tie.Start Inv-loop μ-loop → ℕ → FindStep
-tells s =
+abbrev slotSays : tie.Start Inv-loop μ-loop → ℕ → FindStep
+slotSays s =
     let a = s .args in
     says (reads s) (a .arena .now) (a .key .now) (a .packed) (a .tag) (a .buckets) (a .index .now) (a .bucket)
 
-abbrev tell : tie.Start Inv-loop μ-loop → FindStep
-tell s =
+abbrev bucketSays : tie.Start Inv-loop μ-loop → FindStep
+bucketSays s =
     let a = s .args in
     searched (reads s) (a .arena .now) (a .key .now) (a .packed) (a .tag) (a .buckets) (a .index .now) (a .bucket)
 
 -- what the slot of the lowest mark says
-said : (c : tie.After-find-in-slot Inv-loop μ-loop) → let l = c .before .before .before .before in c .find-in-slot .result ≡ tells (start l) (lowestSet (l .loop .candidates))
+said : (c : tie.After-find-in-slot Inv-loop μ-loop) → let l = c .before .before .before .before in c .find-in-slot .result ≡ slotSays (start l) (lowestSet (l .loop .candidates))
 said c =
     let l = c .before .before .before .before in
     let a = start l .args in
@@ -62,7 +62,7 @@ bucket-slot-requires c κs =
     let l = c .before .before in
     let s = start l in
     let some : 0 < l .loop .candidates = omega arith in
-    (s .pre .0, s .pre .1, omega (arith, c .lowest-marked-byte .ensures .0, visiting-below (tell s) (tells s) (l .loop .inv) some))
+    (s .pre .0, s .pre .1, omega (arith, c .lowest-marked-byte .ensures .0, visiting-below (bucketSays s) (slotSays s) (l .loop .inv) some))
 
 returns : tie.Need-returns Inv-loop μ-loop
 returns c =
@@ -73,21 +73,21 @@ returns c =
     let r = c .before .find-in-slot .result in
     let e = said (c .before) in
     let n : r ≡ Next → ⊥ = λ (f : r ≡ Next). ⊎-elim (λ p. omega arith) (λ p. omega arith) (rw f at (c .match .keys2)) in
-    let hit : tell s ≡ r = rw e (visiting-hit (tell s) (tells s) (l .loop .inv) some (λ f. n (e ∙ f))) in
+    let hit : bucketSays s ≡ r = rw e (visiting-hit (bucketSays s) (slotSays s) (l .loop .inv) some (λ f. n (e ∙ f))) in
     bucket-step (reads s) (a .arena .now) (a .key .now) (a .packed) (a .tag) (a .buckets) (a .index .now) (a .bucket) r hit n
 
 loop-less : tie.Need-loop-less Inv-loop μ-loop
 loop-less c =
     let l = c .before .before .before .before .before .before .before in
     let some : 0 < l .loop .candidates = omega arith in
-    omega (arith, c .without-lowest-mark .ensures, visiting-less (tell (start l)) (tells (start l)) (l .loop .inv) some)
+    omega (arith, c .without-lowest-mark .ensures, visiting-less (bucketSays (start l)) (slotSays (start l)) (l .loop .inv) some)
 
 loop-again : tie.Need-loop-again Inv-loop μ-loop
 loop-again c =
     let l = c .before .before .before .before .before .before .before in
     let some : 0 < l .loop .candidates = omega arith in
     rw (c .without-lowest-mark .ensures)
-    (visiting-on (tell (start l)) (tells (start l)) (l .loop .inv) some (sym (said (c .before .before .before)) ∙ c .before .enum-told .given .1))
+    (visiting-on (bucketSays (start l)) (slotSays (start l)) (l .loop .inv) some (sym (said (c .before .before .before)) ∙ c .before .enum-told .given .1))
 
 -- where no mark is left, an empty slot ends the walk
 ended : (c : tie.After-has-empty Inv-loop μ-loop) → let a = start (c .before .before) .args in
@@ -96,7 +96,7 @@ ended c =
     let s = start (c .before .before) in
     let a = s .args in
     bucket-ends (reads s) (a .arena .now) (a .key .now) (a .packed) (a .tag) (a .buckets) (a .index .now) (a .bucket) (c .has-empty .result)
-    (c .has-empty .ensures) (visiting-ends (tell s) (tells s) (c .before .before .loop .inv) (c .before .loop-test .left))
+    (c .has-empty .ensures) (visiting-ends (bucketSays s) (slotSays s) (c .before .before .loop .inv) (c .before .loop-test .left))
 
 returns-2 : tie.Need-returns-2 Inv-loop μ-loop
 returns-2 c = rw (c .if1 .taken) at (ended (c .before))

@@ -16,8 +16,8 @@ use Rattle.index.proofs.find.find_in_slot.Tie as tie
 abbrev start : tie.After-content → tie.Start
 start c = c .before .before .before .before .before .before
 
-abbrev read : tie.Start → ℕ → RecordAnswer
-read s =
+abbrev reads : tie.Start → ℕ → RecordAnswer
+reads s =
     let a = s .args in
     recordIn (a .view) (a .arena .now) (a .starts .now) (a .lengths .now)
 
@@ -25,11 +25,11 @@ read s =
 abbrev slot : tie.After-entry → tie.After-content
 slot e = e .before .before .before .before .before
 
-reads : (c : tie.After-record-at-location) → read (start (c .before .before .before)) (c .before .before .before .content .given .0 .1 .0) ≡ c .record-at-location .result
-reads c = sym (c .record-at-location .ensures)
+was-read : (c : tie.After-record-at-location) → reads (start (c .before .before .before)) (c .before .before .before .content .given .0 .1 .0) ≡ c .record-at-location .result
+was-read c = sym (c .record-at-location .ensures)
 
-under : (e : tie.After-entry) → read (start (slot e)) (slot e .content .given .0 .1 .0) ≡ Read (e .entry .given .0 .0)
-under e = reads (e .before .before) ∙ e .entry .given .1
+under : (e : tie.After-entry) → reads (start (slot e)) (slot e .content .given .0 .1 .0) ≡ Read (e .entry .given .0 .0)
+under e = was-read (e .before .before) ∙ e .entry .given .1
 
 -- the record whose key was compared
 abbrev entry : tie.After-same-bytes → tie.After-entry
@@ -46,29 +46,29 @@ returns : tie.Need-returns
 returns c =
     let s = c .before .before .before .before .before .before in
     let a = s .args in
-    slot-empty (read s) (a .arena .now) (a .key .now) (a .tag) (a .slot) (a .content) (c .enum-told .given .1)
+    slot-empty (reads s) (a .arena .now) (a .key .now) (a .tag) (a .slot) (a .content) (c .enum-told .given .1)
 
 returns-2 : tie.Need-returns-2
 returns-2 c =
     let k = c .before .before in
     let a = start k .args in
     let used = k .content .given in
-    slot-other (read (start k)) (a .arena .now) (a .key .now) (a .tag) (a .slot) (a .content) (used .0 .0) (used .0 .1 .0) (used .1) (c .if1 .taken)
+    slot-other (reads (start k)) (a .arena .now) (a .key .now) (a .tag) (a .slot) (a .content) (used .0 .0) (used .0 .1 .0) (used .1) (c .if1 .taken)
 
 returns-3 : tie.Need-returns-3
 returns-3 c =
     let k = c .before .before .before .before .before in
     let a = start k .args in
     let used = k .content .given in
-    slot-broken (read (start k)) (a .arena .now) (a .key .now) (a .tag) (a .slot) (a .content) (used .0 .0) (used .0 .1 .0) (used .1)
-    (c .before .before .before .if1 .left) (reads (c .before .before) ∙ c .enum-told2 .given .1)
+    slot-broken (reads (start k)) (a .arena .now) (a .key .now) (a .tag) (a .slot) (a .content) (used .0 .0) (used .0 .1 .0) (used .1)
+    (c .before .before .before .if1 .left) (was-read (c .before .before) ∙ c .enum-told2 .given .1)
 
 returns-4 : tie.Need-returns-4
 returns-4 c =
     let e = entry (c .before) in
     let a = start (slot e) .args in
     let used = slot e .content .given in
-    slot-match (read (start (slot e))) (a .arena .now) (a .key .now) (a .tag) (a .slot) (a .content) (used .0 .0) (used .0 .1 .0) (used .1)
+    slot-match (reads (start (slot e))) (a .arena .now) (a .key .now) (a .tag) (a .slot) (a .content) (used .0 .0) (used .0 .1 .0) (used .1)
     (e .before .before .before .if1 .left) (e .entry .given .0 .0) (under e) (compared (c .before) ∙ c .if2 .taken)
 
 returns-5 : tie.Need-returns-5
@@ -76,7 +76,7 @@ returns-5 c =
     let e = entry (c .before) in
     let a = start (slot e) .args in
     let used = slot e .content .given in
-    slot-differs (read (start (slot e))) (a .arena .now) (a .key .now) (a .tag) (a .slot) (a .content) (used .0 .0) (used .0 .1 .0) (used .1)
+    slot-differs (reads (start (slot e))) (a .arena .now) (a .key .now) (a .tag) (a .slot) (a .content) (used .0 .0) (used .0 .1 .0) (used .1)
     (e .before .before .before .if1 .left) (e .entry .given .0 .0) (under e) (compared (c .before) ∙ c .if2 .left)
 
 pub find-in-slot-spec : {M : Type 1} → statement M

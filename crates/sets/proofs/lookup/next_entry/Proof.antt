@@ -24,8 +24,8 @@ reads l =
     let a = l .before .before .before .before .before .args in
     entryAt (recordIn (a .view) (a .arena .now) (a .starts .now) (a .lengths .now)) (a .packed) (a .buckets) (a .index .now)
 
-read : (c : tie.After-entry-at Inv-loop μ-loop) → reads (c .before .before) (c .before .before .loop .slot) ≡ c .entry-at .result
-read c = sym (c .entry-at .ensures)
+was-read : (c : tie.After-entry-at Inv-loop μ-loop) → reads (c .before .before) (c .before .before .loop .slot) ≡ c .entry-at .result
+was-read c = sym (c .entry-at .ensures)
 
 loop-holds : tie.Need-loop-holds Inv-loop μ-loop
 unfolding nextEntry
@@ -36,7 +36,7 @@ returns c =
     let e = c .before .before .before in
     let l = e .before .before in
     let told = c .before .read .given in
-    sym (entry-hit (reads l) _ (l .loop .slot) (told .0 .0) (omega (arith, e .before .loop-test .taken)) (read e ∙ told .1)) ∙ l .loop .inv
+    sym (entry-hit (reads l) _ (l .loop .slot) (told .0 .0) (omega (arith, e .before .loop-test .taken)) (was-read e ∙ told .1)) ∙ l .loop .inv
 
 loop-less : tie.Need-loop-less Inv-loop μ-loop
 loop-less c = omega (arith, c .before .before .before .loop-test .taken)
@@ -45,7 +45,7 @@ loop-again : tie.Need-loop-again Inv-loop μ-loop
 loop-again c =
     let e = c .before .before in
     let l = e .before .before in
-    entry-miss (reads l) _ (l .loop .slot) (omega (arith, e .before .loop-test .taken)) (read e ∙ c .enum-told .given .1) ∙ l .loop .inv
+    entry-miss (reads l) _ (l .loop .slot) (omega (arith, e .before .loop-test .taken)) (was-read e ∙ c .enum-told .given .1) ∙ l .loop .inv
 
 returns-2 : tie.Need-returns-2 Inv-loop μ-loop
 returns-2 c = sym (entry-none (reads (c .before)) _ (c .before .loop .slot) (omega (arith, c .loop-test .left))) ∙ c .before .loop .inv

@@ -1,7 +1,7 @@
 -- `finish` meets its contract. Assumes nothing.
 use mathlib.Core.Path.{_≡_, sym, ap, _∙_}
 use Prim.Native.Nat.{ℕ}
-use Rattle.index.specs.Segments.{splitResult, split as cut}
+use Rattle.index.specs.Segments.{split, splitResult}
 use Rattle.index.specs.declared.segments.SplitAnswer.{SplitAnswer}
 use Rattle.sets.specs.Questions.{checkNumber}
 use Rattle.sets.proofs.Asked.{finish-asked}
@@ -15,8 +15,8 @@ abbrev from : tie.After-check-finish → tie.Start
 from c = c .before .before .before .before .before .before .before
 
 -- the split, from after its areas are lent back
-abbrev split : tie.After-slice-known7 → tie.After-split-record-segments
-split c = c .before .before .before .before .before .before
+abbrev after-split : tie.After-slice-known7 → tie.After-split-record-segments
+after-split c = c .before .before .before .before .before .before
 
 -- what all questions but the last come to
 abbrev asks : tie.Start → ℕ
@@ -24,16 +24,16 @@ asks s =
     let a = s .args in
     checked (a .self) (a .target) (a .index .now) (a .starts .now) (a .lengths .now) (a .scratch .now) (a .arena .now)
 
-asked : (c : tie.After-check-finish) → checkNumber (c .check-finish .result) ≡ asks (from c)
-asked c = c .check-finish .ensures
+answered : (c : tie.After-check-finish) → checkNumber (c .check-finish .result) ≡ asks (from c)
+answered c = c .check-finish .ensures
 
 yes : (c : tie.After-enum-told) → asks (from (c .before .before)) ≡ 0
-yes c = sym (asked (c .before .before)) ∙ ap checkNumber (c .enum-told .given .1)
+yes c = sym (answered (c .before .before)) ∙ ap checkNumber (c .enum-told .given .1)
 
 -- what the split left
 splits : (c : tie.After-split-record-segments) → let a = from (c .before .before .before .before .before .before) .args in let w = c .split-record-segments in
     splitResult (w .result) (w .last .0) (w .last .1 .1 .1 .1 .0) (w .last .1 .1 .1 .1 .1 .0)
-    ≡ cut (a .index .now) (a .self .«bucket_count») (a .self .filled) (a .target) (a .starts .now) (a .lengths .now)
+    ≡ split (a .index .now) (a .self .«bucket_count») (a .self .filled) (a .target) (a .starts .now) (a .lengths .now)
 splits c = c .split-record-segments .ensures
 
 returns : tie.Need-returns
@@ -42,16 +42,16 @@ returns c =
     let a = from b .args in
     let told = c .before .refusal .given in
     finish-stopped (a .self) (a .target) (a .index .now) (a .starts .now) (a .lengths .now) (a .scratch .now) (a .arena .now) (told .0 .0)
-    (sym (ap checkNumber (told .1)) ∙ asked b)
+    (sym (ap checkNumber (told .1)) ∙ answered b)
 
 into-cache-requires : tie.Need-into-cache-requires
 into-cache-requires c κs =
-    let t = split (c .before .before .before .before .before .before .before .before .before .before) .before .before .before .before in
+    let t = after-split (c .before .before .before .before .before .before .before .before .before .before) .before .before .before .before in
     finish-asked _ _ _ _ _ _ _ (yes t) .areas .numbers .inside
 
 returns-2 : tie.Need-returns-2
 returns-2 c =
-    let d = split (c .before .before .before) in
+    let d = after-split (c .before .before .before) in
     let w = d .split-record-segments in
     let told = c .before .refusal2 .given in
     let split-it = ap (λ (r : SplitAnswer). splitResult r (w .last .0) (w .last .1 .1 .1 .1 .0) (w .last .1 .1 .1 .1 .1 .0)) (sym (told .1)) ∙ splits d in
@@ -61,7 +61,7 @@ returns-3 : tie.Need-returns-3
 returns-3 c =
     let k = c .before .before .before .before .before in
     let g = k .before .before .before .before in
-    let d = split (g .before .before) in
+    let d = after-split (g .before .before) in
     let w = d .split-record-segments in
     let told = g .segments .given in
     let split-it = ap (λ (r : SplitAnswer). splitResult r (w .last .0) (w .last .1 .1 .1 .1 .0) (w .last .1 .1 .1 .1 .1 .0)) (sym (told .1)) ∙ splits d in

@@ -25,7 +25,7 @@ asks s =
     let a = s .args in
     firstNo (askPush (a .self) (a .hash) (a .key .now) (length (a .value .now)) (a .ttl) (a .index .now) (length (a .filter .now)) (a .arena .now))
 
--- and what it then is
+-- the slot and the deadline that its plan has
 abbrev place : tie.Start → ℕ × ℕ
 place s =
     let a = s .args in
@@ -51,7 +51,7 @@ push-at-requires c κs =
     let at = found-inside _ _ _ _ _ (s .fits .hash .fits) (q .areas .index-holds) (q .place ∙ ap Empty (p .1)) in
     (q .fits, q .areas .arena-short, at, q .announced, omega (arith, n .key-bytes), omega (arith, n .value-bytes))
 
--- it has none
+-- its plan has no place
 refused : (c : tie.After-refusal) → asks (from (c .before .before)) ≡ errorNumber (c .refusal .given .0 .0)
 unfolding planPush
 refused c = planned-no _ _ (place (from (c .before .before))) (sym (c .before .before .plan-push .ensures) ∙ ap planned (c .refusal .given .1))

@@ -15,22 +15,22 @@ use Rattle.sets.proofs.builder.SegmentCacheBuilder.try_new.Tie as tie
 abbrev from : tie.After-check-open → tie.Start
 from c = c .before .before .before .before .before .before
 
--- what its questions come to
-asks : (c : tie.After-check-open) → let a = from c .args in
+-- what its questions come to is what it was answered
+answered : (c : tie.After-check-open) → let a = from c .args in
     firstNo (askOpen (a .config) (a .entry-count) (length (a .index .now)) (length (a .filter .now)) (length (a .starts .now)) (length (a .lengths .now)) (length (a .arena .now)))
     ≡ checkNumber (c .check-open .result)
-asks c = sym (c .check-open .ensures)
+answered c = sym (c .check-open .ensures)
 
 -- where no question is answered no, what they tell
 asked : (c : tie.After-enum-told) → let a = from (c .before .before) .args in
     OpenAsked (a .config) (a .entry-count) (length (a .index .now)) (length (a .filter .now)) (length (a .starts .now)) (length (a .lengths .now)) (length (a .arena .now))
-asked c = open-asked _ _ _ _ _ _ _ (asks (c .before .before) ∙ ap checkNumber (c .enum-told .given .1))
+asked c = open-asked _ _ _ _ _ _ _ (answered (c .before .before) ∙ ap checkNumber (c .enum-told .given .1))
 
 returns : tie.Need-returns
 unfolding afterOpen
 returns c =
     let told = c .before .refusal .given in
-    rw (asks (c .before .before .before) ∙ ap checkNumber (told .1)) (sym (decided-refused (told .0 .0) _ _))
+    rw (answered (c .before .before .before) ∙ ap checkNumber (told .1)) (sym (decided-refused (told .0 .0) _ _))
 
 opened-builder-requires : tie.Need-opened-builder-requires
 opened-builder-requires c κs = counts-records _ _ _ _ (asked c .counts)
@@ -50,7 +50,7 @@ returns-2 c =
     let v = w .before .before .before .before in
     let o = v .before .before .before in
     let b = o .before in
-    rw (asks (b .before .before) ∙ ap checkNumber (b .enum-told .given .1))
+    rw (answered (b .before .before) ∙ ap checkNumber (b .enum-told .given .1))
     (open-left _ _ _ _ _ _ _ (o .opened-builder .ensures) (v .clear-words .ensures) (w .clear-words2 .ensures))
 
 pub try-new-spec : {M : Type 1} → statement M

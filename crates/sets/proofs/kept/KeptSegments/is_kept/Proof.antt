@@ -1,4 +1,4 @@
--- `is_kept` meets its contract: a segment's bit stands in the word of 64 segments. Assumes nothing.
+-- `is_kept` meets its contract: a segment's bit stands in the word of its 64 segments. Assumes nothing.
 use mathlib.Core.Path.{ap, _∙_}
 use mathlib.Core.Bool.{false}
 use Prim.Native.Nat.{ℕ, _%_}

@@ -17,22 +17,22 @@ use Rattle.sets.proofs.rebuild.SharedSegmentCacheBuilder.finish.Tie as 
 abbrev from : tie.After-check-finish → tie.Start
 from c = c .before .before .before .before .before .before .before .before
 
--- what its questions come to
-asks : (c : tie.After-check-finish) → let a = from c .args in
+-- what its questions come to is what it was answered
+answered : (c : tie.After-check-finish) → let a = from c .args in
     firstNo (askRebuildFinish (a .self) (length (a .index .now)) (a .starts .now) (a .lengths .now) (length (a .scratch .now)) (length (a .arena .now)))
     ≡ checkNumber (c .check-finish .result)
-asks c = sym (c .check-finish .ensures)
+answered c = sym (c .check-finish .ensures)
 
 -- where no question is answered no, what they tell
 asked : (c : tie.After-enum-told) → let a = from (c .before .before) .args in
     RefinishAsked (a .self) (length (a .index .now)) (a .starts .now) (a .lengths .now) (length (a .scratch .now)) (length (a .arena .now))
-asked c = refinish-asked _ _ _ _ _ _ (asks (c .before .before) ∙ ap checkNumber (c .enum-told .given .1))
+asked c = refinish-asked _ _ _ _ _ _ (answered (c .before .before) ∙ ap checkNumber (c .enum-told .given .1))
 
 returns : tie.Need-returns
 unfolding afterRebuildFinish
 returns c =
     let told = c .before .refusal .given in
-    rw (asks (c .before .before .before) ∙ ap checkNumber (told .1)) (sym (decided-refused (told .0 .0) _ _))
+    rw (answered (c .before .before .before) ∙ ap checkNumber (told .1)) (sym (decided-refused (told .0 .0) _ _))
 
 into-build-requires : tie.Need-into-build-requires
 into-build-requires c κs =
@@ -57,7 +57,7 @@ returns-2 c =
     let i = d .before .before .before in
     let b = i .before .before in
     let a = from (b .before .before) .args in
-    rw (asks (b .before .before) ∙ ap checkNumber (b .enum-told .given .1))
+    rw (answered (b .before .before) ∙ ap checkNumber (b .enum-told .given .1))
     (refinish-left (a .self) (a .index .now) (a .starts .now) (a .lengths .now) (a .scratch .now) _ _ _ _ _
     (i .into-build .ensures) (d .add-segment .ensures .0) (d .add-segment .ensures .1) (v .pack-index .ensures .0) (v .pack-index .ensures .1))
 

@@ -28,7 +28,7 @@ asks s =
     firstNo (askCopied (a .self) (a .hash) (length (a .key .now)) (length (a .value .now)) (a .ttl) (a .index .now) (length (a .filter .now)) (a .starts .now) (a .lengths .now)
     (length (a .arena .now)))
 
--- and what it then is
+-- the slot and the deadline that its plan has
 abbrev place : tie.Start → ℕ × ℕ
 place s =
     let a = s .args in
@@ -54,7 +54,7 @@ copied-at-requires c κs =
     let at = found-inside _ _ _ _ _ (s .fits .hash .fits) (q .areas .index-holds) (q .place ∙ ap Empty (p .1)) in
     (q .fits, q .areas .arena-short, q .room, at, q .announced, omega (arith, n .key-bytes), omega (arith, n .value-bytes), omega (arith, n .header-bytes))
 
--- it has none
+-- its plan has no place
 refused : (c : tie.After-refusal) → asks (from (c .before .before)) ≡ errorNumber (c .refusal .given .0 .0)
 unfolding planCopied
 refused c = planned-no _ _ (place (from (c .before .before))) (sym (c .before .before .plan-copied .ensures) ∙ ap planned (c .refusal .given .1))

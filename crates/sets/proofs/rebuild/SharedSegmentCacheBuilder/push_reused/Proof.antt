@@ -27,7 +27,7 @@ asks s =
     let a = s .args in
     firstNo (askReused (a .self) (a .hash) (a .key .now) (a .value .now) (a .source) (a .index .now) (length (a .filter .now)) (a .starts .now) (a .lengths .now) (a .arena .now))
 
--- and what it then is
+-- the slot that its plan has
 abbrev place : tie.Start → ℕ
 place s =
     let a = s .args in
@@ -54,7 +54,7 @@ reused-at-requires c κs =
     let short = q .areas .arena-short in
     (q .kept, at, q .announced, omega (arith, n .key-bytes), omega (arith, n .value-bytes), omega (arith, n .header-bytes))
 
--- it has none
+-- its plan has no place
 refused : (c : tie.After-refusal) → asks (from (c .before .before)) ≡ errorNumber (c .refusal .given .0 .0)
 unfolding planReused
 refused c = planned-no _ _ (place (from (c .before .before))) (sym (c .before .before .plan-reused .ensures) ∙ ap slotPlanned (c .refusal .given .1))

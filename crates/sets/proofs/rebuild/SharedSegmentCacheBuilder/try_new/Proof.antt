@@ -19,24 +19,24 @@ from c = c .before .before .before .before .before .before .before .before .befo
 abbrev told : tie.After-keep-words-arg → tie.After-enum-told
 told c = c .before .before .before .before .before .before .before .before .before .before .before
 
--- what its questions come to
-asks : (c : tie.After-check-rebuild-open) → let a = from c .args in
+-- what its questions come to is what it was answered
+answered : (c : tie.After-check-rebuild-open) → let a = from c .args in
     firstNo (askRebuildOpen (a .source) (a .source-starts .now) (a .source-lengths .now) (length (a .arena .now)) (a .entry-count) (a .copied-record-capacity)
     (a .used-source-segments .now) (length (a .index .now)) (length (a .filter .now)) (length (a .starts .now)) (length (a .lengths .now)))
     ≡ checkNumber (c .check-rebuild-open .result)
-asks c = sym (c .check-rebuild-open .ensures)
+answered c = sym (c .check-rebuild-open .ensures)
 
 -- where no question is answered no, what they tell
 asked : (c : tie.After-enum-told) → let a = from (c .before .before) .args in
     ReopenAsked (a .source) (a .source-starts .now) (a .source-lengths .now) (length (a .arena .now)) (a .entry-count) (a .copied-record-capacity) (a .used-source-segments .now)
     (length (a .index .now)) (length (a .filter .now)) (length (a .starts .now)) (length (a .lengths .now))
-asked c = reopen-asked _ _ _ _ _ _ _ _ _ _ _ (asks (c .before .before) ∙ ap checkNumber (c .enum-told .given .1))
+asked c = reopen-asked _ _ _ _ _ _ _ _ _ _ _ (answered (c .before .before) ∙ ap checkNumber (c .enum-told .given .1))
 
 returns : tie.Need-returns
 unfolding afterRebuildOpen
 returns c =
     let told = c .before .refusal .given in
-    rw (asks (c .before .before .before) ∙ ap checkNumber (told .1)) (sym (decided-refused (told .0 .0) _ _))
+    rw (answered (c .before .before .before) ∙ ap checkNumber (told .1)) (sym (decided-refused (told .0 .0) _ _))
 
 opened-rebuild-requires : tie.Need-opened-rebuild-requires
 opened-rebuild-requires c κs = counts-records _ _ _ _ (asked c .counts)
@@ -70,7 +70,7 @@ returns-2 c =
     let o = v .before .before .before in
     let b = o .before in
     let a = from (b .before .before) .args in
-    rw (asks (b .before .before) ∙ ap checkNumber (b .enum-told .given .1))
+    rw (answered (b .before .before) ∙ ap checkNumber (b .enum-told .given .1))
     (reopen-left (a .source) (a .entry-count) (a .used-source-segments .now) (a .source-now-tick) _ _ _ _ _ _ _ _ _
     (o .opened-rebuild .ensures) (v .clear-words .ensures) (w .clear-words2 .ensures) (x .keep-words .ensures) (y .keep-words2 .ensures))
 
