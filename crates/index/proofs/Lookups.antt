@@ -34,45 +34,20 @@ use Rattle.index.proofs.Flat.{bucketAt, walked, walk-slots, indexSlots,
 use Rattle.index.proofs.Found.{foundStored, Sees, sees-empty, sees-other, sees-match, Denied, walk-first}
 use Rattle.index.proofs.Pairs.{pairs-take, pairs-drop}
 use Rattle.index.proofs.Table.{not-true, only, hits, past, hits-drop}
+use Rattle.index.proofs.Views.{read-in}
 
 -- ---- what is read under a stored location
 
 module _ (view : SegmentView) (arena starts lengths : List ℕ) where
   -- the key of a record that is read lies in the arena
   span-inside : (l : ℕ) (x : RecordRef) → recordIn view arena starts lengths l ≡ Read x → x .key .at + x .key .len ≤ length arena
-  unfolding recordIn inSegment
+  unfolding recordIn
   span-inside zero x f = absurd (let z : _≡_ {A = ℕ} 0 1 = cc in omega arith)
-  span-inside (suc location) x f = in-set (isSegment view starts lengths (location / 2 ^ 32)) f
-    where
-      bytes : List ℕ
-      bytes = take (view .filled) arena
-
-      start : ℕ
-      start = getD starts (location / 2 ^ 32) 0
-
-      len : ℕ
-      len = getD lengths (location / 2 ^ 32) 0
-
-      in-record : (a : RecordAnswer) → start + len ≤ length bytes → recordAt (view .expiry) (part start len bytes) (location % 2 ^ 32) ≡ a
-          → answerMoved location start a ≡ Read x → x .key .at + x .key .len ≤ length arena
-      in-record Unreadable h g e = absurd (let z : _≡_ {A = ℕ} 0 1 = cc in omega arith)
-      in-record (Read r) h g e =
-          let i = record-inside (view .expiry) (part start len bytes) (location % 2 ^ 32) r g in
-          let same : refMoved r location start ≡ x = cc in
-          let p : start + r .key .at ≡ x .key .at = ap (λ (y : RecordRef). y .key .at) same in
-          let q : r .key .len ≡ x .key .len = ap (λ (y : RecordRef). y .key .len) same in
-          let s : length (part start len bytes) ≤ len = rw length-take (omega arith) in
-          let b : length bytes ≤ length arena = rw length-take (omega arith) in
-          omega arith
-
-      in-bytes : (b : Bool) → leb (start + len) (length bytes) ≡ b
-          → cond b (answerMoved location start (recordAt (view .expiry) (part start len bytes) (location % 2 ^ 32))) Unreadable ≡ Read x → x .key .at + x .key .len ≤ length arena
-      in-bytes true h e = in-record (recordAt (view .expiry) (part start len bytes) (location % 2 ^ 32)) (leb-true _ _ h) refl e
-      in-bytes false h e = absurd (let z : _≡_ {A = ℕ} 0 1 = cc in omega arith)
-
-      in-set : (b : Bool) → cond b (inSegment (view .expiry) bytes start len location) Unreadable ≡ Read x → x .key .at + x .key .len ≤ length arena
-      in-set true e = in-bytes (leb (start + len) (length bytes)) refl e
-      in-set false e = absurd (let z : _≡_ {A = ℕ} 0 1 = cc in omega arith)
+  span-inside (suc location) x f =
+      let w = read-in view arena starts lengths location x f in
+      let i = record-inside (view .expiry) (part (w .start) (w .len) (take (view .filled) arena)) (location % 2 ^ 32) (w .r) (w .read) in
+      let b : length (take (view .filled) arena) ≤ length arena = rw length-take (omega arith) in
+      rw (← w .is) (omega (arith, w .inside, w .short))
 
   -- what a location holds is read there, with its key
   reads : (l : ℕ) (v : Stored) → storedIn view arena starts lengths l ≡ some v

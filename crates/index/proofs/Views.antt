@@ -1,18 +1,20 @@
 -- Laws of reading under a stored location. Assumes nothing.
-use mathlib.Core.Path.{_≡_, sym, ap, _∙_}
-use mathlib.Core.Bool.{true, false}
+use mathlib.Core.Path.{_≡_, refl, sym, ap, _∙_}
+use mathlib.Core.Bool.{Bool, true, false, cond}
 use mathlib.Core.List.{List}
 use Prim.Native.Nat.{ℕ, zero, suc, _+_, _-_, _/_, _%_, _^_, _≤_, _<_}
 use native.Mathlib.Omega.{arith}
-use lib.ListN.{length, take, drop, getD}
+use lib.Dec.{leb}
+use lib.ListN.{length, take, drop, getD, length-take}
 use lib.Seq.{take-take, drop-drop}
-use borrow.Author.Tests.{le-leb, lt-leb}
+use borrow.Author.Tests.{le-leb, lt-leb, leb-true}
 use Rattle.hash_parts.specs.declared.setting.SegmentExpiry.{SegmentExpiry}
 use Rattle.records.specs.Area.{part}
 use Rattle.records.specs.Record.{recordAt}
 use Rattle.records.specs.declared.record.RecordAnswer.{RecordAnswer}
-use Rattle.records.specs.declared.record.RecordAnswer.the-variants.{Unreadable}
-use Rattle.index.specs.View.{answerMoved, inSegment, isSegment, recordIn}
+use Rattle.records.specs.declared.record.RecordAnswer.the-variants.{Read, Unreadable}
+use Rattle.records.specs.declared.record.RecordRef.{RecordRef}
+use Rattle.index.specs.View.{refMoved, answerMoved, inSegment, isSegment, recordIn}
 use Rattle.index.specs.declared.view.SegmentView.{SegmentView}
 use Rattle.index.proofs.Walks.{drop-take}
 
@@ -61,3 +63,46 @@ module _ (view : SegmentView) (arena starts lengths : List ℕ) where
   location-inside (suc l) p h =
       let e : suc l - 1 ≡ l = omega arith in
       rw e (rw (rw e at h))
+
+-- ---- what was read under a stored location
+
+-- where it was read: in a segment inside the filled bytes, at the location's offset
+pub record ReadIn (view : SegmentView) (arena starts lengths : List ℕ) (location : ℕ) (x : RecordRef) : Type 0 where
+  pub start : ℕ
+  pub len : ℕ
+  pub r : RecordRef
+  pub inside : start + len ≤ length (take (view .filled) arena)
+  pub short : length (part start len (take (view .filled) arena)) ≤ len
+  pub read : recordAt (view .expiry) (part start len (take (view .filled) arena)) (location % 2 ^ 32) ≡ Read r
+  pub is : refMoved r location start ≡ x
+
+module _ (view : SegmentView) (arena starts lengths : List ℕ) (location : ℕ) (x : RecordRef) where
+  pub read-in : recordIn view arena starts lengths (suc location) ≡ Read x → ReadIn view arena starts lengths location x
+  unfolding recordIn inSegment
+  read-in f = in-set (isSegment view starts lengths (location / 2 ^ 32)) f
+    where
+      start : ℕ
+      start = getD starts (location / 2 ^ 32) 0
+
+      len : ℕ
+      len = getD lengths (location / 2 ^ 32) 0
+
+      segment : List ℕ
+      segment = part start len (take (view .filled) arena)
+
+      clash : Unreadable ≡ Read x → ReadIn view arena starts lengths location x
+      clash e = absurd (let z : _≡_ {A = ℕ} 0 1 = cc in omega arith)
+
+      in-record : (a : RecordAnswer) → start + len ≤ length (take (view .filled) arena) → recordAt (view .expiry) segment (location % 2 ^ 32) ≡ a → answerMoved location start a ≡ Read x
+          → ReadIn view arena starts lengths location x
+      in-record Unreadable h g e = clash e
+      in-record (Read r) h g e = record { start = start; len = len; r = r; inside = h; short = rw length-take (omega arith); read = g; is = cc }
+
+      in-bytes : (b : Bool) → leb (start + len) (length (take (view .filled) arena)) ≡ b
+          → cond b (answerMoved location start (recordAt (view .expiry) segment (location % 2 ^ 32))) Unreadable ≡ Read x → ReadIn view arena starts lengths location x
+      in-bytes true h e = in-record (recordAt (view .expiry) segment (location % 2 ^ 32)) (leb-true _ _ h) refl e
+      in-bytes false h e = clash e
+
+      in-set : (b : Bool) → cond b (inSegment (view .expiry) (take (view .filled) arena) start len location) Unreadable ≡ Read x → ReadIn view arena starts lengths location x
+      in-set true e = in-bytes (leb (start + len) (length (take (view .filled) arena))) refl e
+      in-set false e = clash e

@@ -3,7 +3,7 @@
 -- Assumes nothing.
 use mathlib.Core.Bool.{Bool, false, cond}
 use mathlib.Core.List.{List}
-use Prim.Native.Nat.{ℕ, zero, suc, _+_}
+use Prim.Native.Nat.{ℕ, zero, suc, _+_, _-_, _%_, _^_}
 use lib.Dec.{leb, ltb}
 use lib.ListN.{length, take, getD}
 use Rattle.hash_parts.specs.declared.setting.SegmentExpiry.{SegmentExpiry}
@@ -15,7 +15,8 @@ use Rattle.records.specs.declared.record.RecordRef.{RecordRef}
 use Rattle.index.specs.Word.{offsetPart, segmentPart}
 use Rattle.index.specs.declared.view.SegmentView.{SegmentView}
 
--- a record of a segment that starts at `begin`, with its location in the set and its spans in the arena
+-- a record of a segment that starts at `begin`, with its location in the set and its spans in the arena. Document 02, Change 1: the end is "counted as
+-- its own is", so by segment and offset; a number of 64 bits, which no location of a set makes wrap (`read-end` of sets' proofs)
 abbrev pub refMoved : RecordRef → ℕ → ℕ → RecordRef
 refMoved r location begin =
     record {
@@ -23,6 +24,7 @@ refMoved r location begin =
       «key_offset» = r .«key_offset»;
       key = record { at = begin + r .key .at; len = r .key .len };
       value = record { at = begin + r .value .at; len = r .value .len };
+      end = (location + (r .end - r .location)) % 2 ^ 64;
       «expires_at» = r .«expires_at»;
     }
 

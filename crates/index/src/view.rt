@@ -6,7 +6,7 @@ use records::record::RecordRef;
 use records::record::Span;
 use records::record::record_at;
 ghost use mathlib.Core.Path.{_≡_};
-ghost use Prim.Native.Nat.{_+_, _^_, _<_, min};
+ghost use Prim.Native.Nat.{_+_, _^_, _<_, _≤_, min};
 ghost use lib.ListN.{length, take};
 ghost use Rattle.index.specs.View.{inSegment, recordIn, refMoved};
 
@@ -19,7 +19,7 @@ pub struct SegmentView {
 }
 
 // The record under a stored location, which is segment × 2^32 + offset, plus 1. Its spans count
-// from the arena's start.
+// from the arena's start, its end as its location does: in its segment.
 pub fn record_at_location(
     view: SegmentView,
     arena: &[u8],
@@ -79,9 +79,10 @@ fn least(a: usize, b: usize) -> usize
     if a <= b { a } else { b }
 }
 
-// A record of a segment, with its location in the set and its spans in the arena.
+// A record of a segment, with its location in the set and its spans in the arena. Its end wraps
+// only for a segment number that no set has.
 fn moved_record(read: RecordRef, location: u64, begin: usize) -> RecordRef
-    requires { ⌜ (begin + read .key .at < 2 ^ 64) × (begin + read .value .at < 2 ^ 64) ⌝ }
+    requires { ⌜ (begin + read .key .at < 2 ^ 64) × (begin + read .value .at < 2 ^ 64) × (read .location ≤ read .end) ⌝ }
     ensures { λ r. ⌜ r ≡ refMoved read location begin ⌝ }
 {
     let key = read.key;
@@ -97,6 +98,7 @@ fn moved_record(read: RecordRef, location: u64, begin: usize) -> RecordRef
             at: begin + value.at,
             len: value.len,
         },
+        end: std::num::wrapping_add_u64(location, (read.end - read.location) as u64) as usize,
         expires_at: read.expires_at,
     }
 }

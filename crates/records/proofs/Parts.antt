@@ -102,7 +102,14 @@ unfolding recordOf
 of-out e s at key value q w x h = rw (← x, lt-leb (q + w + key + value) (length s) h)
 
 pub of-in : (e : SegmentExpiry) (s : List ℕ) (at key value q w d : ℕ) → w ≡ bytesPerRecord e → d ≡ deadlineIn e s q → q + w + key + value ≤ length s
-    → Read record { location = at; «key_offset» = q + w - at; key = record { at = q + w; len = key }; value = record { at = q + w + key; len = value }; «expires_at» = d }
+    → Read record {
+      location = at;
+      «key_offset» = q + w - at;
+      key = record { at = q + w; len = key };
+      value = record { at = q + w + key; len = value };
+      end = q + w + key + value;
+      «expires_at» = d;
+    }
     ≡ recordOf e s at key value q
 unfolding recordOf
 of-in e s at key value q w d x y h = rw (← x, ← y, le-leb (q + w + key + value) (length s) h)

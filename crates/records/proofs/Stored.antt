@@ -16,7 +16,7 @@ use Rattle.hash_parts.specs.Setting.{bytesPerRecord}
 use Rattle.hash_parts.specs.declared.setting.SegmentExpiry.{SegmentExpiry}
 use Rattle.hash_parts.specs.declared.setting.SegmentExpiry.the-variants.{None, Relative16}
 use Rattle.records.specs.Area.{part}
-use Rattle.records.specs.Record.{deadlineBytes, recordBytes, deadlineIn, refAt, recordOf, afterValue, afterKey, recordAt, Stored, contents, storedAt}
+use Rattle.records.specs.Record.{deadlineBytes, recordBytes, recordSize, deadlineIn, refAt, recordOf, afterValue, afterKey, recordAt, Stored, held, contents, storedAt}
 use Rattle.records.specs.Uleb128.{uleb128}
 use Rattle.records.specs.Varint.{readVarint}
 use Rattle.records.specs.declared.record.RecordAnswer.{RecordAnswer}
@@ -24,7 +24,7 @@ use Rattle.records.specs.declared.record.RecordAnswer.the-variants.{Read
 use Rattle.records.specs.declared.record.RecordRef.{RecordRef}
 use Rattle.records.specs.declared.varint.Varint.{Varint}
 use Rattle.records.specs.declared.varint.Varint.the-variants as varint
-use Rattle.records.proofs.Parts.{deadline-length, of-in, at-is}
+use Rattle.records.proofs.Parts.{deadline-length, size-is, of-in, at-is}
 use Rattle.records.proofs.Prefix.{read-written, read-inside, read-wider}
 
 -- ---- what was written is read back
@@ -85,14 +85,19 @@ module _ (e : SegmentExpiry) (p key value rest : List ℕ) (d : ℕ) (key-fits :
   front-length : length front₃ ≡ keyAt
   front-length = simp (length-append, deadline-length) (omega arith)
 
-  pub record-back : recordAt e arena (length p)
-      ≡ Read record {
+  -- the record as it is read
+  abbrev pub refBack : RecordRef
+  refBack =
+      record {
         location = length p;
         «key_offset» = headerBytes e (length key) (length value);
         key = record { at = keyAt; len = length key };
         value = record { at = keyAt + length key; len = length value };
+        end = keyAt + length key + length value;
         «expires_at» = deadlineKept e d;
       }
+
+  pub record-back : recordAt e arena (length p) ≡ Read refBack
   record-back =
       let a : ℕ = length p + length (uleb128 (length key)) in
       let q : ℕ = a + length (uleb128 (length value)) in
@@ -112,9 +117,17 @@ module _ (e : SegmentExpiry) (p key value rest : List ℕ) (d : ℕ) (key-fits :
       let n : length (front₃ ++ key) ≡ keyAt + length key = length-append front₃ key ∙ ap (λ (k : ℕ). k + length key) front-length in
       rw (flat₄, drop-at (front₃ ++ key) (value ++ rest) (keyAt + length key) n) (take-at value rest (length value) refl)
 
+  -- its end is the byte behind what was written
+  pub end-back : refBack .end ≡ length p + length (recordBytes e key value d)
+  unfolding recordSize
+  end-back = omega (arith, size-is e key value d)
+
+  pub held-back : held arena refBack ≡ record { key = key; value = value; deadline = deadlineKept e d }
+  held-back = ap₂ (λ (k v : List ℕ). record { key = k; value = v; deadline = deadlineKept e d }) key-back value-back
+
   pub stored-written : storedAt e arena (length p) ≡ some record { key = key; value = value; deadline = deadlineKept e d }
   unfolding storedAt
-  stored-written = ap (contents arena) record-back ∙ ap₂ (λ (k v : List ℕ). some record { key = k; value = v; deadline = deadlineKept e d }) key-back value-back
+  stored-written = ap (contents arena) record-back ∙ ap some held-back
 
 -- a record alone
 pub stored-back : (e : SegmentExpiry) (key value : List ℕ) (d : ℕ) → length key < 2 ^ 64 → length value < 2 ^ 64 → (e ≡ None → d ≡ 65535)
@@ -164,11 +177,12 @@ read-by e s at r f = after-key (readVarint s at) refl f
 -- it lies inside
 pub record-inside : (e : SegmentExpiry) (s : List ℕ) (at : ℕ) (r : RecordRef) → recordAt e s at ≡ Read r
     → (at < length s) × (r .location ≡ at) × (r .key .at ≡ at + r .«key_offset») × (r .value .at ≡ r .key .at + r .key .len) × (r .value .at + r .value .len ≤ length s)
+    × (r .end ≡ r .value .at + r .value .len)
 record-inside e s at r f =
     let b = read-by e s at r f in
     let k = read-inside s at (b .key) (b .p) (b .key-read) in
     let v = read-inside s (b .p) (b .value) (b .q) (b .value-read) in
-    rw (sym (b .is)) (omega arith, refl, omega arith, refl, b .inside)
+    rw (sym (b .is)) (omega arith, refl, omega arith, refl, b .inside, refl)
 
 -- what is stored at a position is what a record that is read there holds
 stored-by : (e : SegmentExpiry) (s : List ℕ) (at : ℕ) (t : Stored) → storedAt e s at ≡ some t → (r : RecordRef) × (recordAt e s at ≡ Read r) × (contents s (Read r) ≡ some t)
@@ -192,6 +206,7 @@ moved n r =
       «key_offset» = r .«key_offset»;
       key = record { at = n + r .key .at; len = r .key .len };
       value = record { at = n + r .value .at; len = r .value .len };
+      end = n + r .end;
       «expires_at» = r .«expires_at»;
     }
 
@@ -224,7 +239,7 @@ module _ (pre s post : List ℕ) where
       (at-is e wide (n + at) (b .key) (n + b .p) (read-wider pre s post at (b .key) (b .p) (b .key-read))
       (b .value) (n + b .q) (read-wider pre s post (b .p) (b .value) (b .q) (b .value-read))
       ∙ sym (of-in e wide (n + at) (b .key) (b .value) (n + b .q) w (deadlineIn e s (b .q)) refl (deadline-wider e (b .q) (omega arith)) (omega arith))
-      ∙ rw (x, y, add-assoc n (b .q + w) (b .key)))
+      ∙ rw (x, y, add-assoc n (b .q + w) (b .key), add-assoc n (b .q + w + b .key) (b .value)))
 
   contents-wider : (e : SegmentExpiry) (at : ℕ) (r : RecordRef) → recordAt e s at ≡ Read r → contents wide (Read (moved (length pre) r)) ≡ contents s (Read r)
   contents-wider e at r f =

@@ -53,7 +53,8 @@ abbrev pub deadlineIn : SegmentExpiry → List ℕ → ℕ → ℕ
 deadlineIn None s at = neverExpires
 deadlineIn (Relative16 tick) s at = getD s at 0 + getD s (at + 1) 0 * 256
 
--- the record at a position whose prefixes say key and value and end at q
+-- the record at a position whose prefixes say key and value and end at q. Document 02, Change 1: "Reading a record now also hands over the position just
+-- after its value, counted as its own is .. Over-long prefixes count with their real bytes."
 abbrev pub refAt : SegmentExpiry → List ℕ → ℕ → ℕ → ℕ → ℕ → RecordRef
 refAt e s at key value q =
     record {
@@ -61,6 +62,7 @@ refAt e s at key value q =
       «key_offset» = q + bytesPerRecord e - at;
       key = record { at = q + bytesPerRecord e; len = key };
       value = record { at = q + bytesPerRecord e + key; len = value };
+      end = q + bytesPerRecord e + key + value;
       «expires_at» = deadlineIn e s q;
     }
 
@@ -87,9 +89,11 @@ pub record Stored : Type 0 where
   pub value : List ℕ
   pub deadline : ℕ
 
+abbrev pub held : List ℕ → RecordRef → Stored
+held s r = record { key = part (r .key .at) (r .key .len) s; value = part (r .value .at) (r .value .len) s; deadline = r .«expires_at» }
+
 abbrev pub contents : List ℕ → RecordAnswer → Option Stored
-contents s (Read r) =
-    some record { key = part (r .key .at) (r .key .len) s; value = part (r .value .at) (r .value .len) s; deadline = r .«expires_at» }
+contents s (Read r) = some (held s r)
 contents s Unreadable = none
 
 -- key, value and deadline of the record at a position

@@ -22,12 +22,14 @@ pub struct Span {
 }
 
 // A record that was read: where it begins, how many bytes stand before its key, where key and
-// value stand, and its deadline.
+// value stand, where it ends and the next one may begin, and its deadline. The end is the position
+// just after the value, counted as the location is.
 pub struct RecordRef {
     pub location: usize,
     pub key_offset: usize,
     pub key: Span,
     pub value: Span,
+    pub end: usize,
     pub expires_at: u16,
 }
 
@@ -221,6 +223,7 @@ fn record_at_lengths(
             at: key_end,
             len: value_len,
         },
+        end: key_end + value_len,
         expires_at: deadline_in(records, expiry, cursor),
     })
 }

@@ -1,8 +1,8 @@
--- What is read in a set or a rebuild lies in the filled bytes; and what a reused push was shown. Assumes nothing.
+-- What is read in a set or a rebuild lies in the filled bytes and ends in its segment; and what a reused push was shown. Assumes nothing.
 use mathlib.Core.Path.{_≡_, refl, ap}
 use mathlib.Core.Bool.{Bool, true, false, cond}
 use mathlib.Core.List.{List, []}
-use Prim.Native.Nat.{ℕ, zero, suc, _+_, _/_, _%_, _^_, _≤_}
+use Prim.Native.Nat.{ℕ, zero, suc, _+_, _-_, _/_, _%_, _^_, _≤_, _<_}
 use native.Mathlib.Omega.{arith}
 use lib.Dec.{eqb, leb}
 use lib.ListN.{length, take, getD, length-take}
@@ -15,8 +15,9 @@ use Rattle.records.specs.declared.record.RecordRef.{RecordRef}
 use Rattle.records.specs.declared.record.Span.{Span}
 use Rattle.records.proofs.Area.{same-true}
 use Rattle.records.proofs.Stored.{record-inside}
-use Rattle.index.specs.View.{refMoved, answerMoved, inSegment, isSegment, recordIn}
+use Rattle.index.specs.View.{recordIn}
 use Rattle.index.specs.declared.view.SegmentView.{SegmentView}
+use Rattle.index.proofs.Views.{read-in}
 use Rattle.sets.specs.Rebuild.{holdsRecord}
 use Rattle.sets.proofs.Counts.{both}
 
@@ -32,33 +33,23 @@ module _ (view : SegmentView) (arena starts lengths : List ℕ) where
 
   -- what is read lies in the filled bytes
   pub read-inside : (l : ℕ) (x : RecordRef) → recordIn view arena starts lengths l ≡ Read x → Inside (length bytes) x
-  unfolding recordIn inSegment
+  unfolding recordIn
   read-inside zero x f = absurd (let z : _≡_ {A = ℕ} 0 1 = cc in omega arith)
-  read-inside (suc location) x f = in-set (isSegment view starts lengths (location / 2 ^ 32)) f
-    where
-      start : ℕ
-      start = getD starts (location / 2 ^ 32) 0
+  read-inside (suc location) x f =
+      let w = read-in view arena starts lengths location x f in
+      let i = record-inside (view .expiry) (part (w .start) (w .len) bytes) (location % 2 ^ 32) (w .r) (w .read) in
+      rw (← w .is) (record { key-inside = omega (arith, w .inside, w .short); value-inside = omega (arith, w .inside, w .short); whole-inside = omega (arith, w .inside, w .short) })
 
-      len : ℕ
-      len = getD lengths (location / 2 ^ 32) 0
-
-      in-record : (a : RecordAnswer) → start + len ≤ length bytes → recordAt (view .expiry) (part start len bytes) (location % 2 ^ 32) ≡ a
-          → answerMoved location start a ≡ Read x → Inside (length bytes) x
-      in-record Unreadable h g e = absurd (let z : _≡_ {A = ℕ} 0 1 = cc in omega arith)
-      in-record (Read r) h g e =
-          let i = record-inside (view .expiry) (part start len bytes) (location % 2 ^ 32) r g in
-          let same : refMoved r location start ≡ x = cc in
-          let s : length (part start len bytes) ≤ len = rw length-take (omega arith) in
-          rw (← same) (record { key-inside = omega arith; value-inside = omega arith; whole-inside = omega arith })
-
-      in-bytes : (b : Bool) → leb (start + len) (length bytes) ≡ b
-          → cond b (answerMoved location start (recordAt (view .expiry) (part start len bytes) (location % 2 ^ 32))) Unreadable ≡ Read x → Inside (length bytes) x
-      in-bytes true h e = in-record (recordAt (view .expiry) (part start len bytes) (location % 2 ^ 32)) (leb-true _ _ h) refl e
-      in-bytes false h e = absurd (let z : _≡_ {A = ℕ} 0 1 = cc in omega arith)
-
-      in-set : (b : Bool) → cond b (inSegment (view .expiry) bytes start len location) Unreadable ≡ Read x → Inside (length bytes) x
-      in-set true e = in-bytes (leb (start + len) (length bytes)) refl e
-      in-set false e = absurd (let z : _≡_ {A = ℕ} 0 1 = cc in omega arith)
+  -- Document 02, Change 1: where it ends is "counted as its own is". In a set or a rebuild, whose locations have 40 bits and whose arena has at most 2^30
+  -- bytes, the sum does not wrap, and the end has the segment of the location.
+  pub read-end : (location : ℕ) (x : RecordRef) → recordIn view arena starts lengths (suc location) ≡ Read x → location < 2 ^ 40 → length arena ≤ 2 ^ 30
+      → (x .end ≡ location + x .«key_offset» + x .key .len + x .value .len) × (x .end / 2 ^ 32 ≡ location / 2 ^ 32)
+  read-end location x f low short =
+      let w = read-in view arena starts lengths location x f in
+      let i = record-inside (view .expiry) (part (w .start) (w .len) bytes) (location % 2 ^ 32) (w .r) (w .read) in
+      let b : length bytes ≤ length arena = rw length-take (omega arith) in
+      let sum : (location + (w .r .end - w .r .location)) % 2 ^ 64 ≡ location + w .r .«key_offset» + w .r .key .len + w .r .value .len = omega (arith, w .inside, w .short) in
+      rw (← w .is) (sum, rw sum (omega (arith, w .inside, w .short)))
 
 -- ---- what a reused push was shown
 

@@ -159,6 +159,7 @@ baseRecord c tick y =
       «key_offset» = y .entry .«key_offset»;
       key = y .entry .key;
       value = y .entry .value;
+      end = y .entry .end;
       «remaining_ttl» = remaining (c .expiry) (y .entry .«expires_at») tick;
     }
 

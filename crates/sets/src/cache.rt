@@ -39,13 +39,15 @@ pub struct FrozenSegmentCache {
     pub record_header_bytes: usize,
 }
 
-// A record as probe and walk tell it. Key and value are parts of the arena.
+// A record as probe and walk tell it. Key and value are parts of the arena; location and end are
+// segment × 2^32 + offset.
 pub struct SegmentBaseRecord {
     pub slot: usize,
     pub location: usize,
     pub key_offset: usize,
     pub key: Span,
     pub value: Span,
+    pub end: usize,
     pub remaining_ttl: SegmentRemainingTtl,
 }
 

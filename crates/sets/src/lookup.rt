@@ -61,6 +61,7 @@ pub(crate) fn base_record(
         key_offset: entry.key_offset,
         key,
         value,
+        end: entry.end,
         remaining_ttl: remaining_ttl(expiry, entry.expires_at, now_tick),
     }
 }

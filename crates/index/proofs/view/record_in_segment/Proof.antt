@@ -42,7 +42,8 @@ moved-record-requires c κs =
     let l : length s ≤ a .length = omega (arith, length-take (a .start + a .length - a .start) (drop (a .start) (a .arena .now))) in
     let v : o .value .at + o .value .len ≤ length s = r .4 in
     let k : o .value .at ≡ o .key .at + o .key .len = r .3 in
-    omega arith
+    let at : o .location ≡ _ = r .1 in
+    (omega arith, omega arith, omega arith)
 
 returns-4 : tie.Need-returns-4
 returns-4 c =

@@ -44,5 +44,5 @@ record-at-lengths-spec =
     returns-2
     (λ c. search needs) (λ c. search needs)
     returns-3
-    (λ c. search needs) (λ c κs. search needs)
+    (λ c. search needs) (λ c. search needs) (λ c κs. search needs)
     returns-4)
