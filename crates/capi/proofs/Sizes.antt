@@ -8,7 +8,8 @@ use Rattle.hash_parts.proofs.Refusals.{refusal-pos}
 use Rattle.hash_parts.specs.Error.{errorNumber}
 use Rattle.hash_parts.specs.Outcome.{refused}
 use Rattle.hash_parts.specs.declared.error.SegmentCacheBuildError.{SegmentCacheBuildError}
-use Rattle.capi.specs.Calls.{told, sizeTold}
+use Rattle.capi.specs.Calls.{told}
+use Rattle.capi.specs.Records.{sizeTold}
 
 -- a refusal has a number, so the words stay
 pub size-refused : (r : SegmentCacheBuildError) (old : List ℕ) → told (errorNumber r) old ≡ sizeTold (refused r) old

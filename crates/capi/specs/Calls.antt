@@ -6,25 +6,23 @@ use mathlib.Core.Option.{Option, none, some}
 use Prim.Native.Nat.{ℕ, _+_, _-_, _%_, _^_}
 use lib.Dec.{eqb}
 use lib.ListN.{length}
-use Rattle.hash_parts.specs.Outcome.{Outcome}
 use Rattle.hash_parts.specs.declared.duration.Lifetime.{Lifetime}
 use Rattle.hash_parts.specs.declared.duration.SegmentRemainingTtl.{SegmentRemainingTtl}
 use Rattle.hash_parts.specs.declared.duration.SegmentRemainingTtl.the-variants as left
 use Rattle.hash_parts.specs.declared.setting.SegmentCacheConfig.{SegmentCacheConfig}
-use Rattle.records.specs.Record.{encodedSize}
 use Rattle.records.specs.declared.record.Span.{Span}
 use Rattle.sets.specs.Answers.{Reply, accept, refuse, Placed}
 use Rattle.sets.specs.Areas.{areaWordsFor}
 use Rattle.sets.specs.Build.{Opened, Pushed, Finished, afterOpen, afterPush, afterFinish}
 use Rattle.sets.specs.Lookup.{afterGet, afterPeek, afterTake, probeAnswer, statsAnswer, walkAnswer}
-use Rattle.sets.specs.Questions.{all, decided, firstNo}
+use Rattle.sets.specs.Questions.{all}
 use Rattle.sets.specs.Stats.{loadOf}
 use Rattle.sets.specs.declared.areas.AreaWords.{AreaWords}
 use Rattle.sets.specs.declared.builder.SegmentCacheBuilder.{SegmentCacheBuilder}
 use Rattle.sets.specs.declared.cache.FrozenSegmentCache.{FrozenSegmentCache}
 use Rattle.sets.specs.declared.cache.SegmentBaseRecord.{SegmentBaseRecord}
 use Rattle.sets.specs.declared.stats.SegmentCacheStats.{SegmentCacheStats}
-use Rattle.capi.specs.Words.{askWidths, builderIn, builderWords, flagOf, lifetimeIn, setIn, setWords, settingAlone, statsIn, statsWords, stored}
+use Rattle.capi.specs.Words.{builderIn, builderWords, flagOf, lifetimeIn, setIn, setWords, settingAlone, statsIn, statsWords, stored}
 use Rattle.capi.specs.declared.stats_calls.StatsNumber.{StatsNumber}
 use Rattle.capi.specs.declared.stats_calls.StatsNumber.the-variants.{RetainedBytes, OverheadBytes, IndexLoad}
 use Rattle.capi.specs.declared.words.LoadedBuilder.{LoadedBuilder}
@@ -175,17 +173,6 @@ unfoldable pub exportedAreaWords : List ℕ → ℕ → List ℕ → Told
 exportedAreaWords w records old =
     cond (eqb (length old) 5) (onSetting (settingAlone w) (λ c. areaWordsTold (areaWordsFor c records) old) (told 11 old)) (told 11 old)
 
--- ---- the size of a record
-
-abbrev pub sizeTold : Outcome → List ℕ → Told
-sizeTold o old = told (o .number) (cond (eqb (o .number) 0) (stored (o .value ∷ []) old) old)
-
-unfoldable pub exportedSize : List ℕ → ℕ → ℕ → List ℕ → Told
-exportedSize w key value old =
-    cond (eqb (length old) 1)
-    (onSetting (settingAlone w) (λ c. decided (firstNo (askWidths w)) (sizeTold (encodedSize (c .expiry) key value) old) (λ n. told n old)) (told 11 old))
-    (told 11 old)
-
 -- ---- get and peek: 1, place and length of the value; three zeros for nothing
 
 abbrev pub spanTold : Reply (Option Span) (Unit {0}) → List ℕ → Told
@@ -231,7 +218,7 @@ exportedTake w h key index filter starts lengths arena old =
     (indexTold 11 index old))
     (indexTold 11 index old)
 
--- ---- probe and walk: eleven words of a record, eleven zeros for nothing
+-- ---- probe and walk: twelve words of a record, twelve zeros for nothing
 
 -- 0: it never lapses; 1: seconds and nanoseconds; 2: nothing is left
 abbrev pub leftKind : SegmentRemainingTtl → ℕ
@@ -262,20 +249,21 @@ recordWords r =
     ∷ leftKind (r .«remaining_ttl»)
     ∷ leftSecs (r .«remaining_ttl»)
     ∷ leftNanos (r .«remaining_ttl»)
+    ∷ r .end
     ∷ []
 
 abbrev pub recordTold : Reply (Option SegmentBaseRecord) (Unit {0}) → List ℕ → Told
 recordTold (accept (some r)) old = told 0 (stored (recordWords r) old)
-recordTold (accept none) old = told 0 (stored (0 ∷ 0 ∷ 0 ∷ 0 ∷ 0 ∷ 0 ∷ 0 ∷ 0 ∷ 0 ∷ 0 ∷ 0 ∷ []) old)
+recordTold (accept none) old = told 0 (stored (0 ∷ 0 ∷ 0 ∷ 0 ∷ 0 ∷ 0 ∷ 0 ∷ 0 ∷ 0 ∷ 0 ∷ 0 ∷ 0 ∷ []) old)
 recordTold (refuse n u) old = told n old
 
 unfoldable pub exportedProbe : List ℕ → ℕ → List ℕ → ℕ → List ℕ → List ℕ → List ℕ → List ℕ → List ℕ → List ℕ → Told
 exportedProbe w h key tick index filter starts lengths arena old =
-    cond (eqb (length old) 11) (onSet (setIn w) (λ s. recordTold (probeAnswer s h key tick index filter starts lengths arena) old) (told 11 old)) (told 11 old)
+    cond (eqb (length old) 12) (onSet (setIn w) (λ s. recordTold (probeAnswer s h key tick index filter starts lengths arena) old) (told 11 old)) (told 11 old)
 
 unfoldable pub exportedWalk : List ℕ → ℕ → ℕ → List ℕ → List ℕ → List ℕ → List ℕ → List ℕ → Told
 exportedWalk w from tick index starts lengths arena old =
-    cond (eqb (length old) 11) (onSet (setIn w) (λ s. recordTold (walkAnswer s from tick index starts lengths arena) old) (told 11 old)) (told 11 old)
+    cond (eqb (length old) 12) (onSet (setIn w) (λ s. recordTold (walkAnswer s from tick index starts lengths arena) old) (told 11 old)) (told 11 old)
 
 -- ---- statistics
 

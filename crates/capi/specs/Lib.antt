@@ -1,3 +1,4 @@
 pub mod Calls
 pub mod Rebuilds
+pub mod Records
 pub mod Words

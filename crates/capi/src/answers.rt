@@ -14,7 +14,7 @@ ghost use Rattle.capi.specs.Words.{stored};
 
 pub const SPAN_WORDS: usize = 3;
 
-pub const RECORD_WORDS: usize = 11;
+pub const RECORD_WORDS: usize = 12;
 
 // The three words of the span: 1 and the value's place and length in the arena, or three zeros.
 pub fn tell_get(answer: GetAnswer, span: &mut [u64]) -> u64
@@ -33,8 +33,8 @@ pub fn tell_get(answer: GetAnswer, span: &mut [u64]) -> u64
     }
 }
 
-// The eleven words of a record: 1, slot, location, bytes before the key, place and length of key
-// and value, and what is left of its time; or eleven zeros.
+// The twelve words of a record: 1, slot, location, bytes before the key, place and length of key
+// and value, what is left of its time, and its end; or twelve zeros.
 pub fn tell_record(answer: ProbeAnswer, out: &mut [u64]) -> u64
     ensures { λ r. ⌜ told r (now (out .exit)) ≡ recordTold (probeReply answer) (now (out .entry)) ⌝ }
 {
@@ -44,7 +44,7 @@ pub fn tell_record(answer: ProbeAnswer, out: &mut [u64]) -> u64
             0
         }
         ProbeAnswer::Nothing => {
-            copy_words(out, &[0, 0, 0, 0, 0, 0, 0, 0, 0, 0, 0]);
+            copy_words(out, &[0; RECORD_WORDS]);
             0
         }
         ProbeAnswer::Refused(refusal) => refusal.number() as u64,
@@ -94,6 +94,7 @@ fn store_record(out: &mut [u64], found: SegmentBaseRecord)
             kind,
             secs,
             nanos,
+            found.end as u64,
         ],
     );
 }

@@ -1,4 +1,4 @@
-// Opening and finishing a set, and the sizes of areas and records.
+// Opening and finishing a set, and the sizes of areas.
 use crate::words::BUILDER_WORDS;
 use crate::words::LoadedBuilder;
 use crate::words::LoadedSetting;
@@ -9,18 +9,15 @@ use crate::words::load_builder;
 use crate::words::load_setting;
 use crate::words::store_builder;
 use crate::words::store_set;
-use crate::words::width_refusal;
-use records::record::SizeAnswer;
 use sets::areas::AreaWordsAnswer;
 use sets::areas::area_words;
 use sets::builder::FinishAnswer;
 use sets::builder::OpenAnswer;
 use sets::builder::SegmentCacheBuilder;
 ghost use mathlib.Core.Path.{_≡_};
-ghost use Rattle.records.specs.Record.{sizeOutcome};
 ghost use Rattle.sets.specs.Answers.{finishReply, openReply};
 ghost use Rattle.sets.specs.Areas.{areaWordsReply};
-ghost use Rattle.capi.specs.Calls.{areaWordsTold, exportedAreaWords, exportedFinish, exportedOpen, exportedSize, finishWords, openWords, setTold, sizeTold, stateTold, told};
+ghost use Rattle.capi.specs.Calls.{areaWordsTold, exportedAreaWords, exportedFinish, exportedOpen, finishWords, openWords, setTold, stateTold, told};
 
 const AREAS: usize = 5;
 
@@ -156,42 +153,5 @@ fn tell_area_words(answer: AreaWordsAnswer, words: &mut [u64]) -> u64
             0
         }
         AreaWordsAnswer::Refused(refusal) => refusal.number() as u64,
-    }
-}
-
-// How many bytes a record of these lengths takes. Any setting will do, but its words must be those of
-// a setting.
-#[no_mangle]
-pub extern "C" fn segment_cache_encoded_record_bytes(
-    setting: &[u64],
-    key_bytes: usize,
-    value_bytes: usize,
-    size: &mut [u64],
-) -> u64
-    ensures { λ r. ⌜ told r (now (size .exit)) ≡ exportedSize (now (setting .entry)) «key_bytes» «value_bytes» (now (size .entry)) ⌝ }
-{
-    if size.len() != 1 {
-        return MALFORMED;
-    }
-    let LoadedSetting::Is(config) = load_setting(setting) else {
-        return MALFORMED;
-    };
-    let too_wide = width_refusal(setting);
-    if too_wide != 0 {
-        return too_wide;
-    }
-    let answer = SegmentCacheBuilder::encoded_record_bytes(config, key_bytes, value_bytes);
-    tell_size(answer, size)
-}
-
-fn tell_size(answer: SizeAnswer, size: &mut [u64]) -> u64
-    ensures { λ r. ⌜ told r (now (size .exit)) ≡ sizeTold (sizeOutcome answer) (now (size .entry)) ⌝ }
-{
-    match answer {
-        SizeAnswer::Bytes(bytes) => {
-            copy_words(size, &[bytes as u64]);
-            0
-        }
-        SizeAnswer::Refused(refusal) => refusal.number() as u64,
     }
 }

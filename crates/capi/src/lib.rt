@@ -5,5 +5,6 @@
 pub mod answers;
 pub mod build_calls;
 pub mod rebuild_calls;
+pub mod record_calls;
 pub mod stats_calls;
 pub mod words;

@@ -8,8 +8,8 @@ use capi::words::load_set;
 ghost use mathlib.Core.Path.{_≡_};
 ghost use Rattle.capi.specs.Calls.{exportedProbe, told};
 
-// The eleven words of a record: 1, slot, location, bytes before the key, place and length of key
-// and value, and what is left of its time; or eleven zeros.
+// The twelve words of a record: 1, slot, location, bytes before the key, place and length of key
+// and value, what is left of its time, and its end; or twelve zeros.
 #[no_mangle]
 pub extern "C" fn segment_cache_probe(
     set: &[u64],

@@ -3,8 +3,8 @@ use Rattle.capi.proofs.Sizes.{size-refused}
 use Rattle.capi.specs.Calls.{told}
 use mathlib.Core.Path.{ap}
 use borrow.Author.Needs.{needs}
-use Rattle.capi.proofs.build_calls.tell_size.Statement.{statement}
-use Rattle.capi.proofs.build_calls.tell_size.Tie as tie
+use Rattle.capi.proofs.record_calls.tell_size.Statement.{statement}
+use Rattle.capi.proofs.record_calls.tell_size.Tie as tie
 
 returns : tie.Need-returns
 returns c = rw (c .before .before .before .before .before .before .answer .given .1) (ap (told 0) (c .before .before .copy-words .ensures))
