@@ -80,11 +80,11 @@ abbrev pub varintTold : Varint → Told Bool
 varintTold varint.Unreadable = told false []
 varintTold (varint.Value v next) = told true (v ∷ next ∷ [])
 
--- whether there is a record; location, bytes before the key, key's place and length, value's place and length, deadline
+-- whether there is a record; location, bytes before the key, key's place and length, value's place and length, deadline, end
 abbrev pub recordTold : RecordAnswer → Told Bool
 recordTold record-answer.Unreadable = told false []
 recordTold (record-answer.Read r) =
-    told true (r .location ∷ r .«key_offset» ∷ r .key .at ∷ r .key .len ∷ r .value .at ∷ r .value .len ∷ r .«expires_at» ∷ [])
+    told true (r .location ∷ r .«key_offset» ∷ r .key .at ∷ r .key .len ∷ r .value .at ∷ r .value .len ∷ r .«expires_at» ∷ r .end ∷ [])
 
 -- whether there is a record of the key; its slot, and the words of the record
 abbrev pub foundTold : FindAnswer → Told Bool

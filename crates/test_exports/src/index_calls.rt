@@ -258,6 +258,7 @@ pub extern "C" fn test_record_at_location(
             value.at as u64,
             value.len as u64,
             record.expires_at as u64,
+            record.end as u64,
         ],
     );
     true
@@ -318,6 +319,7 @@ pub extern "C" fn test_find_record(
             value.at as u64,
             value.len as u64,
             record.expires_at as u64,
+            record.end as u64,
         ],
     );
     true

@@ -252,7 +252,7 @@ pub extern "C" fn test_append_record(
 }
 
 // The words: location, bytes before the key, key's place and length, value's place and length,
-// deadline.
+// deadline, end.
 #[no_mangle]
 pub extern "C" fn test_record_at(bytes: &[u8], on: bool, location: usize, out: &mut [u64]) -> bool
     ensures { λ r. ⌜ told r (now (out .exit)) ≡ lent (recordTold (recordAt (expiryOf on 1 0) (now (bytes .entry)) location)) (now (out .entry)) ⌝ }
@@ -273,6 +273,7 @@ pub extern "C" fn test_record_at(bytes: &[u8], on: bool, location: usize, out: &
             value.at as u64,
             value.len as u64,
             record.expires_at as u64,
+            record.end as u64,
         ],
     );
     true
