@@ -2,6 +2,7 @@
 use crate::place;
 use crate::place::Words;
 use crate::place::lent;
+use capi::answers::RECORD_WORDS;
 use capi::stats_calls::segment_cache_stats;
 use capi_get::segment_cache_get;
 use capi_next_entry::segment_cache_next_entry;
@@ -88,9 +89,18 @@ fn read(set: &[u64], index: &[u64], filter: &[u64], starts: &[u64], lengths: &[u
         starts,
         lengths,
         arena,
-        &mut [0; 11],
+        &mut [0; RECORD_WORDS],
     ));
-    show::decimal(segment_cache_next_entry(set, 0, 0, index, starts, lengths, arena, &mut [0; 11]));
+    show::decimal(segment_cache_next_entry(
+        set,
+        0,
+        0,
+        index,
+        starts,
+        lengths,
+        arena,
+        &mut [0; RECORD_WORDS],
+    ));
 }
 
 pub(crate) fn stats(words: Words) -> u64 {
