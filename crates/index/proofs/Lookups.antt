@@ -3,16 +3,16 @@ use mathlib.Core.Path.{_≡_, refl, sym, ap, _∙_}
 use mathlib.Core.Bool.{Bool, true, false, cond}
 use mathlib.Core.Option.{Option, none, some, Option·map}
 use mathlib.Core.List.{List, [], _∷_, head?, Forall₂, Forall₂·nil, Forall₂·cons}
-use Prim.Native.Nat.{ℕ, zero, suc, _+_, _-_, _*_, _/_, _%_, _^_, _≤_, _<_}
+use Prim.Native.Nat.{ℕ, zero, suc, _+_, _-_, _*_, _%_, _^_, _≤_, _<_}
 use native.Mathlib.Omega.{arith}
-use lib.Dec.{eqb, leb}
-use lib.ListN.{length, take, drop, getD, length-take}
+use lib.Dec.{eqb}
+use lib.ListN.{length, take, drop, length-take}
 use lib.Seq.{take-all, drop-drop}
-use borrow.Author.Tests.{eqb-false, leb-true, le-leb}
+use borrow.Author.Tests.{eqb-false, le-leb}
 use Rattle.hash_parts.specs.Hash.{tagOf, firstBucket}
 use Rattle.hash_parts.proofs.Products.{first-bucket-below}
 use Rattle.records.specs.Area.{spanned, part}
-use Rattle.records.specs.Record.{Stored, recordAt, contents}
+use Rattle.records.specs.Record.{Stored, contents}
 use Rattle.records.specs.declared.record.RecordAnswer.{RecordAnswer}
 use Rattle.records.specs.declared.record.RecordAnswer.the-variants.{Read, Unreadable}
 use Rattle.records.specs.declared.record.RecordRef.{RecordRef}
@@ -21,7 +21,7 @@ use Rattle.records.proofs.Stored.{record-inside}
 use Rattle.index.specs.Filter.{filterHas}
 use Rattle.index.specs.Find.{other, match, seen, look, looksFrom, slotsOf, findIn}
 use Rattle.index.specs.Slot.{keptTag}
-use Rattle.index.specs.View.{refMoved, answerMoved, inSegment, isSegment, recordIn}
+use Rattle.index.specs.View.{recordIn}
 use Rattle.index.specs.Walk.{rot, bucketWalk}
 use Rattle.index.specs.declared.find.FindAnswer.{FindAnswer}
 use Rattle.index.specs.declared.find.FindAnswer.the-variants.{Found, Nothing}

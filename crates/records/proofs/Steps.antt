@@ -1,20 +1,19 @@
 -- Laws of a record's end, and of stepping by ends: over records written one behind the other it visits each once and stops at the length; over any bytes it
 -- goes on and stops where no record is read. Assumes nothing.
 use mathlib.Core.Path.{_≡_, refl, sym, ap, ap₂, _∙_}
-use mathlib.Core.List.{List, [], _∷_, _++_, flatMap, List·Memᴰ, List·Memᴰ·head, List·Memᴰ·tail, append-assoc, append-nil}
-use Prim.Native.Nat.{ℕ, zero, suc, _+_, _-_, _^_, _≤_, _<_}
+use mathlib.Core.List.{List, [], _∷_, _++_, flatMap, List·Memᴰ, List·Memᴰ·head, List·Memᴰ·tail, append-assoc}
+use Prim.Native.Nat.{ℕ, zero, suc, _+_, _^_, _≤_, _<_}
 use native.Mathlib.Omega.{arith}
 use lib.ListN.{length, length-append}
 use Rattle.hash_parts.specs.declared.setting.SegmentExpiry.{SegmentExpiry}
 use Rattle.records.specs.Record.{recordBytes, recordSize, recordAt, Stored, held}
-use Rattle.records.specs.Steps.{Stepped, stepped, stepsFrom, steps, allBytes}
-use Rattle.records.specs.Uleb128.{uleb128}
+use Rattle.records.specs.Steps.{stepped, stepsFrom, steps, allBytes}
 use Rattle.records.specs.declared.record.RecordAnswer.{RecordAnswer}
 use Rattle.records.specs.declared.record.RecordAnswer.the-variants.{Read, Unreadable}
 use Rattle.records.specs.declared.record.RecordRef.{RecordRef}
 use Rattle.records.proofs.Parts.{size-is}
 use Rattle.records.proofs.Prefix.{read-inside}
-use Rattle.records.proofs.Stored.{headerBytes, deadlineKept, refBack, record-back, end-back, held-back, read-by, record-inside}
+use Rattle.records.proofs.Stored.{deadlineKept, refBack, record-back, end-back, held-back, read-by, record-inside}
 use Rattle.records.proofs.Uleb128.{leb-pos}
 
 -- ---- where a record ends

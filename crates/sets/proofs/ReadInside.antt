@@ -5,10 +5,9 @@ use mathlib.Core.List.{List, []}
 use Prim.Native.Nat.{ℕ, zero, suc, _+_, _-_, _/_, _%_, _^_, _≤_, _<_}
 use native.Mathlib.Omega.{arith}
 use lib.Dec.{eqb, leb}
-use lib.ListN.{length, take, getD, length-take}
-use borrow.Author.Tests.{eqb-true, leb-true}
+use lib.ListN.{length, take, length-take}
+use borrow.Author.Tests.{eqb-true}
 use Rattle.records.specs.Area.{part, sameBytes, spanned}
-use Rattle.records.specs.Record.{recordAt}
 use Rattle.records.specs.declared.record.RecordAnswer.{RecordAnswer}
 use Rattle.records.specs.declared.record.RecordAnswer.the-variants.{Read, Unreadable}
 use Rattle.records.specs.declared.record.RecordRef.{RecordRef}
