@@ -37,7 +37,8 @@
  *
  * All other areas are read or written during the one call: setting, lifetime, key, value and keep flags
  * are read, and answers go to areas of exactly the length that segment_cache_words.h names (place, span,
- * record, stats, totals, area words; accessed, size and out are one word).
+ * record, stats, totals, area words; accessed, size and out are one word). The record of record_at has
+ * SEGMENT_CACHE_STORED_WORDS.
  *
  * Rules of lending, which the library can't check:
  *  - A slice is a pointer and a length in elements. The pointer is aligned for its element and never
@@ -197,6 +198,19 @@ uint64_t segment_cache_modeled_overhead_bytes(const uint64_t *stats, size_t stat
                                               uint64_t *out, size_t out_len);
 uint64_t segment_cache_index_load_bps(const uint64_t *stats, size_t stats_len, uint64_t *out,
                                       size_t out_len);
+
+/* ---- stepping through a segment without the index */
+
+/* The record at a position of these bytes, lapsed or not, with any setting of the same expiry as the one
+   that they were written with: the first six words of a set will do. Key, value and end count from the
+   front of the bytes; record[0] is 0 where no record is read there, as past the end. To step through
+   segment i of a set lend arena + starts[i] and lengths[i] bytes, begin at 0, go on at the record's end
+   and stop at lengths[i]. record[0] == 0 before that means bytes that are no record, which no call of
+   this library leaves there. Refusals: 11 (of the words alone), 9 and 1 (nanoseconds and occupancy
+   beyond 32 and 8 bits). */
+uint64_t segment_cache_record_at(const uint64_t *setting, size_t setting_len,
+                                 const uint8_t *records, size_t records_len, size_t position,
+                                 uint64_t *record, size_t record_len);
 
 /* ---- rebuilding a set from the newest one of its arena
 

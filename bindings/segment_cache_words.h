@@ -33,6 +33,7 @@ enum segment_cache_refusal {
 #define SEGMENT_CACHE_MAX_RECORDS 1048576u
 #define SEGMENT_CACHE_MAX_ARENA_BYTES 1073741824u
 #define SEGMENT_CACHE_MAX_SEGMENT_TARGET 100663296u
+#define SEGMENT_CACHE_NEVER 65535u /* the deadline of a record that never lapses */
 #define SEGMENT_CACHE_SETTING_WORDS 6
 #define SEGMENT_CACHE_LIFETIME_WORDS 2 /* length 0: never */
 #define SEGMENT_CACHE_BUILDER_WORDS 13
@@ -42,7 +43,8 @@ enum segment_cache_refusal {
 #define SEGMENT_CACHE_AREA_WORDS 5
 #define SEGMENT_CACHE_PLACE_WORDS 2
 #define SEGMENT_CACHE_SPAN_WORDS 3
-#define SEGMENT_CACHE_RECORD_WORDS 11
+#define SEGMENT_CACHE_RECORD_WORDS 12
+#define SEGMENT_CACHE_STORED_WORDS 9
 #define SEGMENT_CACHE_STATS_WORDS 8
 #define SEGMENT_CACHE_TOTALS_WORDS 4
 
@@ -125,7 +127,21 @@ enum segment_cache_record_word {
     SEGMENT_CACHE_RECORD_VALUE_LENGTH = 7,
     SEGMENT_CACHE_RECORD_REMAINING = 8, /* an enum segment_cache_remaining, at the tick asked for */
     SEGMENT_CACHE_RECORD_REMAINING_SECONDS = 9,
-    SEGMENT_CACHE_RECORD_REMAINING_NANOSECONDS = 10
+    SEGMENT_CACHE_RECORD_REMAINING_NANOSECONDS = 10,
+    SEGMENT_CACHE_RECORD_END = 11 /* just after the value, counted as the location is */
+};
+
+/* A record that is read without the index; places count from the front of the bytes that were lent. */
+enum segment_cache_stored_word {
+    SEGMENT_CACHE_STORED_READ = 0,         /* 0 or 1 */
+    SEGMENT_CACHE_STORED_LOCATION = 1,     /* the position asked for */
+    SEGMENT_CACHE_STORED_HEADER_BYTES = 2, /* bytes before the key */
+    SEGMENT_CACHE_STORED_KEY_AT = 3,
+    SEGMENT_CACHE_STORED_KEY_LENGTH = 4,
+    SEGMENT_CACHE_STORED_VALUE_AT = 5,
+    SEGMENT_CACHE_STORED_VALUE_LENGTH = 6,
+    SEGMENT_CACHE_STORED_DEADLINE = 7, /* a tick; SEGMENT_CACHE_NEVER for a record that never lapses */
+    SEGMENT_CACHE_STORED_END = 8       /* just after the value, where the next record begins */
 };
 
 enum segment_cache_remaining {

@@ -1,7 +1,7 @@
 /*
  * Depths by cell and notes of a harbour, some with a lapse time: built, asked before and after they
- * lapse, and rebuilt after a new survey. Prints what it finds; any call that
- * is refused unexpectedly ends it with status 1.
+ * lapse, stepped through segment by segment, and rebuilt after a new survey. Prints what it finds; any
+ * call that is refused unexpectedly ends it with status 1.
  */
 #include <stdio.h>
 #include <stdlib.h>
@@ -150,6 +150,32 @@ static void walk(const struct set *set, uint64_t tick) {
     }
 }
 
+static void print_stored(size_t segment, const uint8_t *records, const uint64_t *record) {
+    printf("segment %d, bytes %d to %d: %.*s", (int)segment,
+           (int)record[SEGMENT_CACHE_STORED_LOCATION], (int)record[SEGMENT_CACHE_STORED_END],
+           (int)record[SEGMENT_CACHE_STORED_KEY_LENGTH],
+           (const char *)records + record[SEGMENT_CACHE_STORED_KEY_AT]);
+    if (record[SEGMENT_CACHE_STORED_DEADLINE] == SEGMENT_CACHE_NEVER)
+        printf(" never lapses\n");
+    else
+        printf(" lapses at minute %d\n", (int)record[SEGMENT_CACHE_STORED_DEADLINE]);
+}
+
+/* Each segment from its front on, without the index: a record begins where the one before it ends. */
+static void step_segments(const struct set *set) {
+    uint64_t record[SEGMENT_CACHE_STORED_WORDS];
+    for (size_t i = 0; i < set->words[SEGMENT_CACHE_SET_SEGMENTS]; i++) {
+        const uint8_t *records = arena + set->starts[i];
+        for (size_t at = 0; at < set->lengths[i]; at = record[SEGMENT_CACHE_STORED_END]) {
+            must(segment_cache_record_at(set->words, SEGMENT_CACHE_SETTING_WORDS, records,
+                                         set->lengths[i], at, record, SEGMENT_CACHE_STORED_WORDS),
+                 "record_at");
+            if (!record[SEGMENT_CACHE_STORED_READ]) exit(1); /* bytes that are no record */
+            print_stored(i, records, record);
+        }
+    }
+}
+
 static void count(const struct set *set) {
     uint64_t stats[SEGMENT_CACHE_STATS_WORDS], retained[1], load[1];
     must(segment_cache_stats(set->words, SEGMENT_CACHE_SET_WORDS, stats, SEGMENT_CACHE_STATS_WORDS),
@@ -270,6 +296,7 @@ int main(void) {
     take_mark(&first, "cell 1205");
     take_mark(&first, "Aurora");
     walk(&first, 30);
+    step_segments(&first);
     count(&first);
     static struct set second;
     rebuild(&first, &second, 30);
@@ -281,5 +308,6 @@ int main(void) {
     ask(&second, "second", "Aurora", 360);
     ask(&first, "first", "cell 1204", 31);
     walk(&second, 31);
+    step_segments(&second);
     return 0;
 }

@@ -1,6 +1,8 @@
 //! Depths by cell and notes of a harbour, some with a lapse time: built, asked before and after they
-//! lapse, and rebuilt after a new survey. Prints the lines of harbour.c.
-use segment_cache::{AreaWords, Arena, Builder, Refusal, Remaining, Set, Setting, hash};
+//! lapse, stepped through segment by segment, and rebuilt after a new survey. Prints the lines of harbour.c.
+use segment_cache::{
+    AreaWords, Arena, Builder, Refusal, Remaining, Set, Setting, StoredRecord, hash,
+};
 use std::time::Duration;
 
 struct Note {
@@ -94,6 +96,29 @@ fn walk(set: &Set, arena: &Arena, tick: u64) -> Result<(), Refusal> {
     Ok(())
 }
 
+fn print_stored(segment: usize, record: &StoredRecord<'_>) {
+    let lapses = match record.deadline {
+        None => "never lapses".to_string(),
+        Some(minute) => format!("lapses at minute {minute}"),
+    };
+    let (location, end) = (record.location, record.end);
+    let key = String::from_utf8_lossy(record.key);
+    println!("segment {segment}, bytes {location} to {end}: {key} {lapses}");
+}
+
+// Each segment from its front on, without the index: a record begins where the one before it ends.
+fn step_segments(set: &Set, arena: &Arena) -> Result<(), Refusal> {
+    for segment in 0..set.segments() {
+        for record in set.segment_records(arena, segment)?.into_iter().flatten() {
+            print_stored(
+                segment,
+                &record.expect("a set's segment holds records only"),
+            );
+        }
+    }
+    Ok(())
+}
+
 fn count(set: &Set) -> Result<(), Refusal> {
     let stats = set.stats()?;
     let load = stats.index_load_bps();
@@ -163,7 +188,8 @@ fn rebuild_and_ask(arena: &mut Arena, first: &mut Set) -> Result<(), Refusal> {
     ask(&mut second, arena, "second", "Aurora", 359)?;
     ask(&mut second, arena, "second", "Aurora", 360)?;
     ask(first, arena, "first", "cell 1204", 31)?;
-    walk(&second, arena, 31)
+    walk(&second, arena, 31)?;
+    step_segments(&second, arena)
 }
 
 fn main() -> Result<(), Refusal> {
@@ -177,6 +203,7 @@ fn main() -> Result<(), Refusal> {
     take_mark(&mut first, &arena, "cell 1205")?;
     take_mark(&mut first, &arena, "Aurora")?;
     walk(&first, &arena, 30)?;
+    step_segments(&first, &arena)?;
     count(&first)?;
     rebuild_and_ask(&mut arena, &mut first)?;
     Ok(())

@@ -3,7 +3,7 @@ use crate::arena::{Arena, Stamp};
 use crate::set::Set;
 use std::time::Duration;
 
-pub(crate) const RECORD_WORDS: usize = 11;
+pub(crate) const RECORD_WORDS: usize = 12;
 
 /// What is left of a record's time.
 #[derive(Clone, Copy, Debug, PartialEq, Eq)]
@@ -31,10 +31,11 @@ pub struct Entry<'a> {
     place: Place,
 }
 
-/// Where a record stands, for reuse in a rebuild: unlike an [`Entry`] it borrows nothing.
+/// Where a record stands, as for reuse in a rebuild: unlike an [`Entry`] it borrows nothing.
 #[derive(Clone, Copy, Debug, PartialEq, Eq)]
 pub struct Place {
     pub(crate) location: u64,
+    end: u64,
     pub(crate) header_bytes: usize,
     pub(crate) key: (usize, usize),
     pub(crate) value: (usize, usize),
@@ -46,11 +47,22 @@ impl Place {
     pub fn segment(&self) -> usize {
         (self.location >> 32) as usize
     }
+
+    /// Where the record begins, as the library counts it: segment * 2^32 + offset in the segment.
+    pub fn location(&self) -> u64 {
+        self.location
+    }
+
+    /// The position just after the record's value, counted as the location is. The next record of the
+    /// segment begins there, if it has one; see [`Set::segment_records`].
+    pub fn end(&self) -> u64 {
+        self.end
+    }
 }
 
 impl<'a> Entry<'a> {
-    // The eleven words: 1, slot, location, bytes before the key, place and length of key and value, and
-    // what is left; or zeros.
+    // The twelve words: 1, slot, location, bytes before the key, place and length of key and value, what is
+    // left, and the end; or zeros.
     pub(crate) fn of_words(
         words: &[u64; RECORD_WORDS],
         arena: &'a Arena,
@@ -70,6 +82,7 @@ impl<'a> Entry<'a> {
             tick,
             place: Place {
                 location: words[2],
+                end: words[11],
                 header_bytes,
                 key: (key_at, key_len),
                 value: (value_at, value_len),

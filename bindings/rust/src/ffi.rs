@@ -82,6 +82,13 @@ export!(fn segment_cache_encoded_record_bytes(
     size: &mut [u64],
 ));
 
+export!(fn segment_cache_record_at(
+    setting: &[u64],
+    records: &[u8],
+    position: usize,
+    record: &mut [u64],
+));
+
 export!(fn segment_cache_get(
     set: &[u64],
     hash: u64,

@@ -6,6 +6,7 @@
 //! - [`Builder`] fills a set; [`Builder::finish`] freezes it.
 //! - [`Set`] owns its index and is asked with its arena: [`Set::get`], [`Set::peek`], [`Set::probe`],
 //!   [`Set::take_accessed`], [`Set::entries`], [`Set::stats`].
+//! - [`SegmentRecords`] steps through a segment without the index.
 //! - [`Rebuild`] makes the next set out of the newest one, while older ones can still
 //!   be asked.
 //!
@@ -48,6 +49,7 @@ mod refusal;
 mod set;
 mod setting;
 mod stats;
+mod stored;
 
 pub use areas::AreaWords;
 pub use arena::Arena;
@@ -59,3 +61,4 @@ pub use refusal::{Refusal, Unfinished};
 pub use set::Set;
 pub use setting::Setting;
 pub use stats::Stats;
+pub use stored::{SegmentRecords, StoredRecord, Unreadable};

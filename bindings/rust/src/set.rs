@@ -4,7 +4,9 @@ use crate::arena::{Arena, Stamp};
 use crate::entry::{Entries, Entry, RECORD_WORDS};
 use crate::ffi;
 use crate::refusal::Refusal;
+use crate::setting::SETTING_WORDS;
 use crate::stats::Stats;
+use crate::stored::SegmentRecords;
 use std::fmt;
 
 pub(crate) const SET_WORDS: usize = 15;
@@ -166,6 +168,25 @@ impl Set {
     pub fn entries<'a>(&'a self, arena: &'a Arena, tick: u64) -> Result<Entries<'a>, Refusal> {
         arena.holds(self.stamp)?;
         Ok(Entries::new(self, arena, tick))
+    }
+
+    /// The records of a segment one after the other, without the index: from the segment's front on, each
+    /// next one at the end of the last. There is `None` for a number past the last segment. A rebuilt set
+    /// keeps whole segments, so that records show here which were not reused.
+    pub fn segment_records<'a>(
+        &self,
+        arena: &'a Arena,
+        segment: usize,
+    ) -> Result<Option<SegmentRecords<'a>>, Refusal> {
+        arena.holds(self.stamp)?;
+        if segment >= self.segments() {
+            return Ok(None);
+        }
+        let setting: [u64; SETTING_WORDS] = std::array::from_fn(|i| self.words[i]);
+        let start = self.areas.starts[segment] as usize;
+        let length = self.areas.lengths[segment] as usize;
+        let bytes = &arena.bytes()[start..start + length];
+        Ok(Some(SegmentRecords::new(setting, bytes)))
     }
 
     // The first record from a slot on.

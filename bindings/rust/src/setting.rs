@@ -1,6 +1,7 @@
 //! Settings, and the words of settings and lifetimes.
 use crate::ffi;
 use crate::refusal::Refusal;
+use crate::stored::{SegmentRecords, StoredRecord, record_at};
 use std::time::Duration;
 
 pub(crate) const SETTING_WORDS: usize = 6;
@@ -112,6 +113,31 @@ impl Setting {
             &mut size,
         ))?;
         Ok(size[0] as usize)
+    }
+
+    /// The record at a position of these bytes, lapsed or not, or `None` where no record is read there, as
+    /// past the end. Of the setting only counts whether records keep a deadline.
+    ///
+    /// ```
+    /// use segment_cache::Setting;
+    ///
+    /// let bytes = [1, 2, b'a', b'A', b'B'];
+    /// let record = Setting::without_expiry().record_at(&bytes, 0).unwrap().unwrap();
+    /// assert_eq!((record.key, record.value, record.end), (&b"a"[..], &b"AB"[..], 5));
+    /// assert_eq!(Setting::without_expiry().record_at(&bytes, 5), Ok(None));
+    /// ```
+    pub fn record_at<'a>(
+        &self,
+        records: &'a [u8],
+        position: usize,
+    ) -> Result<Option<StoredRecord<'a>>, Refusal> {
+        record_at(&self.words(), records, position)
+    }
+
+    /// The records of a segment's bytes one after the other, without an index. For a segment of a set see
+    /// [`Set::segment_records`](crate::Set::segment_records).
+    pub fn segment_records<'a>(&self, segment: &'a [u8]) -> SegmentRecords<'a> {
+        SegmentRecords::new(self.words(), segment)
     }
 
     pub(crate) fn words(&self) -> [u64; SETTING_WORDS] {
