@@ -6,6 +6,7 @@ pub mod calls {
     pub mod areas;
     pub mod build;
     pub mod lookups;
+    pub mod steps;
 }
 pub mod full {
     use super::{calls, lines, oracle};
@@ -24,6 +25,7 @@ pub mod lines {
     pub mod lists;
     mod lookups;
     mod rebuilds;
+    mod steps;
 }
 pub mod sets {
     use super::oracle;

@@ -42,11 +42,13 @@ mod model {
     pub mod lookups;
     pub mod rebuilds;
     pub mod rules;
+    pub mod stored;
 }
 mod parts {
     pub mod areas;
     pub mod durations;
     pub mod hash;
+    pub mod record_ends;
     pub mod record_read;
     pub mod record_write;
     pub mod varints;
@@ -128,6 +130,7 @@ fn parts(run: &mut Run) {
     run.group("record sizes", parts::record_write::sizes);
     run.group("record writing", parts::record_write::write);
     run.group("record reading", parts::record_read::read);
+    run.group("record ends", parts::record_ends::ends);
     run.group("byte slices", parts::areas::slices);
     run.group("lent words", parts::areas::words);
     run.group("index words", index::words::words);

@@ -167,6 +167,7 @@ fn asked(group: &mut Group, rng: &mut Rng, by: By, about: &str, setting: Setting
     if list.len() < 20 {
         set.walk(group, rng.below(65_535));
     }
+    set.steps(group);
     set.end(group);
 }
 

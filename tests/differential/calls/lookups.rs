@@ -12,7 +12,7 @@ use std::rc::Rc;
 
 pub struct Finished {
     by: By,
-    about: String,
+    pub(super) about: String,
     pub world: World,
     // The areas as the finish left them; only the index changes, by marks.
     plain: World,
@@ -57,7 +57,14 @@ impl Finished {
 
     // One call and all areas after it: the index is the Rust's, marks included. In large sets the
     // word that the call may write, and all else at times: what was written there stays.
-    fn call(&mut self, group: &mut Group, name: &str, ask: Ask, word: usize, wanted: &[u64]) {
+    pub(super) fn call(
+        &mut self,
+        group: &mut Group,
+        name: &str,
+        ask: Ask,
+        word: usize,
+        wanted: &[u64],
+    ) {
         let refusal = (self.by)(&mut self.world, &ask, ask.answer());
         self.asked += 1;
         let (world, plain, asked) = (&self.world, &self.plain, ask.answer());
@@ -259,8 +266,8 @@ impl Finished {
     }
 }
 
-pub fn flagged(record: Option<[u64; 10]>) -> [u64; 11] {
-    let mut words = [0; 11];
+pub fn flagged(record: Option<[u64; 11]>) -> [u64; 12] {
+    let mut words = [0; 12];
     if let Some(record) = record {
         words[0] = 1;
         words[1..].copy_from_slice(&record);

@@ -144,7 +144,14 @@ fn targets(group: &mut Group, rng: &mut Rng) {
                 for entry in stage.list.iter().step_by(7) {
                     let (hash, key, tick) = (entry.hash, &entry.key[..], 0);
                     let ask = Ask::Probe { hash, key, tick };
-                    on_both(group, &stage.name, &mut ours, &mut wanted, &ask, 11);
+                    on_both(
+                        group,
+                        &stage.name,
+                        &mut ours,
+                        &mut wanted,
+                        &ask,
+                        ask.answer(),
+                    );
                 }
             }
         }
@@ -175,6 +182,7 @@ fn setting_words(group: &mut Group, setting: &[u64]) {
         group.rule("area_words", (found, ours), (number, wanted), input);
     }
     record_size(group, setting, 1, 2);
+    crate::parts::record_ends::by_model(group, setting, &[1, 2, 0x61, 0x41, 0x42, 0, 0], 0, 9);
     // A state has no words for the tick of a setting without expiry.
     if setting[0] == 1 {
         let world = World::new(setting, Sizes::for_counts(10, 40, 9));
@@ -294,7 +302,11 @@ fn any_call<'a>(rng: &mut Rng, list: &'a [Entry]) -> Ask<'a> {
         1 => Ask::Finish {
             target: rng.pick(&[0, 1, 60, 4_096, u64::MAX]),
         },
-        2 | 3 => Ask::Stats,
+        2 => Ask::Stats,
+        3 => Ask::Step {
+            segment: rng.index(3),
+            position: rng.below(60),
+        },
         4..9 => Ask::Walk {
             from: rng.below(60),
             tick,

@@ -173,6 +173,8 @@ pub enum Ask<'a> {
     Take { hash: u64, key: &'a [u8] },
     Probe { hash: u64, key: &'a [u8], tick: u64 },
     Walk { from: u64, tick: u64 },
+    // The record at a position of a segment's bytes, with the setting in the set's words.
+    Step { segment: usize, position: u64 },
     Stats,
     RebuildOpen(Opened<'a>),
     Reused(Reused<'a>),
@@ -214,7 +216,8 @@ impl Ask<'_> {
             Ask::Push(_) | Ask::Reused(_) | Ask::Copied(_) => 2,
             Ask::Get { .. } | Ask::Peek { .. } => 3,
             Ask::Take { .. } => 1,
-            Ask::Probe { .. } | Ask::Walk { .. } => 11,
+            Ask::Probe { .. } | Ask::Walk { .. } => 12,
+            Ask::Step { .. } => 9,
             Ask::Stats => 8,
             Ask::RebuildFinish => 4,
         }
@@ -292,6 +295,12 @@ macro_rules! ask_by {
             Ask::Walk { from, tick } => {
                 $calls::next_entry(set, from as usize, tick, index, starts, lengths, arena, out)
             }
+            Ask::Step { segment, position } => $calls::record_at(
+                set.get(..6).unwrap_or(&[]),
+                segment_bytes(starts, lengths, arena, segment),
+                position as usize,
+                out,
+            ),
             Ask::Stats => $calls::stats(set, out),
             Ask::RebuildOpen(opened) => $calls::rebuild_open(
                 source, arena, &opened, rebuild, index, filter, starts, lengths,
@@ -307,6 +316,21 @@ macro_rules! ask_by {
             }
         }
     }};
+}
+
+// A segment's bytes, none where it is not in the arena.
+pub fn segment_bytes<'a>(
+    starts: &[u64],
+    lengths: &[u64],
+    arena: &'a [u8],
+    segment: usize,
+) -> &'a [u8] {
+    let place = starts.get(segment).zip(lengths.get(segment));
+    let bytes = place.and_then(|(&start, &length)| {
+        let end = usize::try_from(start.checked_add(length)?).ok()?;
+        arena.get(start as usize..end)
+    });
+    bytes.unwrap_or(&[])
 }
 
 // The Rust's refusal as a number, 0 for none.

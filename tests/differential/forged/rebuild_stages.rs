@@ -50,7 +50,8 @@ fn of_source(source: &Stage) -> Vec<Rebuilding> {
 fn places(source: &Stage) -> Vec<(u64, u64)> {
     let mut world = source.world.clone();
     let mut place = |hash: u64, key: &[u8]| {
-        model(&mut world, &Ask::Probe { hash, key, tick: 0 }, 11);
+        let ask = Ask::Probe { hash, key, tick: 0 };
+        model(&mut world, &ask, ask.answer());
         (world.out[2], world.out[3])
     };
     let list = source.list.iter();

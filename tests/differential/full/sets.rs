@@ -98,6 +98,7 @@ fn asked(
         }
     }
     set.walk(group, rng.pick(&[0, 1, 65_534]));
+    set.steps(group);
     set.end(group);
 }
 

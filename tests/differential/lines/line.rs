@@ -158,6 +158,8 @@ impl Line {
         let segments = world.set[9] as usize;
         let starts = world.starts.get(..segments).unwrap_or(&[]);
         group.area("starts by the book", starts, &page.starts, about);
+        let lengths = world.lengths.get(..segments).unwrap_or(&[]);
+        group.area("lengths by the book", lengths, &page.lengths, about);
         group.rule("filled by the book", world.set[10], page.filled, about);
         group.rule(
             "records by the book",

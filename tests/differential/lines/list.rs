@@ -144,7 +144,17 @@ impl List<'_> {
             .line
             .finish(group, target, &|sizes| shorten(sizes, short));
         self.after(group, "finish", number, at);
+        if number == 0 {
+            self.step(group, 0);
+        }
         number
+    }
+
+    // Through a finished set without its index.
+    fn step(&mut self, group: &mut Group, set: usize) {
+        let met = self.line.steps(group, set);
+        self.seen("stepped, not in the set", met.unused.into());
+        self.seen("in the set, not stepped", met.inside.into());
     }
 
     // A push or a copied push, at times with an area that is short.
@@ -219,6 +229,7 @@ impl List<'_> {
             }
             if self.line.sets.len() > depth {
                 self.seen_set();
+                self.step(group, depth);
                 return true;
             }
         }
@@ -241,6 +252,7 @@ impl List<'_> {
             }
             let tick = self.rng.pick(&[0, 1, 7, 65_534]);
             self.line.walk(group, set, tick);
+            self.step(group, set);
             self.line.same_set(group, set);
         }
     }

@@ -6,7 +6,7 @@ use crate::rng::Rng;
 
 // What the lists of one run have met at the least: the answers of each call, and what a rebuild may
 // meet (1 where it was so).
-const MET: [(&str, &[u64]); 12] = [
+const MET: [(&str, &[u64]); 14] = [
     ("push", &[0, 3, 4, 5, 6, 9, 10, 11]),
     ("finish", &[0, 3, 7, 8, 10, 11]),
     ("rebuild open", &[0, 3, 7, 10, 11]),
@@ -15,6 +15,8 @@ const MET: [(&str, &[u64]); 12] = [
     ("rebuild finish", &[0, 3, 10, 11]),
     ("inside a value", &[1]),
     ("over-long prefix", &[1]),
+    ("stepped, not in the set", &[1]),
+    ("in the set, not stepped", &[1]),
     ("key again", &[1]),
     ("key again, the first has lapsed", &[1]),
     ("segments", &[1, 2, 3, 256]),

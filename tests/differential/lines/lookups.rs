@@ -110,8 +110,9 @@ impl Line {
         let rust = self.sets[set].set.walk(tick);
         let mut from = 0;
         for record in rust.into_iter().map(Some).chain([None]) {
-            self.call(group, At::Set(set), &Ask::Walk { from, tick }, AS_IT_IS);
-            let answer = self.answer(At::Set(set), 11);
+            let ask = Ask::Walk { from, tick };
+            self.call(group, At::Set(set), &ask, AS_IT_IS);
+            let answer = self.answer(At::Set(set), ask.answer());
             group.area("walk step", &answer, &flagged(record), || {
                 format!("set {set}, {}, from {from}", self.about)
             });

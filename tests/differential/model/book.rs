@@ -2,15 +2,25 @@
 // which of them were accepted. It sees no state and no area.
 use crate::model::rules::{NEVER, Setting, lives, record_at, record_bytes};
 
+#[derive(Clone)]
 pub struct Entry {
     pub key: Vec<u8>,
     pub value: Vec<u8>,
     pub deadline: u64,
 }
 
+// A record that was appended, and where.
+#[derive(Clone)]
+pub struct Written {
+    pub at: u64,
+    pub bytes: u64,
+    pub entry: Entry,
+}
+
 pub struct Page {
     pub list: Vec<Entry>,
     pub starts: Vec<u64>,
+    pub lengths: Vec<u64>,
     pub filled: u64,
 }
 
@@ -19,12 +29,47 @@ pub struct Book {
     // The bytes of all records that were appended, in one row.
     pub tape: Vec<u8>,
     pub finished: Vec<Page>,
-    // The set that is being made: its records, and where those that were appended stand.
+    // All records on the tape, in its order, whether a set has them or not.
+    written: Vec<Written>,
+    // The records of the set that is being made.
     pub list: Vec<Entry>,
-    places: Vec<u64>,
-    // Of a rebuild: the starts of what it keeps, and the tick from which copies count.
-    kept: Vec<u64>,
+    // Of a rebuild: starts and lengths of what it keeps, and the tick from which copies count.
+    kept: Vec<(u64, u64)>,
     base: u64,
+}
+
+impl Written {
+    // As it is told on the bytes of a segment with this start.
+    pub fn told(&self, start: u64) -> [u64; 9] {
+        let Entry {
+            key,
+            value,
+            deadline,
+        } = &self.entry;
+        let (key_len, value_len) = (key.len() as u64, value.len() as u64);
+        let (location, end) = (self.at - start, self.at - start + self.bytes);
+        let value_at = end - value_len;
+        let key_at = value_at - key_len;
+        [
+            1,
+            location,
+            key_at - location,
+            key_at,
+            key_len,
+            value_at,
+            value_len,
+            *deadline,
+            end,
+        ]
+    }
+}
+
+fn entry_of(key: &[u8], value: &[u8], deadline: u64) -> Entry {
+    Entry {
+        key: key.to_vec(),
+        value: value.to_vec(),
+        deadline,
+    }
 }
 
 impl Book {
@@ -33,8 +78,8 @@ impl Book {
             setting,
             tape: Vec::new(),
             finished: Vec::new(),
+            written: Vec::new(),
             list: Vec::new(),
-            places: Vec::new(),
             kept: Vec::new(),
             base: 0,
         }
@@ -50,18 +95,15 @@ impl Book {
             }
             _ => NEVER,
         };
-        self.places.push(self.tape.len() as u64);
         let bytes = record_bytes(self.setting.on, key, value, deadline);
-        self.tape.extend(bytes);
-        self.join(key, value, deadline);
-    }
-
-    fn join(&mut self, key: &[u8], value: &[u8], deadline: u64) {
-        self.list.push(Entry {
-            key: key.to_vec(),
-            value: value.to_vec(),
-            deadline,
+        let entry = entry_of(key, value, deadline);
+        self.written.push(Written {
+            at: self.tape.len() as u64,
+            bytes: bytes.len() as u64,
+            entry: entry.clone(),
         });
+        self.tape.extend(bytes);
+        self.list.push(entry);
     }
 
     // The first segment starts at 0, each next at the lowest record not below the last start plus
@@ -69,21 +111,41 @@ impl Book {
     pub fn finish(&mut self, target: u64) {
         let mut starts = vec![0];
         if self.tape.len() as u64 > target {
-            for &place in &self.places {
-                if place >= starts[starts.len() - 1] + target {
-                    starts.push(place);
+            for written in &self.written {
+                if written.at >= starts[starts.len() - 1] + target {
+                    starts.push(written.at);
                 }
             }
         }
-        self.close(starts);
+        let ends = starts.iter().skip(1).copied();
+        let ends: Vec<u64> = ends.chain([self.tape.len() as u64]).collect();
+        let length = |(&start, end): (&u64, u64)| (start, end - start);
+        self.close(starts.iter().zip(ends).map(length).collect());
     }
 
-    fn close(&mut self, starts: Vec<u64>) {
+    fn close(&mut self, segments: Vec<(u64, u64)>) {
+        let (starts, lengths) = segments.into_iter().unzip();
         self.finished.push(Page {
             list: std::mem::take(&mut self.list),
             starts,
+            lengths,
             filled: self.tape.len() as u64,
         });
+    }
+
+    // The records in a segment of a finished set, in the order in which they stand there.
+    pub fn written_in(&self, set: usize, segment: usize) -> Vec<Written> {
+        let page = &self.finished[set];
+        let (start, end) = (
+            page.starts[segment],
+            page.starts[segment] + page.lengths[segment],
+        );
+        let first = self.written.partition_point(|written| written.at < start);
+        let inside = self.written[first..].iter();
+        inside
+            .take_while(|written| written.at < end)
+            .cloned()
+            .collect()
     }
 
     fn newest(&self) -> &Page {
@@ -92,10 +154,16 @@ impl Book {
 
     pub fn rebuild_open(&mut self, keep: &[u8], now: u64) {
         let newest = self.newest();
-        let (filled, starts) = (newest.filled as usize, &newest.starts);
-        let kept = starts.iter().zip(keep).filter(|(_, flag)| **flag != 0);
-        self.kept = kept.map(|(&start, _)| start).collect();
-        self.tape.truncate(filled);
+        let filled = newest.filled;
+        let segments = newest
+            .starts
+            .iter()
+            .copied()
+            .zip(newest.lengths.iter().copied());
+        let kept = segments.zip(keep).filter(|(_, flag)| **flag != 0);
+        self.kept = kept.map(|(segment, _)| segment).collect();
+        self.tape.truncate(filled as usize);
+        self.written.retain(|written| written.at < filled);
         self.list.clear();
         self.base = now;
     }
@@ -106,16 +174,17 @@ impl Book {
         let start = self.newest().starts.get(segment);
         let record = start.and_then(|start| record_at(&self.tape, self.setting.on, start + offset));
         let deadline = record.map_or(NEVER, |record| record.deadline);
-        self.join(key, value, deadline);
+        self.list.push(entry_of(key, value, deadline));
     }
 
     pub fn rebuild_finish(&mut self) {
         let cut = self.newest().filled;
-        let mut starts = std::mem::take(&mut self.kept);
-        if self.tape.len() as u64 > cut || starts.is_empty() {
-            starts.push(cut);
+        let mut segments = std::mem::take(&mut self.kept);
+        let copied = self.tape.len() as u64 - cut;
+        if copied > 0 || segments.is_empty() {
+            segments.push((cut, copied));
         }
-        self.close(starts);
+        self.close(segments);
     }
 
     // The first record of a key counts, also where it has lapsed.

@@ -2,7 +2,8 @@
 // words, answers in lent words, the refusal's number back. Written from the papers alone.
 pub use crate::model::lookups::{get, next_entry, peek, probe, take_accessed};
 pub use crate::model::rebuilds::{push_copied, push_reused, rebuild_finish, rebuild_open};
-use crate::model::rules::*;
+use crate::model::rules::{self, *};
+pub use crate::model::stored::{encoded_record_bytes, record_at};
 
 pub const FORM: u64 = 11;
 
@@ -138,7 +139,7 @@ fn build_slot(
         if word_tag(word) != tag(hash) || word_stored(word) == 0 {
             continue;
         }
-        if let Some(found) = record_at(records, setting.on, word_stored(word) - 1)
+        if let Some(found) = rules::record_at(records, setting.on, word_stored(word) - 1)
             && records[found.key_at..found.value_at()] == *key
         {
             return Err(4);
@@ -339,25 +340,6 @@ pub fn stats(set: &[u64], stats: &mut [u64]) -> u64 {
         value,
         header,
     ]);
-    0
-}
-
-pub fn encoded_record_bytes(words: &[u64], key: usize, value: usize, size: &mut [u64]) -> u64 {
-    let Some(setting) = Setting::of(words).filter(|_| size.len() == 1) else {
-        return FORM;
-    };
-    if setting.on && words[2] > u32::MAX.into() {
-        return 9;
-    }
-    if words[3] > u8::MAX.into() {
-        return 1;
-    }
-    let prefixes = prefix(key as u64).len() + prefix(value as u64).len();
-    let header = prefixes + if setting.on { 2 } else { 0 };
-    match u64::try_from(header as u128 + key as u128 + value as u128) {
-        Ok(bytes) => size[0] = bytes,
-        Err(_) => return 3,
-    }
     0
 }
 

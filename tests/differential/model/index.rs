@@ -84,7 +84,7 @@ fn split_word(word: u64, starts: &[u64]) -> u64 {
 }
 
 // The record under a stored location; a segment that is not inside the filled bytes has none.
-pub fn record_at_location(areas: &Areas, stored: u64) -> Option<[u64; 7]> {
+pub fn record_at_location(areas: &Areas, stored: u64) -> Option<[u64; 8]> {
     let location = stored.checked_sub(1)?;
     let segment = usize::try_from(location >> 32).ok()?;
     if segment >= areas.segments {
@@ -99,6 +99,7 @@ pub fn record_at_location(areas: &Areas, stored: u64) -> Option<[u64; 7]> {
     record[0] = location;
     record[2] += start;
     record[4] += start;
+    record[7] += location - offset as u64;
     Some(record)
 }
 
@@ -123,7 +124,7 @@ fn slot_in(areas: &Areas, slot: usize) -> Slot {
     (control != 0).then_some((kept, reference >> 16))
 }
 
-pub fn find(areas: &Areas, key: &[u8], hash: u64) -> Option<[u64; 8]> {
+pub fn find(areas: &Areas, key: &[u8], hash: u64) -> Option<[u64; 9]> {
     words_of(areas.index, areas.buckets)?;
     let first = access::reduce_hash(hash, areas.buckets);
     for i in 0..areas.buckets {
@@ -141,7 +142,7 @@ pub fn find(areas: &Areas, key: &[u8], hash: u64) -> Option<[u64; 8]> {
 }
 
 enum Step {
-    Hit([u64; 8]),
+    Hit([u64; 9]),
     End,
     On,
 }
@@ -163,8 +164,8 @@ fn find_in_bucket(areas: &Areas, bucket: usize, key: &[u8], hash: u64) -> Step {
                 };
                 let (at, len) = (record[2] as usize, record[3] as usize);
                 if areas.arena[at..at + len] == *key {
-                    let [a, b, c, d, e, f, g] = record;
-                    return Step::Hit([slot as u64, a, b, c, d, e, f, g]);
+                    let [a, b, c, d, e, f, g, h] = record;
+                    return Step::Hit([slot as u64, a, b, c, d, e, f, g, h]);
                 }
             }
             Some(_) => {}

@@ -205,13 +205,17 @@ pub fn take_accessed(
     0
 }
 
-// Slot, location, parts of the record and the time that is left.
+// How many words `describe` writes.
+const RECORD_WORDS: usize = 12;
+
+// Slot, location, parts of the record, the time that is left, and the end, counted as the location is.
 fn describe(view: &View<'_>, tick: u64, hit: &Hit, out: &mut [u64]) {
     let &(slot, stored, record) = hit;
     out[..4].copy_from_slice(&[1, slot as u64, stored - 1, record.key_offset as u64]);
     out[4..6].copy_from_slice(&[record.key_at as u64, record.key_len as u64]);
     out[6..8].copy_from_slice(&[record.value_at() as u64, record.value_len as u64]);
-    out[8..].copy_from_slice(&view.setting.remaining(record.deadline, tick));
+    out[8..11].copy_from_slice(&view.setting.remaining(record.deadline, tick));
+    out[11] = stored - 1 + record.bytes;
 }
 
 pub fn probe(
@@ -227,7 +231,7 @@ pub fn probe(
     record: &mut [u64],
 ) -> u64 {
     let view = view(set, index, Some(filter), starts, lengths, arena);
-    let Some(view) = view.filter(|_| record.len() == 11) else {
+    let Some(view) = view.filter(|_| record.len() == RECORD_WORDS) else {
         return REFUSED;
     };
     record.fill(0);
@@ -261,7 +265,7 @@ pub fn next_entry(
     record: &mut [u64],
 ) -> u64 {
     let view = view(set, index, None, starts, lengths, arena);
-    let Some(view) = view.filter(|_| record.len() == 11) else {
+    let Some(view) = view.filter(|_| record.len() == RECORD_WORDS) else {
         return REFUSED;
     };
     record.fill(0);

@@ -175,6 +175,8 @@ pub struct Record {
     pub key_len: usize,
     pub value_len: usize,
     pub deadline: u64,
+    // From its first byte to just after its value.
+    pub bytes: u64,
 }
 
 impl Record {
@@ -190,8 +192,8 @@ pub fn record_at(bytes: &[u8], on: bool, place: u64) -> Option<Record> {
     let (key_len, first) = read_prefix(rest)?;
     let (value_len, second) = read_prefix(&rest[first..])?;
     let header = first + second + if on { 2 } else { 0 };
-    let end = header as u128 + u128::from(key_len) + u128::from(value_len);
-    if end > rest.len() as u128 {
+    let all = header as u128 + u128::from(key_len) + u128::from(value_len);
+    if all > rest.len() as u128 {
         return None;
     }
     let deadline = match on {
@@ -204,6 +206,7 @@ pub fn record_at(bytes: &[u8], on: bool, place: u64) -> Option<Record> {
         key_len: key_len as usize,
         value_len: value_len as usize,
         deadline,
+        bytes: all as u64,
     })
 }
 

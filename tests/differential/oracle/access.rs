@@ -116,9 +116,14 @@ pub mod access {
             .map_err(number)
     }
 
-    // Location, bytes before the key, key's place and length, value's place and length, deadline.
-    // The places are taken from the slices themselves, not worked out from the lengths.
-    pub fn record_at(records: &[u8], tick: Option<Duration>, location: usize) -> Option<[u64; 7]> {
+    // The position just after a value. The Rust does not tell it: it is the sum of what it tells.
+    pub(super) fn end(location: usize, key_offset: usize, key: &[u8], value: &[u8]) -> u64 {
+        (location + key_offset + key.len() + value.len()) as u64
+    }
+
+    // Location, bytes before the key, key's place and length, value's place and length, deadline,
+    // end. The places are taken from the slices themselves, not worked out from the lengths.
+    pub fn record_at(records: &[u8], tick: Option<Duration>, location: usize) -> Option<[u64; 8]> {
         let record = super::record_at(records, expiry(tick), location)?;
         let place = |part: &[u8]| part.as_ptr() as usize - records.as_ptr() as usize;
         Some([
@@ -129,6 +134,7 @@ pub mod access {
             place(record.value) as u64,
             record.value.len() as u64,
             u64::from(record.expires_at),
+            end(record.location, record.key_offset, record.key, record.value),
         ])
     }
 }

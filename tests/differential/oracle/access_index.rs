@@ -1,7 +1,7 @@
 // Put behind the oracle's source after access.rs: its index, and whole builds and finished sets
 // with the words that they keep to themselves. The hash of a push is the number set before it.
 pub mod access_index {
-    use super::access::{expiry, number};
+    use super::access::{end, expiry, number};
     use super::*;
 
     pub fn encode_index_word(hash: u64, location: usize) -> Option<u64> {
@@ -218,22 +218,22 @@ pub mod access_index {
 
         // The slot, and what `record_at_location` says.
         #[inline(never)]
-        pub fn find(&self, key: &[u8], hash: u64) -> Option<[u64; 8]> {
+        pub fn find(&self, key: &[u8], hash: u64) -> Option<[u64; 9]> {
             let (slot, record) = self.cache.find_record(key, hash)?;
-            let [a, b, c, d, e, f, g] = self.told(&record);
-            Some([slot as u64, a, b, c, d, e, f, g])
+            let [a, b, c, d, e, f, g, h] = self.told(&record);
+            Some([slot as u64, a, b, c, d, e, f, g, h])
         }
 
         // A stored location is the location plus 1; the Rust takes 1 from it without a question.
-        pub fn record_at_location(&self, stored: u64) -> Option<[u64; 7]> {
+        pub fn record_at_location(&self, stored: u64) -> Option<[u64; 8]> {
             let location = stored.wrapping_sub(1) as usize;
             let record = self.cache.record_at_location(location)?;
             Some(self.told(&record))
         }
 
-        // Location, bytes before the key, place and length of key and value, deadline. The places
-        // are taken from the slices themselves, not worked out from the lengths.
-        fn told(&self, record: &RecordRef<'_>) -> [u64; 7] {
+        // Location, bytes before the key, place and length of key and value, deadline, end. The
+        // places are taken from the slices themselves, not worked out from the lengths.
+        fn told(&self, record: &RecordRef<'_>) -> [u64; 8] {
             let segment = record.location >> RECORD_SEGMENT_OFFSET_BITS;
             let bytes = self.cache.record_segment_at(record.location);
             let bytes = bytes.map_or(&[][..], |(bytes, _)| bytes);
@@ -249,6 +249,7 @@ pub mod access_index {
                 place(record.value),
                 record.value.len() as u64,
                 u64::from(record.expires_at),
+                end(record.location, record.key_offset, record.key, record.value),
             ]
         }
     }

@@ -1,7 +1,7 @@
 // Put behind the oracle's source after access_index.rs: the numbers of a build, and the calls on a
 // finished set with ticks and hashes given.
 pub mod access_sets {
-    use super::access::number;
+    use super::access::{end, number};
     use super::access_index::{Builder, Set, Setting, config};
     use super::*;
 
@@ -55,21 +55,21 @@ pub mod access_sets {
             self.cache.take_accessed(key)
         }
 
-        pub fn probe(&self, key: &[u8], hash: u64, tick: u64) -> Option<[u64; 10]> {
+        pub fn probe(&self, key: &[u8], hash: u64, tick: u64) -> Option<[u64; 11]> {
             let record = self.cache.probe_hashed_at_tick(key, hash, tick)?;
             Some(self.describe(&record))
         }
 
-        pub fn walk(&self, tick: u64) -> Vec<[u64; 10]> {
+        pub fn walk(&self, tick: u64) -> Vec<[u64; 11]> {
             let mut records = Vec::new();
             let mut visit = |record: SegmentBaseRecord<'_>| records.push(self.describe(&record));
             (self.cache).for_each_physical_entry_at_tick(tick, &mut visit);
             records
         }
 
-        // Slot, location, bytes before the key, place and length of key and value, and the time
-        // left: its kind (0 never, 1 a duration, 2 nothing), seconds and nanoseconds.
-        fn describe(&self, record: &SegmentBaseRecord<'_>) -> [u64; 10] {
+        // Slot, location, bytes before the key, place and length of key and value, the time left (its
+        // kind: 0 never, 1 a duration, 2 nothing; seconds and nanoseconds), and the end.
+        fn describe(&self, record: &SegmentBaseRecord<'_>) -> [u64; 11] {
             let left = match record.remaining_ttl {
                 Some(SegmentRemainingTtl::Never) => [0; 3],
                 Some(SegmentRemainingTtl::Finite(left)) => {
@@ -88,7 +88,18 @@ pub mod access_sets {
                 left[0],
                 left[1],
                 left[2],
+                end(record.location, record.key_offset, record.key, record.value),
             ]
+        }
+
+        // All records in the order of their locations, as `record_at_location` tells them.
+        pub fn records(&self) -> Vec<[u64; 8]> {
+            let walk = self.walk(0).into_iter();
+            let mut records: Vec<_> = walk
+                .filter_map(|record| self.record_at_location(record[1] + 1))
+                .collect();
+            records.sort_unstable();
+            records
         }
 
         // Where a part of a segment would stand in one arena.
@@ -162,8 +173,7 @@ pub mod access_sets {
         // With so many bytes set aside for the records, as an arena is lent to the port.
         pub fn with_room(setting: Setting, records: usize, bytes: usize) -> Result<Builder, u64> {
             let config = config(setting);
-            let builder =
-                SegmentCacheBuilder::try_new_with_record_capacity(config, records, bytes);
+            let builder = SegmentCacheBuilder::try_new_with_record_capacity(config, records, bytes);
             builder.map(Builder).map_err(number)
         }
     }

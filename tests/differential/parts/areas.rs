@@ -97,7 +97,7 @@ fn part(group: &mut Group, arena: &[u8], at: usize, len: usize) {
     }
 }
 
-// Each export that answers in words, lent 0 to 9 of them: the answer stands in them only if all
+// Each export that answers in words, lent 0 to 10 of them: the answer stands in them only if all
 // of it fits, and the number says the same whatever was lent.
 pub fn words(group: &mut Group, _random: u64) {
     let second = Some((1, 500_000_000));
@@ -129,7 +129,7 @@ pub fn words(group: &mut Group, _random: u64) {
         port::parts::test_append_record(&mut [0; 8], true, b"key", b"va", 7, out)
     });
     let record = [9, 2, 1, 7, 0, b'k', b'e', b'v'];
-    lent(group, "record_at", 1, &[1, 4, 5, 2, 7, 1, 7], &|out| {
+    lent(group, "record_at", 1, &[1, 4, 5, 2, 7, 1, 7, 8], &|out| {
         u64::from(port::parts::test_record_at(&record, true, 1, out))
     });
     lent(group, "record_at nothing", 0, &[], &|out| {
@@ -153,14 +153,14 @@ fn found_words(group: &mut Group, arena: &[u8]) {
         starts: &[1],
         lengths: &[7],
     };
-    let told = [0, 4, 5, 2, 7, 1, 7];
+    let told = [0, 4, 5, 2, 7, 1, 7, 7];
     lent(group, "record_at_location", 1, &told, &|out| {
         u64::from(port::index::location_words(&set, 1, out))
     });
     lent(group, "record_at_location nothing", 0, &[], &|out| {
         u64::from(port::index::location_words(&set, 0, out))
     });
-    let told = [0, 0, 4, 5, 2, 7, 1, 7];
+    let told = [0, 0, 4, 5, 2, 7, 1, 7, 7];
     lent(group, "find_record", 1, &told, &|out| {
         u64::from(port::index::find_words(&set, b"ke", 0, out))
     });
@@ -177,10 +177,10 @@ fn lent(
     export: &dyn Fn(&mut [u64]) -> u64,
 ) {
     const BEFORE: u64 = 0x5a5a_5a5a_5a5a_5a5a;
-    for count in 0..10 {
-        let mut words = [BEFORE; 10];
+    for count in 0..11 {
+        let mut words = [BEFORE; 11];
         let found = export(&mut words[..count]);
-        let mut wanted = [BEFORE; 10];
+        let mut wanted = [BEFORE; 11];
         if answer.len() <= count {
             wanted[..answer.len()].copy_from_slice(answer);
         }

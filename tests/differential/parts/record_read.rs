@@ -1,7 +1,9 @@
 // Records read back: where they were written, from damaged copies, from forged lengths and from
-// random bytes.
+// random bytes. Each is read alone, as a public call, and as the second segment of a set.
+use crate::calls::world::UNSET;
 use crate::parts::record_write::{LENGTHS, random_record, rust_record, tick};
-use crate::port::parts as port;
+use crate::port::index::Areas;
+use crate::port::{calls, index, parts};
 use crate::report::Group;
 use crate::rng::{Rng, edges};
 use oracle_large::access;
@@ -30,11 +32,60 @@ pub fn read(group: &mut Group, random: u64) {
     }
 }
 
-fn read_one(group: &mut Group, bytes: &[u8], on: bool, location: usize) {
-    let found = port::record_at(bytes, on, location);
+// The Rust tells no end: it is the sum of its location, key offset and lengths.
+pub fn read_one(group: &mut Group, bytes: &[u8], on: bool, location: usize) {
+    let found = parts::record_at(bytes, on, location);
     let wanted = access::record_at(bytes, tick(on), location);
     let input = || format!("{bytes:02x?}, expiry {on}, {location}");
     group.rust("record_at", found, wanted, input);
+    let mut out = [UNSET; 9];
+    let refusal = calls::record_at(&setting(on), bytes, location, &mut out);
+    let call = "segment_cache_record_at";
+    group.rust(call, (refusal, out), (0, stored(wanted)), input);
+    if location < 1 << 32 {
+        let found = in_second_segment(bytes, on, location as u64);
+        let wanted = wanted.map(second);
+        group.rust("record_at_location", found, wanted, input);
+    }
+}
+
+// Words of a setting for a call that asks only whether there is expiry.
+pub fn setting(on: bool) -> [u64; 6] {
+    [on.into(), on.into(), 0, 7, 1, 0]
+}
+
+// The words of the public call: nine zeros for no record.
+pub fn stored(record: Option<[u64; 8]>) -> [u64; 9] {
+    record.map_or([0; 9], |[a, b, c, d, e, f, g, h]| {
+        [1, a, b, c, d, e, f, g, h]
+    })
+}
+
+const SECOND: u64 = 1 << 32;
+
+// What is told of a record where its bytes are the second segment, and begin where the arena does.
+fn second(record: [u64; 8]) -> [u64; 8] {
+    let mut record = record;
+    record[0] += SECOND;
+    record[7] += SECOND;
+    record
+}
+
+fn in_second_segment(bytes: &[u8], on: bool, location: u64) -> Option<[u64; 8]> {
+    let areas = Areas {
+        on,
+        packed: false,
+        filled: bytes.len(),
+        segments: 2,
+        buckets: 0,
+        filter_words: 0,
+        arena: bytes,
+        index: &[],
+        filter: &[],
+        starts: &[0, 0],
+        lengths: &[0, bytes.len() as u64],
+    };
+    index::record_at_location(&areas, SECOND + location + 1)
 }
 
 // The record between random bytes: at its place, just beside it and past the end.

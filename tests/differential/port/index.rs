@@ -155,8 +155,8 @@ pub fn location_words(areas: &Areas, stored: u64, out: &mut [u64]) -> bool {
     )
 }
 
-pub fn record_at_location(areas: &Areas, stored: u64) -> Option<[u64; 7]> {
-    let mut out = [0; 7];
+pub fn record_at_location(areas: &Areas, stored: u64) -> Option<[u64; 8]> {
+    let mut out = [0; 8];
     location_words(areas, stored, &mut out).then_some(out)
 }
 
@@ -179,7 +179,7 @@ pub fn find_words(areas: &Areas, key: &[u8], hash: u64, out: &mut [u64]) -> bool
     )
 }
 
-pub fn find(areas: &Areas, key: &[u8], hash: u64) -> Option<[u64; 8]> {
-    let mut out = [0; 8];
+pub fn find(areas: &Areas, key: &[u8], hash: u64) -> Option<[u64; 9]> {
+    let mut out = [0; 9];
     find_words(areas, key, hash, &mut out).then_some(out)
 }

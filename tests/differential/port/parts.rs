@@ -144,7 +144,7 @@ pub fn append_record(
     }
 }
 
-pub fn record_at(records: &[u8], on: bool, location: usize) -> Option<[u64; 7]> {
-    let mut out = [0; 7];
+pub fn record_at(records: &[u8], on: bool, location: usize) -> Option<[u64; 8]> {
+    let mut out = [0; 8];
     test_record_at(records, on, location, &mut out).then_some(out)
 }

@@ -81,7 +81,7 @@ pub fn compare(
     group: &mut Group,
     about: &str,
     lent: &Lent,
-    rust: &dyn Fn(&[u8], u64) -> Option<[u64; 8]>,
+    rust: &dyn Fn(&[u8], u64) -> Option<[u64; 9]>,
     key: &[u8],
     hash: u64,
 ) {
@@ -95,7 +95,7 @@ pub fn locations(
     group: &mut Group,
     about: &str,
     lent: &Lent,
-    rust: &dyn Fn(u64) -> Option<[u64; 7]>,
+    rust: &dyn Fn(u64) -> Option<[u64; 8]>,
     stored: u64,
 ) {
     let beside = [stored, stored + 1, stored.saturating_sub(1)];
