@@ -100,10 +100,46 @@ fn told(name: &str, before: &World, lent: &Lent) -> Option<String> {
     };
     let right = match (name, word(0)) {
         ("get" | "peek", 1) => inside(1, 2),
-        ("probe" | "next_entry", 1) => inside(4, 5) && inside(6, 7) && word(8) < 3,
-        ("get" | "peek" | "probe" | "next_entry", _) => out.content().iter().all(|&b| b == 0),
+        ("probe" | "next_entry", 1) => {
+            let end = sum(&[word(2), word(3), word(5), word(7)]);
+            inside(4, 5) && inside(6, 7) && word(8) < 3 && end == Some(word(11))
+        }
+        ("record_at", 1) => stored(before, lent, &std::array::from_fn(word)),
+        ("get" | "peek" | "probe" | "next_entry" | "record_at", _) => {
+            out.content().iter().all(|&b| b == 0)
+        }
         ("take_accessed", flag) => flag < 2,
         _ => true,
     };
     (!right).then(|| "what was told is not in the arena, or no flag".to_string())
+}
+
+fn sum(words: &[u64]) -> Option<u64> {
+    words
+        .iter()
+        .try_fold(0, |sum: u64, &word| sum.checked_add(word))
+}
+
+// A record at the position that was asked for: its parts follow one another, and the end is in the bytes.
+fn stored(before: &World, lent: &Lent, words: &[u64; 9]) -> bool {
+    let &[
+        _,
+        location,
+        header,
+        key,
+        key_len,
+        value,
+        value_len,
+        deadline,
+        end,
+    ] = words;
+    let bytes = lent.places[Arena as usize].map_or(0, |placed| placed.bytes as u64);
+    let lapses = before.word(Setting, 0) == 1;
+    location == before.numbers.location
+        && (2..=22).contains(&header)
+        && sum(&[location, header]) == Some(key)
+        && sum(&[key, key_len]) == Some(value)
+        && sum(&[value, value_len]) == Some(end)
+        && end <= bytes
+        && (deadline == 65_535 || lapses && deadline < 65_535)
 }

@@ -36,7 +36,15 @@ pub struct Episode {
     salt: u64,
     keys: Vec<Vec<u8>>,
     stored: Vec<Stored>,
+    // The slot from which a walk goes on, and the place from which steps through a segment do.
     from: u64,
+    step: Step,
+}
+
+#[derive(Clone, Copy, Default)]
+struct Step {
+    segment: usize,
+    position: u64,
 }
 
 const BITS: [u64; 6] = [0, 1, 8, 8, 64, 255];
@@ -70,6 +78,7 @@ impl Episode {
             keys: Vec::new(),
             stored: Vec::new(),
             from: 0,
+            step: Step::default(),
         };
         size_areas(rng, &mut episode.world, Setting, records);
         episode
@@ -119,13 +128,14 @@ impl Episode {
     }
 
     fn ask(&self, rng: &mut Rng) -> &'static str {
-        match rng.below(24) {
+        match rng.below(28) {
             0..5 => "get",
             5..7 => "peek",
             7..10 => "take_accessed",
             10..13 => "probe",
             13..20 => "next_entry",
             20 => "stats",
+            21..25 => "record_at",
             _ => "rebuild_open",
         }
     }
@@ -149,7 +159,8 @@ impl Episode {
             "rebuild_finish" => 4,
             "area_words" => 5,
             "stats" => 8,
-            "probe" | "next_entry" => 11,
+            "record_at" => 9,
+            "probe" | "next_entry" => 12,
             _ => 1,
         };
         world.resize(Out, words);
@@ -166,8 +177,48 @@ impl Episode {
             "push" | "push_copied" => self.pushed(rng, world),
             "push_reused" => self.reused(rng, world),
             "rebuild_open" => self.opened(rng, world),
+            "record_at" => self.stepped(rng, world),
             _ => (),
         }
+    }
+
+    // The bytes of a segment, at times cut off, and where the last record ended; or any position.
+    fn stepped(&mut self, rng: &mut Rng, world: &mut World) {
+        let arena = world.area(Arena);
+        let Step { segment, position } = self.step;
+        let place = |role| world.word(role, segment) as usize;
+        let inside = self.stage == Stage::Finished && segment < world.word(Set, 9) as usize;
+        let rest = arena.get(place(Starts)..).filter(|_| inside);
+        let bytes = rest.and_then(|rest| rest.get(..place(Lengths)));
+        let mut bytes = bytes.unwrap_or(arena).to_vec();
+        let len = bytes.len();
+        if rng.one_in(6) {
+            bytes.truncate(rng.index(len + 1));
+        }
+        let len = bytes.len() as u64;
+        let ends = [len.wrapping_sub(1), len, len + 1, 1 << 32, u64::MAX];
+        world.numbers.location = match rng.below(8) {
+            0 => rng.pick(&ends),
+            1 => rng.below(len + 1),
+            _ => position,
+        };
+        world.set_bytes(Arena, &bytes);
+    }
+
+    // The next step begins where the record ended, at times in another segment.
+    fn go_on(&mut self, world: &World) {
+        let (read, end) = (world.word(Out, 0) == 1, world.word(Out, 8));
+        let segments = self.world.word(Set, 9).clamp(1, 256) as usize;
+        self.step = match read {
+            true => Step {
+                position: end,
+                ..self.step
+            },
+            false => Step {
+                segment: (self.step.segment + 1) % segments,
+                position: 0,
+            },
+        };
     }
 
     // With the smallest target each record is a segment.
@@ -245,11 +296,17 @@ impl Episode {
 
     // The call was accepted, and the world is the one that it left.
     pub fn accepted(&mut self, number: usize, world: World) {
+        // It was lent a part of the arena, and changes nothing.
+        if EXPORTS[number].name == "record_at" {
+            self.go_on(&world);
+            return;
+        }
         self.world = world;
         match EXPORTS[number].name {
             "open" => self.stage = Stage::Building,
             "finish" | "rebuild_finish" => {
                 (self.stage, self.from) = (Stage::Finished, 0);
+                self.step = Step::default();
                 self.stored.clear();
             }
             "rebuild_open" => self.stage = Stage::Rebuilding,

@@ -1,4 +1,4 @@
-// The 21 exports: what each may answer, the areas and numbers that it is lent, and how it is called.
+// The 22 exports: what each may answer, the areas and numbers that it is lent, and how it is called.
 use crate::ffi::*;
 use crate::lent::Role::*;
 use crate::lent::{Lent, Numbers, Role};
@@ -79,7 +79,7 @@ macro_rules! count {
 
 // 11 is also the answer to words of a wrong number or form.
 #[rustfmt::skip]
-pub const EXPORTS: [Export; 21] = [
+pub const EXPORTS: [Export; 22] = [
     export!("open", [0, 1, 2, 3, 9, 10, 11], segment_cache_open(
         words Setting, number count, words_mut Builder, words_mut Index, words_mut Filter, words Starts,
         words Lengths, bytes Arena,
@@ -135,6 +135,9 @@ pub const EXPORTS: [Export; 21] = [
     )),
     export!("encoded_record_bytes", [0, 1, 3, 9, 11], segment_cache_encoded_record_bytes(
         words Setting, number count, number size, words_mut Out,
+    )),
+    export!("record_at", [0, 1, 9, 11], segment_cache_record_at(
+        words Setting, bytes Arena, number location, words_mut Out,
     )),
     export!("modeled_retained_bytes", [0, 11], segment_cache_modeled_retained_bytes(
         words Stats, words_mut Out,

@@ -42,7 +42,7 @@ impl Role {
 }
 
 // The arguments that are numbers. Count: records, target, slot or key bytes; size: copied bytes,
-// header bytes or value bytes; tick: also the base of a rebuild.
+// header bytes or value bytes; tick: also the base of a rebuild; location: also a position in bytes.
 #[derive(Clone, Copy, Debug, Default)]
 pub struct Numbers {
     pub hash: u64,
