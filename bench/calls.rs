@@ -113,11 +113,14 @@ impl Sides {
         self.records.len().min(MOST)
     }
 
-    // All answers in full, outside of the clock: the whole walk, and each lookup.
+    // All answers in full, outside of the clock: the whole walk, the whole segment, and each lookup.
     fn compare(&mut self, queries: &[Entry]) {
         let mut walk = self.rust.walk(NOW).into_iter();
         (self.port).visit(|record| assert_eq!(walk.next().as_ref(), record[1..].as_array()));
         assert!(walk.next().is_none(), "the walk is shorter");
+        let mut stored = self.rust.records().into_iter();
+        (self.port).step(|record| assert_eq!(stored.next().as_ref(), record[1..].as_array()));
+        assert!(stored.next().is_none(), "the segment is shorter");
         for query @ (key, hash) in queries {
             let value = self.rust.get(key, *hash, NOW, true);
             let probed = self.rust.probe(key, *hash, NOW);
@@ -148,6 +151,7 @@ pub fn calls(rng: &mut Rng, shape: Shape, count: usize) {
     probes(table, &sides, &jumping);
     takes(table, &mut sides, &jumping);
     walks(table, &sides);
+    steps(table, &sides);
     crate::rebuilds::rebuilds(table, sides);
 }
 
@@ -311,4 +315,36 @@ fn walks(table: &mut Table, sides: &Sides) {
         || total(times, || [rust_walk(&sides.rust)]),
         || total(times, || [port_walk(&sides.port)]),
     );
+}
+
+// Both sides go on where the last record ended, which the Rust's caller works out from its lengths.
+fn steps(table: &mut Table, sides: &Sides) {
+    let times = repeats(sides.records.len());
+    table.rows(
+        [(
+            "step through a segment, a record",
+            times * sides.records.len(),
+        )],
+        || total(times, || [rust_steps(&sides.rust)]),
+        || total(times, || [port_steps(&sides.port)]),
+    );
+}
+
+fn rust_steps(rust: &Set) -> Pass {
+    timed(|| {
+        let (mut sum, mut position) = (0, 0);
+        while let Some((deadline, end)) = rust.stored(position) {
+            sum += u64::from(deadline) + end;
+            position = end as usize;
+        }
+        sum
+    })
+}
+
+fn port_steps(port: &Port) -> Pass {
+    timed(|| {
+        let mut sum = 0;
+        port.step(|record| sum += record[7] + record[8]);
+        sum
+    })
 }

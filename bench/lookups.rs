@@ -64,7 +64,7 @@ pub fn finds(table: &mut Table, rng: &mut Rng, packed: bool, bits: u8) {
 }
 
 // The sum of slots, places of values and a number for each hit.
-fn summed(sum: u64, found: Option<[u64; 8]>) -> u64 {
+fn summed(sum: u64, found: Option<[u64; 9]>) -> u64 {
     found.map_or(sum, |found| {
         sum.wrapping_add(found[0] + found[5] + (1 << 40))
     })

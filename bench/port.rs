@@ -160,10 +160,10 @@ impl Port {
     }
 
     // 1, slot, location, header bytes, place and length of key and value, kind, seconds and
-    // nanoseconds of the time left; or zeros.
+    // nanoseconds of the time left, end; or zeros.
     #[inline]
-    pub fn probe(&self, (key, hash): &Entry) -> [u64; 11] {
-        let mut record = [0; 11];
+    pub fn probe(&self, (key, hash): &Entry) -> [u64; 12] {
+        let mut record = [0; 12];
         ffi::segment_cache_probe(
             &self.set,
             *hash,
@@ -181,8 +181,8 @@ impl Port {
 
     // A whole walk.
     #[inline]
-    pub fn visit(&self, mut visit: impl FnMut(&[u64; 11])) {
-        let (mut from, mut record) = (0, [0; 11]);
+    pub fn visit(&self, mut visit: impl FnMut(&[u64; 12])) {
+        let (mut from, mut record) = (0, [0; 12]);
         loop {
             ffi::segment_cache_next_entry(
                 &self.set,
@@ -199,6 +199,20 @@ impl Port {
             }
             visit(&record);
             from = record[1] as usize + 1;
+        }
+    }
+
+    // The first segment without the index, from its front to its end. Of a record: 1, location, header
+    // bytes, place and length of key and value, deadline, end.
+    #[inline]
+    pub fn step(&self, mut visit: impl FnMut(&[u64; 9])) {
+        let segment = &self.arena[..self.areas.lengths[0] as usize];
+        let (mut position, mut record) = (0, [0; 9]);
+        while position < segment.len() {
+            ffi::segment_cache_record_at(&self.set[..6], segment, position, &mut record);
+            assert_eq!(record[0], 1, "a record");
+            visit(&record);
+            position = record[8] as usize;
         }
     }
 }

@@ -163,6 +163,15 @@ pub mod access_sets {
             (self.cache).probe_hashed_at_tick(key, hash, tick).map(told)
         }
 
+        // The record at a position of the first segment: its deadline and its end.
+        #[inline(never)]
+        pub fn stored(&self, position: usize) -> Option<(u16, u64)> {
+            let (records, expiry) = (&self.cache.records, self.cache.config.expiry);
+            let record = record_at(records, expiry, position)?;
+            let end = end(record.location, record.key_offset, record.key, record.value);
+            Some((record.expires_at, end))
+        }
+
         pub fn visit(&self, tick: u64, mut visit: impl FnMut(Told<'_>)) {
             let mut each = |record: SegmentBaseRecord<'_>| visit(told(record));
             (self.cache).for_each_physical_entry_at_tick(tick, &mut each);
