@@ -111,7 +111,7 @@ fn told(name: &str, before: &World, lent: &Lent) -> Option<String> {
         ("take_accessed", flag) => flag < 2,
         _ => true,
     };
-    (!right).then(|| "what was told is not in the arena, or no flag".to_string())
+    (!right).then(|| "what was told is not in the arena, no flag, or another end".to_string())
 }
 
 fn sum(words: &[u64]) -> Option<u64> {

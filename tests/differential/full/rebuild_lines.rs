@@ -45,9 +45,10 @@ fn first_list(rng: &mut Rng, setting: Setting) -> Vec<Entry> {
 fn line(group: &mut Group, rng: &mut Rng, about: &str, setting: Setting, list: Vec<Entry>) {
     let room = 2 * total(&list, setting.tick.is_some());
     let first = built(group, rng, port, about, setting, &list, room.min(1 << 30));
-    let Some(first) = first else {
+    let Some(mut first) = first else {
         return;
     };
+    first.steps(group);
     let hashes: Vec<u64> = list.iter().map(|entry| entry.hash).collect();
     let mut sets = vec![(first, keys(list))];
     for deep in 0..DEEP {
@@ -150,6 +151,7 @@ fn ask_all(group: &mut Group, rng: &mut Rng, sets: &mut [(Finished, Vec<Entry>)]
     newest.stats(group);
     newest.lookups(group, rng, list, 1);
     newest.walk(group, 3);
+    newest.steps_as_read(group);
     newest.end(group);
     for (set, list) in older {
         set.borrow_arena(newest);
