@@ -50,8 +50,8 @@
  *    line of rebuilds, each from the newest set of that arena. Opening a builder in an arena ends
  *    every set over it; opening a rebuild ends an unfinished one.
  *  - While a call runs that writes an area (a pointer to non-const), no other call is lent that area.
- *    get and take_accessed write the set's index; peek, probe, next_entry and stats only read, and may
- *    run beside each other.
+ *    get and take_accessed write the set's index; peek, probe, next_entry, record_at and stats only read,
+ *    and may run beside each other.
  *
  * Every call but the functions without arguments returns 0 (accepted) or the number of a refusal, here
  * by the name that segment_cache_refusal_name gives it; enum segment_cache_refusal says when:
@@ -201,13 +201,15 @@ uint64_t segment_cache_index_load_bps(const uint64_t *stats, size_t stats_len, u
 
 /* ---- stepping through a segment without the index */
 
-/* The record at a position of these bytes, lapsed or not, with any setting of the same expiry as the one
-   that they were written with: the first six words of a set will do. Key, value and end count from the
-   front of the bytes; record[0] is 0 where no record is read there, as past the end. To step through
-   segment i of a set lend arena + starts[i] and lengths[i] bytes, begin at 0, go on at the record's end
-   and stop at lengths[i]. record[0] == 0 before that means bytes that are no record, which no call of
-   this library leaves there. Refusals: 11 (of the words alone), 9 and 1 (nanoseconds and occupancy
-   beyond 32 and 8 bits). */
+/* The record at a position of these bytes, lapsed or not, with its deadline and its end. Places and end
+   count from the front of the bytes; record[0] is 0 where no record is read, as past their end. Of the
+   setting only counts whether it has expiry; the first six words of a set will do.
+
+   To step through segment i of a set lend arena + starts[i] and lengths[i] bytes, begin at 0, go on at
+   each record's end and stop at lengths[i]. record[0] == 0 before that means bytes that are no record; no
+   call leaves such in a segment. In a rebuilt set kept segments are whole: records that were not reused
+   are met as well. Refusals: 11 (of the words alone), 9 and 1 (nanoseconds and occupancy beyond 32 and 8
+   bits). */
 uint64_t segment_cache_record_at(const uint64_t *setting, size_t setting_len,
                                  const uint8_t *records, size_t records_len, size_t position,
                                  uint64_t *record, size_t record_len);

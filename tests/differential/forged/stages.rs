@@ -106,6 +106,10 @@ impl Stage {
                 Ask::Probe { hash, key, tick },
                 Ask::Walk { from: 0, tick },
                 Ask::Walk { from: 4, tick },
+                Ask::Step {
+                    segment: 0,
+                    position: 0,
+                },
                 Ask::Stats,
             ];
         }
