@@ -202,13 +202,14 @@ uint64_t segment_cache_index_load_bps(const uint64_t *stats, size_t stats_len, u
 /* ---- stepping through a segment without the index */
 
 /* The record at a position of these bytes, lapsed or not, with its deadline and its end. Places and end
-   count from the front of the bytes; record[0] is 0 where no record is read, as past their end. Of the
-   setting only counts whether it has expiry; the first six words of a set will do.
+   count from the front of the bytes; record[0] is 0 where no record is read, also past the end. Of the
+   setting only whether it has expiry counts; the first six words of a set will do.
 
    To step through segment i of a set lend arena + starts[i] and lengths[i] bytes, begin at 0, go on at
    each record's end and stop at lengths[i]. record[0] == 0 before that means bytes that are no record; no
-   call leaves such in a segment. In a rebuilt set kept segments are whole: records that were not reused
-   are met as well. Refusals: 11 (of the words alone), 9 and 1 (nanoseconds and occupancy beyond 32 and 8
+   call leaves such in a segment. In a rebuilt set a kept segment is whole: steps also give records that
+   the set no longer has, such as one that was copied with a new value, and never one that was reused
+   inside another's value. Which records a set has only the index says. Refusals: 11 (of the words alone), 9 and 1 (nanoseconds and occupancy beyond 32 and 8
    bits). */
 uint64_t segment_cache_record_at(const uint64_t *setting, size_t setting_len,
                                  const uint8_t *records, size_t records_len, size_t position,

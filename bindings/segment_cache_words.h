@@ -141,7 +141,7 @@ enum segment_cache_stored_word {
     SEGMENT_CACHE_STORED_VALUE_AT = 5,
     SEGMENT_CACHE_STORED_VALUE_LENGTH = 6,
     SEGMENT_CACHE_STORED_DEADLINE = 7, /* a tick; SEGMENT_CACHE_NEVER for a record that never lapses */
-    SEGMENT_CACHE_STORED_END = 8       /* just after the value, where the next record begins */
+    SEGMENT_CACHE_STORED_END = 8       /* just after the value; the next record begins there, if there is one */
 };
 
 enum segment_cache_remaining {

@@ -205,7 +205,7 @@ impl Episode {
         world.set_bytes(Arena, &bytes);
     }
 
-    // The next step begins where the record ended, at times in another segment.
+    // The next step begins where the record ended; where none was read, at the front of the next segment.
     fn go_on(&mut self, world: &World) {
         let (read, end) = (world.word(Out, 0) == 1, world.word(Out, 8));
         let segments = self.world.word(Set, 9).clamp(1, 256) as usize;

@@ -31,7 +31,8 @@ pub struct Entry<'a> {
     place: Place,
 }
 
-/// Where a record stands, as for reuse in a rebuild: unlike an [`Entry`] it borrows nothing.
+/// Where a record stands, for reuse in a rebuild and to go on behind it. Unlike an [`Entry`] it borrows
+/// nothing.
 #[derive(Clone, Copy, Debug, PartialEq, Eq)]
 pub struct Place {
     pub(crate) location: u64,

@@ -171,8 +171,8 @@ impl Set {
     }
 
     /// The records of a segment one after the other, without the index: from the segment's front on, each
-    /// next one at the end of the last. There is `None` for a number past the last segment. A rebuilt set
-    /// keeps whole segments, so that records show here which were not reused.
+    /// next one at the end of the last. `None` for a number past the last segment. A rebuilt set keeps whole
+    /// segments: records that were not reused are given too, and one reused inside another's value is not.
     pub fn segment_records<'a>(
         &self,
         arena: &'a Arena,

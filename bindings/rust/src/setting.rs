@@ -116,7 +116,8 @@ impl Setting {
     }
 
     /// The record at a position of these bytes, lapsed or not, or `None` where no record is read there, as
-    /// past the end. Of the setting only counts whether records keep a deadline.
+    /// past the end. Of the setting, only whether records keep a deadline
+    /// counts.
     ///
     /// ```
     /// use segment_cache::Setting;

@@ -21,7 +21,7 @@ pub struct StoredRecord<'a> {
     pub deadline: Option<u16>,
     /// Where it begins.
     pub location: usize,
-    /// The position just after its value, where the next record begins.
+    /// The position just after its value, where the next record begins, if there is one.
     pub end: usize,
 }
 

@@ -74,10 +74,10 @@ module _ (e : SegmentExpiry) where
   few : (ts : List Stored) → length ts ≤ length (allBytes e ts)
   unfolding flatMap recordSize
   few [] = omega arith
-  few (t ∷ ts) = rw (length-append (bytesOf t) (allBytes e ts)) (omega (arith, few ts, some-byte t))
+  few (t ∷ ts) = rw (length-append (bytesOf t) (allBytes e ts)) (omega (arith, few ts, some-byte))
     where
-      some-byte : (t : Stored) → 1 ≤ length (bytesOf t)
-      some-byte t = omega (arith, size-is e (t .key) (t .value) (t .deadline), leb-pos (length (t .key)))
+      some-byte : 1 ≤ length (bytesOf t)
+      some-byte = omega (arith, size-is e (t .key) (t .value) (t .deadline), leb-pos (length (t .key)))
 
   written-from : (p : List ℕ) (ts : List Stored) → ((t : Stored) → List·Memᴰ t ts → Writable e t) → (turns : ℕ) → length ts < turns
       → stepsFrom e (p ++ allBytes e ts) turns (length p) ≡ record { visited = ts; stop = length p + length (allBytes e ts) }

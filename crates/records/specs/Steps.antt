@@ -24,7 +24,7 @@ unfoldable pub stepsFrom : SegmentExpiry → List ℕ → ℕ → ℕ → Steppe
 stepsFrom e s zero at = record { visited = []; stop = at }
 stepsFrom e s (suc turns) at = stepped s at (stepsFrom e s turns) (recordAt e s at)
 
--- all steps from 0 on: each goes on by a byte at least, so more than one for each byte are never made
+-- all steps from 0 on: each goes on by a byte at least, so there are no more than bytes, and one turn in which none is read
 abbrev pub steps : SegmentExpiry → List ℕ → Stepped
 steps e s = stepsFrom e s (suc (length s)) 0
 

@@ -4,9 +4,9 @@ use mathlib.Core.Bool.{Bool, true, false, cond}
 use mathlib.Core.List.{List, []}
 use Prim.Native.Nat.{ℕ, zero, suc, _+_, _-_, _/_, _%_, _^_, _≤_, _<_}
 use native.Mathlib.Omega.{arith}
-use lib.Dec.{eqb, leb}
-use lib.ListN.{length, take, length-take}
-use borrow.Author.Tests.{eqb-true}
+use lib.Dec.{eqb, leb, ltb}
+use lib.ListN.{length, take, getD, length-take}
+use borrow.Author.Tests.{eqb-true, ltb-true}
 use Rattle.records.specs.Area.{part, sameBytes, spanned}
 use Rattle.records.specs.declared.record.RecordAnswer.{RecordAnswer}
 use Rattle.records.specs.declared.record.RecordAnswer.the-variants.{Read, Unreadable}
@@ -14,7 +14,7 @@ use Rattle.records.specs.declared.record.RecordRef.{RecordRef}
 use Rattle.records.specs.declared.record.Span.{Span}
 use Rattle.records.proofs.Area.{same-true}
 use Rattle.records.proofs.Stored.{record-inside}
-use Rattle.index.specs.View.{recordIn}
+use Rattle.index.specs.View.{inSegment, recordIn}
 use Rattle.index.specs.declared.view.SegmentView.{SegmentView}
 use Rattle.index.proofs.Views.{read-in}
 use Rattle.sets.specs.Rebuild.{holdsRecord}
@@ -39,11 +39,29 @@ module _ (view : SegmentView) (arena starts lengths : List ℕ) where
       let i = record-inside (view .expiry) (part (w .start) (w .len) bytes) (location % 2 ^ 32) (w .r) (w .read) in
       rw (← w .is) (record { key-inside = omega (arith, w .inside, w .short); value-inside = omega (arith, w .inside, w .short); whole-inside = omega (arith, w .inside, w .short) })
 
-  -- Document 02, Change 1: where it ends is "counted as its own is". In a set or a rebuild, whose locations have 40 bits and whose arena has at most 2^30
-  -- bytes, the sum does not wrap, and the end has the segment of the location.
-  pub read-end : (location : ℕ) (x : RecordRef) → recordIn view arena starts lengths (suc location) ≡ Read x → location < 2 ^ 40 → length arena ≤ 2 ^ 30
+  -- it is read in a segment that the view counts
+  read-known : (location : ℕ) (x : RecordRef) → recordIn view arena starts lengths (suc location) ≡ Read x → location / 2 ^ 32 < view .segments
+  unfolding recordIn
+  read-known location x f = go (ltb segment (view .segments)) refl f
+    where
+      segment : ℕ
+      segment = location / 2 ^ 32
+
+      go : (b : Bool) → ltb segment (view .segments) ≡ b
+          → cond (cond b (cond (ltb segment (length starts)) (ltb segment (length lengths)) false) false)
+          (inSegment (view .expiry) bytes (getD starts segment 0) (getD lengths segment 0) location)
+          Unreadable
+          ≡ Read x
+          → segment < view .segments
+      go true h e = ltb-true _ _ h
+      go false h e = absurd (let z : _≡_ {A = ℕ} 0 1 = cc in omega arith)
+
+  -- Document 02, Change 1: where it ends is "counted as its own is". By question 1 a set has at most 256 segments and its arena at most 2^30 bytes: then the
+  -- sum does not wrap, and the end has the segment of the location.
+  pub read-end : (location : ℕ) (x : RecordRef) → recordIn view arena starts lengths (suc location) ≡ Read x → view .segments ≤ 256 → length arena ≤ 2 ^ 30
       → (x .end ≡ location + x .«key_offset» + x .key .len + x .value .len) × (x .end / 2 ^ 32 ≡ location / 2 ^ 32)
-  read-end location x f low short =
+  read-end location x f few short =
+      let low : location < 2 ^ 40 = omega (arith, read-known location x f) in
       let w = read-in view arena starts lengths location x f in
       let i = record-inside (view .expiry) (part (w .start) (w .len) bytes) (location % 2 ^ 32) (w .r) (w .read) in
       let b : length bytes ≤ length arena = rw length-take (omega arith) in

@@ -148,7 +148,7 @@ impl Line {
         self.same_page(group, at);
     }
 
-    // The starts and the filled bytes that the book has of a set.
+    // Starts, lengths, filled bytes and the number of records that the book has of a set.
     fn same_page(&self, group: &mut Group, at: At) {
         let (Some(world), Some(page)) = (self.sides.ours.world(at), self.book.finished.last())
         else {

@@ -1,5 +1,5 @@
-// The model's calls that take a setting and no state: the size of a record, and the record at a
-// position of lent bytes.
+// The model's calls on a record outside of any set: its size, and the one at a position of lent
+// bytes.
 use crate::model::calls::FORM;
 use crate::model::rules::{self, Setting, prefix};
 

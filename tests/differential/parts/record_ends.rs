@@ -105,7 +105,7 @@ fn prefix(length: usize, bytes: usize) -> Vec<u8> {
     prefix
 }
 
-// Records that end with the bytes, one byte past them and one before, behind none to two others.
+// Records that end with the bytes, one byte past them and one before, behind 0, 1 and 9 other bytes.
 fn at_the_end(group: &mut Group, on: bool) {
     for (key, value) in [(0, 0), (1, 0), (0, 1), (2, 3), (127, 0), (1, 127)] {
         for key_bytes in 1..=11 {
