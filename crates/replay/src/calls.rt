@@ -1,9 +1,11 @@
 // The calls of the list, their numbers in the order in which they are counted, and what each is lent.
-use crate::checksum::with_bytes;
 use crate::checksum::with_segments;
 use crate::checksum::with_words;
 use crate::line::Line;
+use crate::line::MOST_BYTES;
 use crate::line::Numbers;
+use crate::line::TOLD;
+use crate::line::Told;
 use crate::line::between;
 use capi::build_calls::segment_cache_finish;
 use capi::build_calls::segment_cache_open;
@@ -13,6 +15,7 @@ use capi::stats_calls::segment_cache_index_load_bps;
 use capi::stats_calls::segment_cache_modeled_overhead_bytes;
 use capi::stats_calls::segment_cache_modeled_retained_bytes;
 use capi::stats_calls::segment_cache_stats;
+use capi::words::copy_words;
 use capi_get::segment_cache_get;
 use capi_next_entry::segment_cache_next_entry;
 use capi_peek::segment_cache_peek;
@@ -21,7 +24,6 @@ use capi_push::segment_cache_push;
 use capi_push_copied::segment_cache_push_copied;
 use capi_push_reused::segment_cache_push_reused;
 use capi_take_accessed::segment_cache_take_accessed;
-use hash_parts::hash::wrapping_mul;
 use records::record::same_bytes;
 
 const OPEN: usize = 0;
@@ -97,28 +99,344 @@ fn is_front(name: &[u8], padded: [u8; 16]) -> bool {
     same_bytes(name, between(&padded, 0, name.len()))
 }
 
-// How many words the state has that a call is lent.
-pub(crate) fn state_words(kind: usize) -> usize {
+pub(crate) type Arena = [u8; 131_072];
+
+// What the program has for a set, and for the build or the rebuild that makes it.
+pub(crate) struct Areas {
+    builder: [u64; 13],
+    rebuild: [u64; 22],
+    set: [u64; 15],
+    index: [u64; 1_024],
+    filter: [u64; 1_024],
+    // Where the segments start, and how long they are.
+    starts: [u64; 256],
+    sizes: [u64; 256],
+    // The refusal, or 0, and the words that the last call told.
+    pub(crate) told: Told,
+}
+
+pub(crate) const EMPTY: Areas = Areas {
+    builder: [0; 13],
+    rebuild: [0; 22],
+    set: [0; 15],
+    index: [0; 1_024],
+    filter: [0; 1_024],
+    starts: [0; 256],
+    sizes: [0; 256],
+    told: [0; TOLD],
+};
+
+// Makes the call of a line on the areas of the set that it makes or asks; a rebuild is opened from
+// those of its source.
+pub(crate) fn make_call(
+    line: Line,
+    bytes: &[u8; MOST_BYTES],
+    areas: Areas,
+    source: Areas,
+    arena: &mut Arena,
+) -> Areas {
+    let kind = line.kind;
+    let n = line.numbers;
+    let key = between(bytes, 0, line.key_end);
+    let value = between(bytes, line.key_end, line.value_end);
+    let lifetime = [n[5], n[6]];
     match kind {
-        OPEN | PUSH | FINISH => 13,
-        _ => 22,
+        OPEN => open(n, areas, arena),
+        PUSH => push(n, key, value, front(&lifetime, n[4]), areas, arena),
+        FINISH => finish(n, areas, arena),
+        STATS => tell_stats(areas),
+        REBUILD_OPEN => rebuild_open(n, key, areas, source, arena),
+        PUSH_REUSED => push_reused(n, key, value, areas, arena),
+        PUSH_COPIED => push_copied(n, key, value, front(&lifetime, n[4]), areas, arena),
+        REBUILD_FINISH => rebuild_finish(areas, arena),
+        _ => look_up(n, kind, key, areas, arena),
     }
 }
 
-// How many words the call writes for its answer.
-pub(crate) fn answer_words(kind: usize) -> usize {
+fn tell(refusal: u64, words: &[u64]) -> Told {
+    let mut told = [0; TOLD];
+    copy_words(&mut told[1..TOLD], words);
+    told[0] = refusal;
+    told
+}
+
+fn open(n: Numbers, areas: Areas, arena: &Arena) -> Areas {
+    let setting = [n[3], n[4], n[5], n[6], n[7], n[8]];
+    let mut builder = [0; 13];
+    let mut index = areas.index;
+    let mut filter = areas.filter;
+    let starts = areas.starts;
+    let sizes = areas.sizes;
+    let refusal = segment_cache_open(
+        &setting,
+        n[2] as usize,
+        &mut builder,
+        &mut index,
+        &mut filter,
+        &starts,
+        &sizes,
+        arena,
+    );
+    let counts = [builder[8], builder[9]];
+    Areas {
+        builder,
+        index,
+        filter,
+        told: tell(refusal, &counts),
+        ..areas
+    }
+}
+
+fn rebuild_open(n: Numbers, keep: &[u8], areas: Areas, source: Areas, arena: &Arena) -> Areas {
+    let set = source.set;
+    let starts = source.starts;
+    let sizes = source.sizes;
+    open_from(n, keep, &set, &starts, &sizes, areas, arena)
+}
+
+fn open_from(
+    n: Numbers,
+    keep: &[u8],
+    source: &[u64],
+    source_starts: &[u64],
+    source_sizes: &[u64],
+    areas: Areas,
+    arena: &Arena,
+) -> Areas {
+    let mut rebuild = [0; 22];
+    let mut index = areas.index;
+    let mut filter = areas.filter;
+    let mut starts = areas.starts;
+    let mut sizes = areas.sizes;
+    let refusal = segment_cache_rebuild_open(
+        source,
+        source_starts,
+        source_sizes,
+        arena,
+        n[3] as usize,
+        n[4] as usize,
+        keep,
+        n[5],
+        &mut rebuild,
+        &mut index,
+        &mut filter,
+        &mut starts,
+        &mut sizes,
+    );
+    let counts = [rebuild[8], rebuild[9]];
+    Areas {
+        rebuild,
+        index,
+        filter,
+        starts,
+        sizes,
+        told: tell(refusal, &counts),
+        ..areas
+    }
+}
+
+fn finish(n: Numbers, areas: Areas, arena: &Arena) -> Areas {
+    let builder = areas.builder;
+    let mut set = [0; 15];
+    let mut index = areas.index;
+    let mut starts = areas.starts;
+    let mut sizes = areas.sizes;
+    let mut scratch = [0; 128];
+    let refusal = segment_cache_finish(
+        &builder,
+        n[2] as usize,
+        &mut index,
+        &mut starts,
+        &mut sizes,
+        &mut scratch,
+        arena,
+        &mut set,
+    );
+    let counts = [set[9], set[11]];
+    Areas {
+        set,
+        index,
+        starts,
+        sizes,
+        told: tell(refusal, &counts),
+        ..areas
+    }
+}
+
+fn rebuild_finish(areas: Areas, arena: &Arena) -> Areas {
+    let rebuild = areas.rebuild;
+    let mut set = [0; 15];
+    let mut index = areas.index;
+    let mut starts = areas.starts;
+    let mut sizes = areas.sizes;
+    let mut scratch = [0; 128];
+    let mut totals = [0; 4];
+    let refusal = segment_cache_rebuild_finish(
+        &rebuild,
+        &mut index,
+        &mut starts,
+        &mut sizes,
+        &mut scratch,
+        arena,
+        &mut set,
+        &mut totals,
+    );
+    let counts = [totals[0], totals[1], totals[2], totals[3], set[9]];
+    Areas {
+        set,
+        index,
+        starts,
+        sizes,
+        told: tell(refusal, &counts),
+        ..areas
+    }
+}
+
+fn push(
+    n: Numbers,
+    key: &[u8],
+    value: &[u8],
+    lifetime: &[u64],
+    areas: Areas,
+    arena: &mut Arena,
+) -> Areas {
+    let mut builder = areas.builder;
+    let mut index = areas.index;
+    let mut filter = areas.filter;
+    let mut place = [0; 2];
+    let refusal = segment_cache_push(
+        &mut builder,
+        n[2],
+        key,
+        value,
+        lifetime,
+        &mut index,
+        &mut filter,
+        arena,
+        &mut place,
+    );
+    Areas {
+        builder,
+        index,
+        filter,
+        told: tell(refusal, &place),
+        ..areas
+    }
+}
+
+fn push_copied(
+    n: Numbers,
+    key: &[u8],
+    value: &[u8],
+    lifetime: &[u64],
+    areas: Areas,
+    arena: &mut Arena,
+) -> Areas {
+    let mut rebuild = areas.rebuild;
+    let mut index = areas.index;
+    let mut filter = areas.filter;
+    let starts = areas.starts;
+    let sizes = areas.sizes;
+    let mut place = [0; 2];
+    let refusal = segment_cache_push_copied(
+        &mut rebuild,
+        n[2],
+        key,
+        value,
+        lifetime,
+        &mut index,
+        &mut filter,
+        &starts,
+        &sizes,
+        arena,
+        &mut place,
+    );
+    Areas {
+        rebuild,
+        index,
+        filter,
+        told: tell(refusal, &place),
+        ..areas
+    }
+}
+
+fn push_reused(n: Numbers, key: &[u8], value: &[u8], areas: Areas, arena: &Arena) -> Areas {
+    let mut rebuild = areas.rebuild;
+    let mut index = areas.index;
+    let mut filter = areas.filter;
+    let starts = areas.starts;
+    let sizes = areas.sizes;
+    let mut place = [0; 2];
+    let refusal = segment_cache_push_reused(
+        &mut rebuild,
+        n[2],
+        key,
+        value,
+        n[4] as usize,
+        n[5] as usize,
+        &mut index,
+        &mut filter,
+        &starts,
+        &sizes,
+        arena,
+        &mut place,
+    );
+    Areas {
+        rebuild,
+        index,
+        filter,
+        told: tell(refusal, &place),
+        ..areas
+    }
+}
+
+// A lifetime is two words, or none.
+fn front(words: &[u64], count: u64) -> &[u64] {
+    if words.len() < count as usize {
+        return words;
+    }
+    &words[0..count as usize]
+}
+
+fn look_up(n: Numbers, kind: usize, key: &[u8], areas: Areas, arena: &Arena) -> Areas {
+    let set = areas.set;
+    let mut index = areas.index;
+    let filter = areas.filter;
+    let starts = areas.starts;
+    let sizes = areas.sizes;
+    let mut told = [0; TOLD];
+    let count = answer_words(kind);
+    let refusal = ask(
+        n,
+        kind,
+        key,
+        &set,
+        &mut index,
+        &filter,
+        &starts,
+        &sizes,
+        arena,
+        part(&mut told, 1, count),
+    );
+    told[0] = refusal;
+    Areas {
+        index,
+        told,
+        ..areas
+    }
+}
+
+// How many words a lookup writes for its answer.
+fn answer_words(kind: usize) -> usize {
     match kind {
-        PUSH | PUSH_REUSED | PUSH_COPIED => 2,
         GET | PEEK => 3,
-        REBUILD_FINISH => 4,
-        STATS => 8,
-        PROBE | WALK => 11,
+        PROBE | WALK => TOLD - 1,
         _ => 1,
     }
 }
 
 // So many words from one on; all of them where there are not so many, which the call then refuses.
-pub(crate) fn part(words: &mut [u64], from: usize, count: usize) -> &mut [u64] {
+fn part(words: &mut [u64], from: usize, count: usize) -> &mut [u64] {
     if words.len() < from {
         return words;
     }
@@ -128,160 +446,11 @@ pub(crate) fn part(words: &mut [u64], from: usize, count: usize) -> &mut [u64] {
     &mut words[from..from + count]
 }
 
-// Makes the call of a line on the areas of the set that it makes or asks; a rebuild is opened from
-// those of its source.
-pub(crate) fn make_call(
-    line: Line,
-    bytes: &[u8],
-    source: &[u64; 15],
-    source_starts: &[u64; 256],
-    source_sizes: &[u64; 256],
-    state: &mut [u64],
-    set: &mut [u64],
-    index: &mut [u64],
-    filter: &mut [u64],
-    starts: &mut [u64],
-    sizes: &mut [u64],
-    arena: &mut [u8],
-    out: &mut [u64],
-) -> u64 {
-    let n = line.numbers;
-    let kind = line.kind;
-    match kind {
-        OPEN => open(n, state, index, filter, starts, sizes, arena),
-        REBUILD_OPEN => segment_cache_rebuild_open(
-            source,
-            source_starts,
-            source_sizes,
-            arena,
-            n[3] as usize,
-            n[4] as usize,
-            between(bytes, 0, line.key_end),
-            n[5],
-            state,
-            index,
-            filter,
-            starts,
-            sizes,
-        ),
-        FINISH | REBUILD_FINISH => finish(line, state, set, index, starts, sizes, arena, out),
-        PUSH | PUSH_REUSED | PUSH_COPIED => {
-            push(line, bytes, state, index, filter, starts, sizes, arena, out)
-        }
-        _ => look_up(line, bytes, set, index, filter, starts, sizes, arena, out),
-    }
-}
-
-fn open(
-    n: Numbers,
-    state: &mut [u64],
-    index: &mut [u64],
-    filter: &mut [u64],
-    starts: &[u64],
-    sizes: &[u64],
-    arena: &[u8],
-) -> u64 {
-    let setting = [n[3], n[4], n[5], n[6], n[7], n[8]];
-    let records = n[2] as usize;
-    segment_cache_open(
-        &setting,
-        records,
-        state,
-        index,
-        filter,
-        starts,
-        sizes,
-        arena,
-    )
-}
-
-fn finish(
-    line: Line,
-    state: &[u64],
-    set: &mut [u64],
-    index: &mut [u64],
-    starts: &mut [u64],
-    sizes: &mut [u64],
-    arena: &[u8],
-    out: &mut [u64],
-) -> u64 {
-    let n = line.numbers;
-    let kind = line.kind;
-    let target = n[2] as usize;
-    let mut scratch = [0; 128];
-    match kind {
-        FINISH => {
-            segment_cache_finish(
-                state,
-                target,
-                index,
-                starts,
-                sizes,
-                &mut scratch,
-                arena,
-                set,
-            )
-        }
-        _ => {
-            segment_cache_rebuild_finish(state, index, starts, sizes, &mut scratch, arena, set, out)
-        }
-    }
-}
-
-fn push(
-    line: Line,
-    bytes: &[u8],
-    state: &mut [u64],
-    index: &mut [u64],
-    filter: &mut [u64],
-    starts: &[u64],
-    sizes: &[u64],
-    arena: &mut [u8],
-    out: &mut [u64],
-) -> u64 {
-    let n = line.numbers;
-    let kind = line.kind;
-    let hash = n[2];
-    let key = between(bytes, 0, line.key_end);
-    let value = between(bytes, line.key_end, line.value_end);
-    let mut words = [n[5], n[6]];
-    let lifetime = part(&mut words, 0, n[4] as usize);
-    match kind {
-        PUSH => segment_cache_push(state, hash, key, value, lifetime, index, filter, arena, out),
-        PUSH_REUSED => segment_cache_push_reused(
-            state,
-            hash,
-            key,
-            value,
-            n[4] as usize,
-            n[5] as usize,
-            index,
-            filter,
-            starts,
-            sizes,
-            arena,
-            out,
-        ),
-        _ => segment_cache_push_copied(
-            state,
-            hash,
-            key,
-            value,
-            lifetime,
-            index,
-            filter,
-            starts,
-            sizes,
-            arena,
-            out,
-        ),
-    }
-}
-
 // The second number is the hash, or the slot at which a walk goes on, and the third the tick.
-fn look_up(
-    line: Line,
-    bytes: &[u8],
+fn ask(
+    n: Numbers,
+    kind: usize,
+    key: &[u8],
     set: &[u64],
     index: &mut [u64],
     filter: &[u64],
@@ -290,11 +459,8 @@ fn look_up(
     arena: &[u8],
     to: &mut [u64],
 ) -> u64 {
-    let n = line.numbers;
-    let kind = line.kind;
     let hash = n[2];
     let now = n[3];
-    let key = between(bytes, 0, line.key_end);
     match kind {
         GET => segment_cache_get(set, hash, key, now, index, filter, starts, sizes, arena, to),
         PEEK => segment_cache_peek(set, hash, key, now, index, filter, starts, sizes, arena, to),
@@ -303,79 +469,39 @@ fn look_up(
         }
         PROBE => segment_cache_probe(set, hash, key, now, index, filter, starts, sizes, arena, to),
         WALK => segment_cache_next_entry(set, hash as usize, now, index, starts, sizes, arena, to),
-        STATS => segment_cache_stats(set, to),
-        CHECKSUM => checksum(set, index, filter, starts, sizes, arena),
+        CHECKSUM => checksum(n, index, filter, starts, sizes, arena),
         _ => u64::MAX,
     }
 }
 
 // Index words, filter words, and of each segment its start, its length and its bytes.
 fn checksum(
-    set: &[u64],
+    n: Numbers,
     index: &[u64],
     filter: &[u64],
     starts: &[u64],
     sizes: &[u64],
     arena: &[u8],
 ) -> u64 {
-    let with_index = with_words(0, index, wrapping_mul(8, word(set, 7)));
-    let with_filter = with_words(with_index, filter, word(set, 8));
-    with_segments(with_filter, starts, sizes, word(set, 9), arena)
+    let sum = with_words(with_words(0, index, n[2]), filter, n[3]);
+    with_segments(sum, starts, sizes, n[4], arena)
 }
 
-fn word(words: &[u64], at: usize) -> u64 {
-    if at < words.len() {
-        return words[at];
+fn tell_stats(areas: Areas) -> Areas {
+    let set = areas.set;
+    let mut stats = [0; 8];
+    let refusal = segment_cache_stats(&set, &mut stats);
+    Areas {
+        told: with_methods(tell(refusal, &stats)),
+        ..areas
     }
-    0
-}
-
-// The words of an answer as the list has them: some come from the state or the set, and of bytes in the
-// arena there is the checksum in place of their place.
-pub(crate) fn shown(
-    kind: usize,
-    told: [u64; 12],
-    state: &[u64],
-    set: [u64; 15],
-    arena: &[u8],
-) -> [u64; 12] {
-    if told[0] != 0 {
-        return told;
-    }
-    match kind {
-        OPEN | REBUILD_OPEN => with_two(told, word(state, 8), word(state, 9)),
-        FINISH => with_two(told, set[9], set[11]),
-        REBUILD_FINISH => with_word(told, 5, set[9]),
-        GET | PEEK => summed(told, 2, arena),
-        PROBE | WALK => summed(summed(told, 5, arena), 7, arena),
-        STATS => with_methods(told),
-        _ => told,
-    }
-}
-
-fn with_two(told: [u64; 12], first: u64, second: u64) -> [u64; 12] {
-    with_word(with_word(told, 1, first), 2, second)
-}
-
-fn with_word(told: [u64; 12], at: usize, word: u64) -> [u64; 12] {
-    let mut words = told;
-    words[at % 12] = word;
-    words
-}
-
-// With the checksum of bytes in place of where they stand, before their number. The sum begins with that
-// number: from 0, bytes of 0 would sum as none do.
-fn summed(told: [u64; 12], at: usize, arena: &[u8]) -> [u64; 12] {
-    let count = told[(at % 12 + 1) % 12];
-    let sum = with_bytes(count, arena, told[at % 12], count);
-    with_word(told, at, sum)
 }
 
 // The eight numbers of the statistics, then those of the three methods.
-fn with_methods(stats: [u64; 12]) -> [u64; 12] {
-    let mut words = stats;
-    segment_cache_modeled_retained_bytes(&stats[1..9], part(&mut words, 9, 1));
-    segment_cache_modeled_overhead_bytes(&stats[1..9], part(&mut words, 10, 1));
-    segment_cache_index_load_bps(&stats[1..9], part(&mut words, 11, 1));
-    words
+fn with_methods(stats: Told) -> Told {
+    let mut told = stats;
+    segment_cache_modeled_retained_bytes(&stats[1..9], part(&mut told, 9, 1));
+    segment_cache_modeled_overhead_bytes(&stats[1..9], part(&mut told, 10, 1));
+    segment_cache_index_load_bps(&stats[1..9], part(&mut told, 11, 1));
+    told
 }

@@ -1,10 +1,9 @@
 // Checksums. Each word or byte is joined to the sum by exclusive or, the result multiplied modulo 2^64
 // by 0x9e3779b97f4a7c15 and rotated left by 27 bits, so that a changed bit reaches all bits of the sum
 // after a few steps, and two changes don't undo each other.
+use crate::line::between;
 use hash_parts::hash::rotate_left_27;
 use hash_parts::hash::wrapping_mul;
-use records::record::Span;
-use records::record::value_slice;
 
 fn joined(sum: u64, word: u64) -> u64 {
     rotate_left_27(wrapping_mul(sum ^ word, 0x9e37_79b9_7f4a_7c15))
@@ -25,12 +24,9 @@ pub(crate) fn with_words(sum: u64, words: &[u64], count: u64) -> u64 {
 }
 
 // The sum with so many bytes of the arena from a place on.
-pub(crate) fn with_bytes(sum: u64, arena: &[u8], place: u64, count: u64) -> u64 {
-    let span = Span {
-        at: place as usize,
-        len: count as usize,
-    };
-    let bytes = value_slice(arena, span);
+fn with_bytes(sum: u64, arena: &[u8], place: u64, count: u64) -> u64 {
+    let end = std::num::wrapping_add_u64(place, count);
+    let bytes = between(arena, place as usize, end as usize);
     let mut total = sum;
     let mut i = 0;
     while i < bytes.len() {

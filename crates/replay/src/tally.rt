@@ -4,11 +4,11 @@ use crate::calls::UNREADABLE;
 use crate::calls::name_of;
 use crate::line::ANSWER;
 use crate::line::Line;
+use crate::line::Numbers;
+use crate::line::TOLD;
+use crate::line::Told;
 
 const SHOWN_DIFFERENCES: u64 = 10;
-
-// The refusal, and the words that a call writes.
-const WORDS: usize = 12;
 
 pub(crate) struct Tally {
     differences: u64,
@@ -26,7 +26,7 @@ fn more(count: u64) -> u64 {
 
 impl Tally {
     // One line more, with what the port told.
-    pub(crate) fn compared(self, number: u64, line: Line, told: [u64; WORDS]) -> Tally {
+    pub(crate) fn compared(self, number: u64, line: Line, told: Told) -> Tally {
         let at = line.kind % 16;
         let mut counts = self.counts;
         counts[at] = more(counts[at]);
@@ -48,10 +48,10 @@ impl Tally {
 }
 
 // The number of differences, and where there is one more, its line; only the first ones are shown.
-fn with_difference(before: u64, number: u64, line: Line, told: [u64; WORDS]) -> u64 {
+fn with_difference(before: u64, number: u64, line: Line, told: Told) -> u64 {
     let numbers = line.numbers;
     let at = first_difference(numbers, told);
-    if at >= WORDS || line.kind == NOTHING {
+    if at >= TOLD || line.kind == NOTHING {
         return before;
     }
     if before < SHOWN_DIFFERENCES {
@@ -70,9 +70,9 @@ fn show_count(name: [u8; 16], count: u64) {
     show::number(&name, count);
 }
 
-fn first_difference(numbers: [u64; 22], told: [u64; WORDS]) -> usize {
+fn first_difference(numbers: Numbers, told: Told) -> usize {
     let mut i = 0;
-    while i < WORDS {
+    while i < TOLD {
         if numbers[ANSWER + i] != told[i] {
             return i;
         }

@@ -3,7 +3,7 @@
 use super::oracle::access::SEGMENT_TARGET;
 use super::oracle::access_index::{self as access, Builder, Set, Setting};
 use super::oracle::access_rebuilds::Rebuild;
-use super::oracle::access_sets::{self, Told};
+use super::oracle::access_sets;
 use super::oracle::set_hash;
 use crate::replay_text::{self as text, List};
 use std::rc::Rc;
@@ -127,31 +127,6 @@ pub enum Lookup {
     Probe,
 }
 
-// 1 and the value, or zeros.
-fn told_value(value: Option<&[u8]>) -> Vec<u64> {
-    let told = value.map_or([0; 3], |value| {
-        let [sum, length] = text::summed(value);
-        [1, sum, length]
-    });
-    text::answer(Ok(told))
-}
-
-// 1, slot, location, bytes before the key, key, value, and what is left of the time: its kind (0 for
-// ever, 1 a duration, 2 nothing), seconds and nanoseconds. Zeros where there is no record.
-fn told_record(record: Option<&Told<'_>>) -> Vec<u64> {
-    let told = record.map_or([0; 11], |record| {
-        let place = [record.slot, record.location, record.key_offset];
-        let [slot, location, offset] = place.map(|number| number as u64);
-        let ([key, key_len], [value, value_len]) =
-            (text::summed(record.key), text::summed(record.value));
-        let [kind, secs, nanos] = (record.left).map_or([2, 0, 0], |left| text::optional(1, left));
-        [
-            1, slot, location, offset, key, key_len, value, value_len, kind, secs, nanos,
-        ]
-    });
-    text::answer(Ok(told))
-}
-
 impl Sets<'_> {
     // The number of a set in the list, while its areas are not those of a newer one.
     pub fn number(&self, set: usize) -> u64 {
@@ -167,13 +142,13 @@ impl Sets<'_> {
     pub fn look_up(&mut self, lookup: Lookup, set: usize, key: &[u8], hash: u64, tick: u64) {
         let (number, rust) = (self.number(set), &self.sets[set]);
         let (name, answer) = match lookup {
-            Lookup::Get => ("get", told_value(rust.value(key, hash, tick, true))),
-            Lookup::Peek => ("peek", told_value(rust.value(key, hash, tick, false))),
+            Lookup::Get => ("get", text::found(rust.get(key, hash, tick, true))),
+            Lookup::Peek => ("peek", text::found(rust.get(key, hash, tick, false))),
             Lookup::Take => {
                 let accessed = rust.take_accessed(key, hash);
                 ("take", text::answer(Ok([accessed.into()])))
             }
-            Lookup::Probe => ("probe", told_record(rust.probed(key, hash, tick).as_ref())),
+            Lookup::Probe => ("probe", text::found(rust.probe(key, hash, tick))),
         };
         let numbers = match lookup {
             Lookup::Take => vec![number, hash],
@@ -182,20 +157,15 @@ impl Sets<'_> {
         (self.list).call(name, key, &[], &numbers, &answer);
     }
 
-    // From the first slot to the end of a set.
+    // From the first slot to the end of a set; a record begins with its slot.
     pub fn walk(&mut self, set: usize, tick: u64) {
-        let (number, rust) = (self.number(set), &self.sets[set]);
-        let mut steps = Vec::new();
-        rust.visit(tick, |record| {
-            steps.push((record.slot, told_record(Some(&record))))
-        });
+        let (number, records) = (self.number(set), self.sets[set].walk(tick));
         let mut from = 0;
-        for (slot, answer) in steps {
+        for record in records.into_iter().map(Some).chain([None]) {
+            let answer = text::found(record);
             (self.list).call("walk", &[], &[], &[number, from, tick], &answer);
-            from = slot as u64 + 1;
+            from = record.map_or(0, |record| record[0] + 1);
         }
-        let end = told_record(None);
-        (self.list).call("walk", &[], &[], &[number, from, tick], &end);
     }
 
     pub fn stats(&mut self, set: usize) {
@@ -204,15 +174,18 @@ impl Sets<'_> {
         (self.list).call("stats", &[], &[], &[number], &answer);
     }
 
-    // Index words, filter words, and of each segment its start, its length and its bytes.
+    // Index words, filter words, and of each segment its start, its length and its bytes. The numbers
+    // say how many words and segments there are.
     pub fn checksum(&mut self, set: usize) {
         let (number, rust) = (self.number(set), &self.sets[set]);
-        let sum = text::with_words(0, rust.shown());
-        let mut sum = text::with_words(sum, rust.filter().unwrap_or(&[]));
+        let (index, filter) = (rust.shown(), rust.filter().unwrap_or(&[]));
+        let mut sum = text::with_words(text::with_words(0, index), filter);
         for (start, bytes) in rust.segments() {
             sum = text::with_words(sum, &[start, bytes.len() as u64]);
             sum = text::with_bytes(sum, &bytes);
         }
-        (self.list).call("checksum", &[], &[], &[number], &[sum]);
+        let counts = [index.len(), filter.len(), rust.starts().len()].map(|count| count as u64);
+        let numbers = [&[number], &counts[..]].concat();
+        (self.list).call("checksum", &[], &[], &numbers, &[sum]);
     }
 }

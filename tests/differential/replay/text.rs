@@ -39,6 +39,11 @@ pub fn answer<const WORDS: usize>(rust: Result<[u64; WORDS], u64>) -> Vec<u64> {
     }
 }
 
+// 0, then 1 and what was found, or 0 alone: what a line lacks is 0.
+pub fn found<const WORDS: usize>(rust: Option<[u64; WORDS]>) -> Vec<u64> {
+    rust.map_or(vec![0, 0], |words| [&[0, 1], &words[..]].concat())
+}
+
 fn spaced(numbers: &[u64]) -> String {
     numbers.iter().fold(String::new(), |mut text, number| {
         let _ = write!(text, " {number}");
@@ -54,12 +59,6 @@ fn hex(bytes: &[u8]) -> String {
         let _ = write!(text, "{byte:02x}");
         text
     })
-}
-
-// Bytes of an answer: their checksum, which begins with their number, and their number.
-pub fn summed(bytes: &[u8]) -> [u64; 2] {
-    let count = bytes.len() as u64;
-    [with_bytes(count, bytes), count]
 }
 
 // A number where there is a duration, its seconds and its nanoseconds, or zeros.

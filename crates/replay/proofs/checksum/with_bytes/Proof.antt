@@ -6,10 +6,10 @@ use Rattle.replay.proofs.checksum.with_bytes.Statement.{statement}
 use Rattle.replay.proofs.checksum.with_bytes.Tie as tie
 
 abbrev Inv-loop : tie.InvT-loop
-Inv-loop sum arena place count bytes total₀ i₀ total i = 0 ≤ i
+Inv-loop sum arena place count end bytes total₀ i₀ total i = 0 ≤ i
 
 abbrev μ-loop : tie.MeasureT-loop
-μ-loop sum arena place count bytes total₀ i₀ total i = length bytes - i
+μ-loop sum arena place count end bytes total₀ i₀ total i = length bytes - i
 
 pub with-bytes-spec : {M : Type 1} → statement M
 with-bytes-spec =
@@ -17,5 +17,6 @@ with-bytes-spec =
     (tie.spec
     Inv-loop
     μ-loop
-    (λ c κs. search needs) (λ c. search needs) (λ c. search needs) (λ c κs. search needs) (λ c. search needs) (λ c. search needs) (λ c. search needs)
+    (λ c κs. search needs) (λ c κs. search needs) (λ c. search needs) (λ c. search needs) (λ c κs. search needs) (λ c. search needs) (λ c. search needs)
+    (λ c. search needs)
     (λ c. search needs))
