@@ -25,7 +25,7 @@ pub(crate) type Numbers = [u64; NUMBERS];
 pub(crate) const ANSWER: usize = 10;
 
 // The refusal, and the most words that a call writes: those of a record.
-pub(crate) const TOLD: usize = 12;
+pub(crate) const TOLD: usize = 13;
 
 pub(crate) type Told = [u64; TOLD];
 

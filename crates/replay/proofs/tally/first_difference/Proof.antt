@@ -5,10 +5,10 @@ use Rattle.replay.proofs.tally.first_difference.Statement.{statement}
 use Rattle.replay.proofs.tally.first_difference.Tie as tie
 
 abbrev Inv-loop : tie.InvT-loop
-Inv-loop numbers told i₀ i = i ≤ 12
+Inv-loop numbers told i₀ i = i ≤ 13
 
 abbrev μ-loop : tie.MeasureT-loop
-μ-loop numbers told i₀ i = 12 - i
+μ-loop numbers told i₀ i = 13 - i
 
 pub first-difference-spec : {M : Type 1} → statement M
 first-difference-spec =
