@@ -97,6 +97,11 @@ impl<'a> Entry<'a> {
         self.place
     }
 
+    /// Where the record ends; see [`Place::end`].
+    pub fn end(&self) -> u64 {
+        self.place.end
+    }
+
     /// Key, value and what is left of the time, for [`Rebuild::copy`](crate::Rebuild::copy).
     pub fn copy_out(&self) -> OwnedEntry {
         OwnedEntry {

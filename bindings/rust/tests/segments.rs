@@ -71,7 +71,7 @@ fn each_entry_is_met_where_it_ends() {
     let mut ends: Vec<u64> = set
         .entries(&arena, 0)
         .unwrap()
-        .map(|entry| entry.place().end())
+        .map(|entry| entry.end())
         .collect();
     ends.sort_unstable();
     let met: Vec<u64> = (0..set.segments())

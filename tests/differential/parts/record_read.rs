@@ -63,27 +63,35 @@ pub fn stored(record: Option<[u64; 8]>) -> [u64; 9] {
 
 const SECOND: u64 = 1 << 32;
 
-// What is told of a record where its bytes are the second segment, and begin where the arena does.
+// The bytes of the first segment.
+const FIRST: [u8; 3] = [0x55; 3];
+
+// What is told of a record where its bytes are the second segment: location and end count in it, places
+// from the arena's start.
 fn second(record: [u64; 8]) -> [u64; 8] {
     let mut record = record;
     record[0] += SECOND;
+    record[2] += FIRST.len() as u64;
+    record[4] += FIRST.len() as u64;
     record[7] += SECOND;
     record
 }
 
 fn in_second_segment(bytes: &[u8], on: bool, location: u64) -> Option<[u64; 8]> {
+    let arena = [&FIRST[..], bytes].concat();
+    let first = FIRST.len() as u64;
     let areas = Areas {
         on,
         packed: false,
-        filled: bytes.len(),
+        filled: arena.len(),
         segments: 2,
         buckets: 0,
         filter_words: 0,
-        arena: bytes,
+        arena: &arena,
         index: &[],
         filter: &[],
-        starts: &[0, 0],
-        lengths: &[0, bytes.len() as u64],
+        starts: &[0, first],
+        lengths: &[first, bytes.len() as u64],
     };
     index::record_at_location(&areas, SECOND + location + 1)
 }
