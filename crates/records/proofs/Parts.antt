@@ -112,7 +112,7 @@ pub of-in : (e : SegmentExpiry) (s : List ℕ) (at key value q w d : ℕ) → w 
     }
     ≡ recordOf e s at key value q
 unfolding recordOf
-of-in e s at key value q w d x y h = rw (← x, ← y, le-leb (q + w + key + value) (length s) h)
+of-in e s at key value q w d x y h = rw (← x, ← y, le-leb (q + w + key + value) (length s) h) refl
 
 -- ---- the record at a position, by what its prefixes read
 
