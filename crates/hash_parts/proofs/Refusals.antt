@@ -6,7 +6,7 @@ use native.Mathlib.Omega.{arith}
 use lib.Dec.{eqb}
 use Rattle.hash_parts.specs.Error.{errorNumber}
 use Rattle.hash_parts.specs.declared.error.SegmentCacheBuildError.{SegmentCacheBuildError}
-use Rattle.hash_parts.specs.declared.error.SegmentCacheBuildError.the-variants.{InvalidBucketOccupancy, ZeroExpiryTick, CapacityOverflow, DuplicateKey, ExpiryDisabled, ExpiryOutOfRange, ArenaTooLarge, InvalidSegmentTarget, InvalidNanoseconds, AreaTooShort, InvalidState, RecordMismatch}
+use Rattle.hash_parts.specs.declared.error.SegmentCacheBuildError.the-variants.{InvalidBucketOccupancy, ZeroExpiryTick, CapacityOverflow, DuplicateKey, ExpiryDisabled, ExpiryOutOfRange, ArenaTooLarge, InvalidSegmentTarget, InvalidNanoseconds, AreaTooShort, InvalidState, RecordMismatch, FileFraming, FileKinds, FileContent}
 
 -- no refusal has the number of an acceptance
 pub refusal-pos : (e : SegmentCacheBuildError) → 0 < errorNumber e
@@ -22,6 +22,9 @@ refusal-pos InvalidNanoseconds = omega arith
 refusal-pos AreaTooShort = omega arith
 refusal-pos InvalidState = omega arith
 refusal-pos RecordMismatch = omega arith
+refusal-pos FileFraming = omega arith
+refusal-pos FileKinds = omega arith
+refusal-pos FileContent = omega arith
 
 -- the refusal of a number; past the last, the last
 abbrev refusalOf : ℕ → SegmentCacheBuildError
@@ -37,7 +40,10 @@ refusalOf n =
     (cond (eqb n 9) InvalidNanoseconds
     (cond (eqb n 10) AreaTooShort
     (cond (eqb n 11) InvalidState
-    RecordMismatch))))))))))
+    (cond (eqb n 12) RecordMismatch
+    (cond (eqb n 13) FileFraming
+    (cond (eqb n 14) FileKinds
+    FileContent)))))))))))))
 
 number-back : (e : SegmentCacheBuildError) → refusalOf (errorNumber e) ≡ e
 number-back InvalidBucketOccupancy = refl
@@ -52,6 +58,9 @@ number-back InvalidNanoseconds = refl
 number-back AreaTooShort = refl
 number-back InvalidState = refl
 number-back RecordMismatch = refl
+number-back FileFraming = refl
+number-back FileKinds = refl
+number-back FileContent = refl
 
 -- the numbers of two refusals differ
 pub one-refusal : (d e : SegmentCacheBuildError) → errorNumber d ≡ errorNumber e → d ≡ e

@@ -1,8 +1,8 @@
--- Document 01's numbers of the refusals.
+-- The numbers of the refusals: 1 to 12 are document 01's, those from 13 on document 02's.
 -- Assumes nothing.
 use Prim.Native.Nat.{ℕ}
 use Rattle.hash_parts.specs.declared.error.SegmentCacheBuildError.{SegmentCacheBuildError}
-use Rattle.hash_parts.specs.declared.error.SegmentCacheBuildError.the-variants.{InvalidBucketOccupancy, ZeroExpiryTick, CapacityOverflow, DuplicateKey, ExpiryDisabled, ExpiryOutOfRange, ArenaTooLarge, InvalidSegmentTarget, InvalidNanoseconds, AreaTooShort, InvalidState, RecordMismatch}
+use Rattle.hash_parts.specs.declared.error.SegmentCacheBuildError.the-variants.{InvalidBucketOccupancy, ZeroExpiryTick, CapacityOverflow, DuplicateKey, ExpiryDisabled, ExpiryOutOfRange, ArenaTooLarge, InvalidSegmentTarget, InvalidNanoseconds, AreaTooShort, InvalidState, RecordMismatch, FileFraming, FileKinds, FileContent}
 
 abbrev pub errorNumber : SegmentCacheBuildError → ℕ
 errorNumber InvalidBucketOccupancy = 1
@@ -17,3 +17,6 @@ errorNumber InvalidNanoseconds = 9
 errorNumber AreaTooShort = 10
 errorNumber InvalidState = 11
 errorNumber RecordMismatch = 12
+errorNumber FileFraming = 13
+errorNumber FileKinds = 14
+errorNumber FileContent = 15

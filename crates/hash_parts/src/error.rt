@@ -30,6 +30,12 @@ pub enum SegmentCacheBuildError {
     InvalidState,
     // The location does not hold the record that is to be reused.
     RecordMismatch,
+    // A block of the file runs past its end, or bytes follow the fifth.
+    FileFraming,
+    // A kind of block is missing, unknown or out of place.
+    FileKinds,
+    // A number in the file is out of its bounds, or the numbers don't fit together.
+    FileContent,
 }
 
 impl SegmentCacheBuildError {
@@ -50,6 +56,9 @@ impl SegmentCacheBuildError {
             SegmentCacheBuildError::AreaTooShort => 10,
             SegmentCacheBuildError::InvalidState => 11,
             SegmentCacheBuildError::RecordMismatch => 12,
+            SegmentCacheBuildError::FileFraming => 13,
+            SegmentCacheBuildError::FileKinds => 14,
+            SegmentCacheBuildError::FileContent => 15,
         }
     }
 }

@@ -284,7 +284,7 @@ impl FrozenSegmentCache {
     }
 
     // Question 1 of a lookup: all five areas.
-    fn lookup_areas_hold(
+    pub fn lookup_areas_hold(
         self,
         index_len: usize,
         filter_len: usize,

@@ -11,5 +11,5 @@ mod marks;
 mod questions;
 pub mod rebuild;
 mod rebuild_finish;
-mod rebuild_questions;
+pub mod rebuild_questions;
 pub mod stats;

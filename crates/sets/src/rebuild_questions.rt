@@ -303,7 +303,7 @@ fn arena_holds_both(source_filled: usize, copied: usize, arena_len: usize) -> bo
 }
 
 // Question 1 of a source.
-fn source_holds(
+pub fn source_holds(
     source: FrozenSegmentCache,
     starts: &[u64],
     lengths: &[u64],

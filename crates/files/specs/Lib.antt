@@ -1,0 +1,6 @@
+pub mod Blocks
+pub mod Contents
+pub mod Load
+pub mod Write
+pub mod Typed
+
