@@ -13,4 +13,3 @@ pub mod Passes
 pub mod LoadReads
 pub mod Accepts
 pub mod SmallWords
-

@@ -15,8 +15,7 @@ use Rattle.records.specs.Area.{over}
 use Rattle.index.specs.Packed.{controlByte, controlWord, markedByte, packed, packedIndex, referenceBytes, referenceWords, unmarkedByte, withByte, wordsOf}
 use Rattle.index.specs.Walk.{bucketsOf}
 use Rattle.index.specs.Word.{unmarked}
-use Rattle.hash_parts.proofs.Bytes.{Bytes, bytes-append, bytes-drop, bytes-of, bytes-set, bytes-take, length-bytes, number-small}
-use Rattle.index.proofs.Bytes.{no-bytes, one-byte}
+use Rattle.hash_parts.proofs.Bytes.{Bytes, bytes-append, bytes-drop, bytes-of, bytes-set, bytes-take, length-bytes, number-small, no-bytes, one-byte}
 use Rattle.index.proofs.Packing.{control-small, reference-bytes}
 use Rattle.index.proofs.Walks.{length-buckets}
 use Rattle.sets.specs.Lookup.{slotCleared, slotMarked}

@@ -1,7 +1,7 @@
 -- The definitions run: document 01's example as a file. Assumes nothing.
 use mathlib.Core.Path.{_≡_, refl}
 use mathlib.Core.Bool.{Bool, true, false}
-use mathlib.Core.List.{List, [], _∷_, _++_, flatten}
+use mathlib.Core.List.{List, [], _∷_, _++_, flatMap, map}
 use Prim.Native.Nat.{ℕ, _+_, _^_}
 use lib.ListN.{replicate, take, drop, set}
 use Rattle.hash_parts.specs.Setting.{withRelativeExpiry}
@@ -76,7 +76,7 @@ pub trials :
 unfolding bytes.bytesOf
     slots.bucketsFor
     bytes.numberOf packing.wordsOf packing.wordBytes
-    cuts.padded walk.upFrom
+    flatMap cuts.padded walk.upFrom
     asks.setFits asks.areasHoldSet asks.areasHoldLookup
     questions.nanosecondsFit questions.occupancyFits questions.tickRuns questions.settingFits questions.countsFit questions.arenaHolds questions.segmentAreasHold
     rebuilds.segmentsInside rebuilds.sumOf

@@ -10,8 +10,7 @@ use Rattle.hash_parts.specs.ZeroBytes.{bytesOf, numberOf}
 use Rattle.index.specs.Packed.{packedSlot, packedSlotsOf, packedBucket, unmarkedByte, wordBytes}
 use Rattle.index.proofs.Contents.{packedBuckets}
 use Rattle.index.specs.declared.slot.IndexSlot.{IndexSlot}
-use Rattle.hash_parts.proofs.Bytes.{Bytes, bytes-of, bytes-number, length-bytes}
-use Rattle.index.proofs.Bytes.{no-bytes, one-byte}
+use Rattle.hash_parts.proofs.Bytes.{Bytes, bytes-of, bytes-number, length-bytes, no-bytes, one-byte}
 use Rattle.index.proofs.Flat.{indexSlots}
 use Rattle.files.specs.Contents.{unmarkedIndex}
 

@@ -10,8 +10,9 @@ use Rattle.hash_parts.specs.declared.setting.SegmentCacheConfig.{SegmentCacheCo
 use Rattle.hash_parts.specs.declared.setting.SegmentExpiry.{SegmentExpiry}
 use Rattle.hash_parts.specs.declared.setting.SegmentExpiry.the-variants.{None, Relative16}
 use Rattle.index.specs.Packed.{wordsOf, unmarkedByte}
+use Rattle.index.specs.Segments.{mostSegments}
 use Rattle.index.specs.Word.{unmarked}
-use Rattle.sets.specs.Questions.{all, bucketsIn, bytesFit, filterWordsIn, settingFits}
+use Rattle.sets.specs.Questions.{all, bucketsIn, bytesFit, filterWordsIn, mostArenaBytes, mostRecords, settingFits}
 use Rattle.sets.specs.declared.cache.FrozenSegmentCache.{FrozenSegmentCache}
 use Rattle.files.specs.Blocks.{contentOf, framesWell, kindsFrom}
 
@@ -59,7 +60,7 @@ abbrev pub segmentLengths : List ℕ → List ℕ
 segmentLengths f = wordsOf (length (contentOf 1 f) / 8) (contentOf 1 f)
 
 abbrev pub segmentCountFits : ℕ → Bool
-segmentCountFits bytes = all (eqb (bytes % 8) 0 ∷ leb 8 bytes ∷ leb bytes 2048 ∷ [])
+segmentCountFits bytes = all (eqb (bytes % 8) 0 ∷ leb 8 bytes ∷ leb bytes (8 * mostSegments) ∷ [])
 
 abbrev pub sum : List ℕ → ℕ
 sum [] = 0
@@ -119,14 +120,14 @@ contentFits f =
     ∷ leb (field 4 f) 1
     ∷ tickFits f
     ∷ settingFits (settingIn f)
-    ∷ leb (recordsIn f) 1_048_576
+    ∷ leb (recordsIn f) mostRecords
     ∷ bytesFit (recordsIn f) (field 7 f)
     ∷ bytesFit (recordsIn f) (field 8 f)
     ∷ bytesFit (recordsIn f) (field 9 f)
     ∷ segmentCountFits (length (contentOf 1 f))
     ∷ eqb (length (contentOf 2 f)) (64 * bucketsOf f)
     ∷ eqb (length (contentOf 3 f)) (8 * filterWordsOf f)
-    ∷ leb (length (contentOf 4 f)) 1_073_741_824
+    ∷ leb (length (contentOf 4 f)) mostArenaBytes
     ∷ eqb (sum (segmentLengths f)) (length (contentOf 4 f))
     ∷ [])
 

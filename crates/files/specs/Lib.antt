@@ -3,4 +3,4 @@ pub mod Contents
 pub mod Load
 pub mod Write
 pub mod Typed
-
+pub mod Copies

@@ -12,7 +12,7 @@ use Rattle.index.specs.Packed.{wordBytes}
 use Rattle.index.specs.Walk.{upFrom}
 use Rattle.sets.specs.Answers.{Reply, accept, refuse}
 use Rattle.sets.specs.Lookup.{areasHoldLookup}
-use Rattle.sets.specs.Questions.{decided, firstNo}
+use Rattle.sets.specs.Questions.{decided, firstNo, mostArenaBytes}
 use Rattle.sets.specs.Rebuild.{segmentsInside, sumOf}
 use Rattle.sets.specs.declared.cache.FrozenSegmentCache.{FrozenSegmentCache}
 use Rattle.files.specs.Blocks.{block}
@@ -54,7 +54,7 @@ unfoldable pub askWrite : FrozenSegmentCache → ℕ → ℕ → List ℕ → Li
 askWrite s index filter starts lengths arena file =
     (areasHoldLookup s index filter (length starts) (length lengths) arena, 11)
     ∷ (segmentsInside (s .segments) (s .filled) starts lengths, 11)
-    ∷ (leb (sumOf (s .segments) lengths) 1_073_741_824, 11)
+    ∷ (leb (sumOf (s .segments) lengths) mostArenaBytes, 11)
     ∷ (leb (fileSize s lengths) file, 10)
     ∷ []
 
