@@ -16,7 +16,7 @@ use Rattle.files.specs.Blocks.{contentOf, framesWell, kindsFrom}
 use Rattle.files.specs.Contents.{askFile, bucketsOf, contentFits, field, filterWordsOf, numbersIn, recordsIn, segmentCountFits, segmentLengths, settingIn, sum, tickFits, widths}
 use Rattle.files.specs.Load.{askLoad, loadAreasHold}
 use Rattle.files.specs.Typed.{Typed}
-use Rattle.files.specs.Write.{countBytes, countNumbers, fileOf, tickNumbers}
+use Rattle.files.specs.Write.{countBytes, countNumbers, fileOf, expiryFlag, tickNanos, tickSecs}
 use Rattle.files.proofs.Asked.{WriteAsked}
 use Rattle.files.proofs.Fields.{numbers}
 use Rattle.files.proofs.Framing.{frames-written, kinds-written}
@@ -52,9 +52,9 @@ module _ (s : FrozenSegmentCache) (index filter starts lengths arena out : List 
     where
       ns : SegmentExpiry → Bool → List ℕ
       ns e p =
-          tickNumbers e
-          ++ (s .config .«target_occupied_slots» ∷ cond p 1 0 ∷ s .config .«negative_filter_bits_per_entry» ∷ s .entries
-          ∷ s .«logical_key_bytes» ∷ s .«logical_value_bytes» ∷ s .«record_header_bytes» ∷ [])
+          expiryFlag e ∷ tickSecs e ∷ tickNanos e
+          ∷ s .config .«target_occupied_slots» ∷ cond p 1 0 ∷ s .config .«negative_filter_bits_per_entry» ∷ s .entries
+          ∷ s .«logical_key_bytes» ∷ s .«logical_value_bytes» ∷ s .«record_header_bytes» ∷ []
 
       go : (e : SegmentExpiry) (p : Bool)
           → (leb (getD (ns e p) 0 0) 1 ≡ true) × (leb (getD (ns e p) 4 0) 1 ≡ true) × (cond (eqb (getD (ns e p) 0 0) 0) (eqb (getD (ns e p) 1 0 + getD (ns e p) 2 0) 0) true ≡ true)
@@ -87,7 +87,12 @@ module _ (s : FrozenSegmentCache) (index filter starts lengths arena out : List 
       let four : eqb (length (contentOf 3 file)) (8 * filterWordsOf file) ≡ true =
       eq-eqb _ _ (written .3 ∙ ap (λ (n : ℕ). 8 * n) (sym (round.words-back s index filter starts lengths arena out typed asked))) in
       let five : leb (length (contentOf 4 file)) 1_073_741_824 ≡ true =
-      le-leb (length (contentOf 4 file)) 1_073_741_824 (omega (arith, ap length (round.segments-back s index filter starts lengths arena out typed asked), round.five-long s index filter starts lengths arena out typed asked, asked .sum-short)) in
+      le-leb (length (contentOf 4 file)) 1_073_741_824 (omega (
+        arith,
+        ap length (round.segments-back s index filter starts lengths arena out typed asked),
+        round.five-long s index filter starts lengths arena out typed asked,
+        asked .sum-short,
+      )) in
       let adds : eqb (sum (segmentLengths file)) (length (contentOf 4 file)) ≡ true =
       eq-eqb _ _ (ap sum (round.lengths-back s index filter starts lengths arena out typed asked) ∙ sym five-length) in
       rw (one, flags-fit .0, flags-fit .1, flags-fit .2, setting, records, k, v, h, count-fits, three, four, five, adds)

@@ -18,7 +18,8 @@ use Rattle.sets.proofs.Asked.{then}
 use Rattle.sets.proofs.Counts.{both}
 use Rattle.sets.proofs.RebuildAsked.{segments-each}
 use Rattle.files.specs.Blocks.{contentOf, framesWell, kindsFrom}
-use Rattle.files.specs.Contents.{askFile, bucketsOf, contentFits, field, fileFilter, fileIndex, fileSet, filterWordsOf, recordsIn, segmentCountFits, segmentLengths, settingIn, startsBy, sum, tickFits}
+use Rattle.files.specs.Contents.{askFile, bucketsOf, contentFits, field, fileFilter, fileIndex, fileSet, filterWordsOf, recordsIn, segmentCountFits, segmentLengths, settingIn, startsBy}
+use Rattle.files.specs.Contents.{sum, tickFits}
 use Rattle.files.specs.Load.{Loaded, afterLoad, askLoad, loadAreasHold}
 use Rattle.files.specs.Write.{FileWritten, afterWrite, askWrite, fileOf, fileSize}
 
@@ -42,7 +43,7 @@ module _ (s : FrozenSegmentCache) (index filter starts lengths arena file : List
     pub sum-short : sumOf (s .segments) lengths ≤ 1073741824
     pub room : fileSize s lengths ≤ length file
 
-  write-asked : firstNo (askWrite s (length index) (length filter) starts lengths (length arena) (length file)) ≡ 0 → WriteAsked
+  pub write-asked : firstNo (askWrite s (length index) (length filter) starts lengths (length arena) (length file)) ≡ 0 → WriteAsked
   unfolding askWrite areasHoldLookup areasHoldSet setFits segmentAreasHold arenaHolds
   write-asked e =
       let t = then (areasHoldLookup s (length index) (length filter) (length starts) (length lengths) (length arena)) 11 _ (omega arith) e in

@@ -11,7 +11,7 @@ use Rattle.hash_parts.specs.declared.setting.SegmentExpiry.the-variants.{None, 
 use Rattle.sets.specs.declared.cache.FrozenSegmentCache.{FrozenSegmentCache}
 use Rattle.files.specs.Blocks.{contentOf}
 use Rattle.files.specs.Contents.{expiryIn, field, numbersIn, recordsIn, settingIn, widths}
-use Rattle.files.specs.Write.{countBytes, countNumbers, tickNumbers}
+use Rattle.files.specs.Write.{countBytes, countNumbers, expiryFlag, tickNanos, tickSecs}
 use Rattle.files.proofs.Framing.{Fit, numbers-back}
 
 module _ (s : FrozenSegmentCache) (f : List ℕ) (one : contentOf 0 f ≡ countBytes s) (fit : Fit widths (countNumbers s)) where
@@ -33,30 +33,20 @@ module _ (s : FrozenSegmentCache) (f : List ℕ) (one : contentOf 0 f ≡ countB
     pub values : field 8 f ≡ s .«logical_value_bytes»
     pub headers : field 9 f ≡ s .«record_header_bytes»
 
+  expiry-back : (e : SegmentExpiry) → cond (eqb (expiryFlag e) 1) (Relative16 record { secs = tickSecs e; nanos = tickNanos e }) None ≡ e
+  expiry-back None = refl
+  expiry-back (Relative16 tick) = refl
+
   pub fields-back : FieldsBack
   unfolding countNumbers
-  fields-back = go (s .config .expiry) refl
-    where
-      go : (e : SegmentExpiry) → s .config .expiry ≡ e → FieldsBack
-      go None q =
-          record {
-            expiry = rw (numbers, q);
-            occupied = rw (numbers, q);
-            packed = rw (numbers, q) (flag-back (s .config .«packed_bucket_index»));
-            bits = rw (numbers, q);
-            records = rw (numbers, q);
-            keys = rw (numbers, q);
-            values = rw (numbers, q);
-            headers = rw (numbers, q);
-          }
-      go (Relative16 tick) q =
-          record {
-            expiry = rw (numbers, q);
-            occupied = rw (numbers, q);
-            packed = rw (numbers, q) (flag-back (s .config .«packed_bucket_index»));
-            bits = rw (numbers, q);
-            records = rw (numbers, q);
-            keys = rw (numbers, q);
-            values = rw (numbers, q);
-            headers = rw (numbers, q);
-          }
+  fields-back =
+      record {
+        expiry = rw numbers (expiry-back (s .config .expiry));
+        occupied = rw numbers;
+        packed = rw numbers (flag-back (s .config .«packed_bucket_index»));
+        bits = rw numbers;
+        records = rw numbers;
+        keys = rw numbers;
+        values = rw numbers;
+        headers = rw numbers;
+      }

@@ -42,7 +42,12 @@ module _ (kind : ℕ) (content rest : List ℕ) (small : length content < 2 ^ 32
 
   pub block-kind : kindIn file ≡ kind
   block-kind =
-      rw (flat, drop-at (bytesOf 4 (length content)) (bytesOf 2 kind ++ (content ++ rest)) 4 (length-bytes 4 _), take-at (bytesOf 2 kind) (content ++ rest) 2 (length-bytes 2 kind), number-bytes 2 kind)
+      rw (
+        flat,
+        drop-at (bytesOf 4 (length content)) (bytesOf 2 kind ++ (content ++ rest)) 4 (length-bytes 4 _),
+        take-at (bytesOf 2 kind) (content ++ rest) 2 (length-bytes 2 kind),
+        number-bytes 2 kind,
+      )
       (mod-eq-of-lt known)
 
   past-header : drop 6 file ≡ content ++ rest
@@ -63,7 +68,14 @@ module _ (kind : ℕ) (content rest : List ℕ) (small : length content < 2 ^ 32
       ∙ drop-at content rest (length content) refl)
 
   long : length file ≡ 6 + length content + length rest
-  long = ap length flat ∙ omega (arith, length-append (bytesOf 4 (length content)) (bytesOf 2 kind ++ (content ++ rest)), length-append (bytesOf 2 kind) (content ++ rest), length-append content rest, length-bytes 4 (length content), length-bytes 2 kind)
+  long = ap length flat ∙ omega (
+    arith,
+    length-append (bytesOf 4 (length content)) (bytesOf 2 kind ++ (content ++ rest)),
+    length-append (bytesOf 2 kind) (content ++ rest),
+    length-append content rest,
+    length-bytes 4 (length content),
+    length-bytes 2 kind,
+  )
 
   pub block-whole : isWhole file ≡ true
   unfolding isWhole
@@ -125,7 +137,8 @@ module _ (kind : ℕ) (content rest : List ℕ) (small : length content < 2 ^ 32
       go : (f : List ℕ) → block kind content ++ rest ≡ f → framesWell (suc n) f ≡ framesWell n rest
       go [] e = absurd (omega (arith, ap length e, long kind content rest small known))
       go (b ∷ f) e =
-          ap₂ (λ (w : Bool) (r : List ℕ). cond w (framesWell n r) false) (ap isWhole (sym e) ∙ block-whole kind content rest small known) (ap behind (sym e) ∙ block-behind kind content rest small known)
+          ap₂ (λ (w : Bool) (r : List ℕ). cond w (framesWell n r) false) (ap isWhole (sym e) ∙ block-whole kind content rest small known) (ap behind (sym e)
+          ∙ block-behind kind content rest small known)
 
   pub kinds-step : (n : ℕ) → kindsFrom kind (suc n) (block kind content ++ rest) ≡ kindsFrom (suc kind) n rest
   unfolding kindsFrom

@@ -38,4 +38,5 @@ module _ (buckets : ℕ) (ws rest : List ℕ) (long : length ws ≡ 8 * buckets)
 -- so those of an area are those of its front
 pub slots-taken : (packed : Bool) (buckets : ℕ) (index : List ℕ) → 8 * buckets ≤ length index → indexSlots packed buckets (take (8 * buckets) index) ≡ indexSlots packed buckets index
 slots-taken packed buckets index h =
-    sym (slots-front buckets (take (8 * buckets) index) (drop (8 * buckets) index) (length-take-le (8 * buckets) index h) packed) ∙ ap (indexSlots packed buckets) (take-append-drop (8 * buckets) index)
+    sym (slots-front buckets (take (8 * buckets) index) (drop (8 * buckets) index) (length-take-le (8 * buckets) index h) packed)
+    ∙ ap (indexSlots packed buckets) (take-append-drop (8 * buckets) index)

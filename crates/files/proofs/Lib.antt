@@ -1,3 +1,9 @@
+pub mod Copying
+pub mod Masks
+pub mod Positions
+pub mod Pieces
+pub mod Lengths
+pub mod Sizes
 pub mod Framing
 pub mod Moved
 pub mod Trial
@@ -13,3 +19,6 @@ pub mod Passes
 pub mod LoadReads
 pub mod Accepts
 pub mod SmallWords
+pub mod Reading
+pub mod Told
+pub mod Loading

@@ -44,7 +44,7 @@ unfolding wordBytes
 word-bytes-length [] = refl
 word-bytes-length (w ∷ l) = omega (arith, length-append (bytesOf 8 w) (wordBytes l), length-bytes 8 w, word-bytes-length l)
 
-bytes-low : (w : ℕ) → bytesOf 8 (low w) ≡ bytesOf 8 w
+pub bytes-low : (w : ℕ) → bytesOf 8 (low w) ≡ bytesOf 8 w
 bytes-low w = ap (bytesOf 8) (sym (number-bytes 8 w)) ∙ bytes-number 8 (bytes-of 8 w) (length-bytes 8 w)
 
 word-bytes-low : (ws : List ℕ) → wordBytes (map low ws) ≡ wordBytes ws

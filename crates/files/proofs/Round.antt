@@ -21,23 +21,12 @@ use Rattle.sets.proofs.Finding.{few-buckets, few-words}
 use Rattle.files.specs.Blocks.{block, contentOf}
 use Rattle.files.specs.Contents.{bucketsOf, bytesFor, fileFilter, fileIndex, filterWordsOf, recordsIn, segmentLengths, settingIn, sum, unmarkedIndex, widths}
 use Rattle.files.specs.Typed.{Typed, secondsFit}
-use Rattle.files.specs.Write.{countBytes, countNumbers, fileOf, fileSize, segmentBytes, tickNumbers}
+use Rattle.files.specs.Write.{countBytes, countNumbers, fileOf, fileSize, segmentBytes, expiryFlag, tickNanos, tickSecs}
 use Rattle.files.proofs.Asked.{WriteAsked}
 use Rattle.files.proofs.Fields.{FieldsBack, fields-back}
 use Rattle.files.proofs.Framing.{Fit, fit-none, fit-one, Small, contents-back}
-use Rattle.files.proofs.Low.{low, words-low, word-bytes-length, low-own, unmarked-length}
-use Rattle.files.proofs.Moved.{segments-length}
-
--- ---- lengths
-
-block-length : (kind : ℕ) (content : List ℕ) → length (block kind content) ≡ 6 + length content
-block-length kind content =
-    omega (arith, length-append (bytesOf 4 (length content)) (bytesOf 2 kind ++ content), length-append (bytesOf 2 kind) content, length-bytes 4 (length content), length-bytes 2 kind)
-
-fit-length : {ws ns : List ℕ} → Fit ws ns → length (bytesFor ws ns) ≡ sum ws
-unfolding bytesFor
-fit-length fit-none = refl
-fit-length (fit-one {w} {n} {ws} {ns} h r) = omega (arith, length-append (bytesOf w n) (bytesFor ws ns), length-bytes w n, fit-length r)
+use Rattle.files.proofs.Lengths as long
+use Rattle.files.proofs.Low.{low, words-low, low-own}
 
 -- two settings of the same parts
 same-setting : {e e′ : SegmentExpiry} {o o′ : ℕ} {p p′ : Bool} {b b′ : ℕ} → e ≡ e′ → o ≡ o′ → p ≡ p′ → b ≡ b′
@@ -69,7 +58,8 @@ module _ (s : FrozenSegmentCache) (index filter starts lengths arena out : List 
       records = counts-records _ _ _ _ (asked .counts)
 
       rest : Fit (1 ∷ 1 ∷ 1 ∷ 4 ∷ 8 ∷ 8 ∷ 8 ∷ [])
-          (s .config .«target_occupied_slots» ∷ cond (s .config .«packed_bucket_index») 1 0 ∷ s .config .«negative_filter_bits_per_entry» ∷ s .entries ∷ s .«logical_key_bytes» ∷ s .«logical_value_bytes» ∷ s .«record_header_bytes» ∷ [])
+          (s .config .«target_occupied_slots» ∷ cond (s .config .«packed_bucket_index») 1 0 ∷ s .config .«negative_filter_bits_per_entry» ∷ s .entries
+          ∷ s .«logical_key_bytes» ∷ s .«logical_value_bytes» ∷ s .«record_header_bytes» ∷ [])
       rest =
           fitted 1 (s .config .«target_occupied_slots») (omega (arith, o .1))
           (fitted 1 (cond (s .config .«packed_bucket_index») 1 0) (flag-small (s .config .«packed_bucket_index»))
@@ -81,9 +71,9 @@ module _ (s : FrozenSegmentCache) (index filter starts lengths arena out : List 
 
       go : (e : SegmentExpiry) → secondsFit e → nanosecondsFit e ≡ true
           → Fit widths
-          (tickNumbers e
-          ++ (s .config .«target_occupied_slots» ∷ cond (s .config .«packed_bucket_index») 1 0 ∷ s .config .«negative_filter_bits_per_entry» ∷ s .entries
-          ∷ s .«logical_key_bytes» ∷ s .«logical_value_bytes» ∷ s .«record_header_bytes» ∷ []))
+          (expiryFlag e ∷ tickSecs e ∷ tickNanos e
+          ∷ s .config .«target_occupied_slots» ∷ cond (s .config .«packed_bucket_index») 1 0 ∷ s .config .«negative_filter_bits_per_entry» ∷ s .entries
+          ∷ s .«logical_key_bytes» ∷ s .«logical_value_bytes» ∷ s .«record_header_bytes» ∷ [])
       go None t q = fitted 1 0 (omega arith) (fitted 8 0 (omega arith) (fitted 4 0 (omega arith) rest))
       go (Relative16 tick) t q = fitted 1 1 (omega arith) (fitted 8 (tick .secs) t (fitted 4 (tick .nanos) (omega (arith, ltb-true (tick .nanos) 1_000_000_000 q)) rest))
 
@@ -108,33 +98,28 @@ module _ (s : FrozenSegmentCache) (index filter starts lengths arena out : List 
   c5 = segmentBytes (s .segments) starts lengths arena
 
   pub one-long : length c1 ≡ 44
-  unfolding countBytes
-  one-long = fit-length fit
+  one-long = long.one-long s index filter starts lengths arena out asked
 
   pub two-words : length (take (s .segments) lengths) ≡ s .segments
-  two-words = length-take-le (s .segments) lengths (omega (arith, asked .few-segments, asked .lengths-hold))
+  two-words = long.two-words s index filter starts lengths arena out asked
 
   pub two-long : length c2 ≡ 8 * s .segments
-  two-long = word-bytes-length (take (s .segments) lengths) ∙ ap (λ (n : ℕ). 8 * n) two-words
-
-  three-taken : length (take (8 * s .buckets) index) ≡ 8 * s .buckets
-  three-taken = length-take-le (8 * s .buckets) index (asked .index-holds)
+  two-long = long.two-long s index filter starts lengths arena out asked
 
   three-words : length words3 ≡ 8 * s .buckets
-  three-words = unmarked-length packed (s .buckets) (take (8 * s .buckets) index) (omega (arith, three-taken)) ∙ three-taken
+  three-words = long.three-words s index filter starts lengths arena out asked
 
   pub three-long : length c3 ≡ 64 * s .buckets
-  three-long = omega (arith, word-bytes-length words3, three-words)
+  three-long = long.three-long s index filter starts lengths arena out asked
 
   four-words : length (take (s .«filter_words») filter) ≡ s .«filter_words»
-  four-words = length-take-le (s .«filter_words») filter (asked .filter-holds)
+  four-words = long.four-words s index filter starts lengths arena out asked
 
   pub four-long : length c4 ≡ 8 * s .«filter_words»
-  four-long = word-bytes-length (take (s .«filter_words») filter) ∙ ap (λ (n : ℕ). 8 * n) four-words
+  four-long = long.four-long s index filter starts lengths arena out asked
 
   pub five-long : length c5 ≡ sumOf (s .segments) lengths
-  five-long =
-      segments-length starts lengths arena (s .segments) (omega (arith, asked .few-segments, asked .lengths-hold)) (λ g h. omega (arith, asked .inside g h, asked .filled-held))
+  five-long = long.five-long s index filter starts lengths arena out asked
 
   pub small : Small c1 c2 c3 c4 c5
   small =
@@ -156,25 +141,7 @@ module _ (s : FrozenSegmentCache) (index filter starts lengths arena out : List 
   file-flat = rw (append-nil (block 5 c5))
 
   pub file-long : length file ≡ fileSize s lengths
-  unfolding fileOf
-  file-long =
-      omega (
-        arith,
-        length-append (block 1 c1) (block 2 c2 ++ (block 3 c3 ++ (block 4 c4 ++ block 5 c5))),
-        length-append (block 2 c2) (block 3 c3 ++ (block 4 c4 ++ block 5 c5)),
-        length-append (block 3 c3) (block 4 c4 ++ block 5 c5),
-        length-append (block 4 c4) (block 5 c5),
-        block-length 1 c1,
-        block-length 2 c2,
-        block-length 3 c3,
-        block-length 4 c4,
-        block-length 5 c5,
-        one-long,
-        two-long,
-        three-long,
-        four-long,
-        five-long,
-      )
+  file-long = long.file-long s index filter starts lengths arena out asked
 
   pub contents : (contentOf 0 file ≡ c1) × (contentOf 1 file ≡ c2) × (contentOf 2 file ≡ c3) × (contentOf 3 file ≡ c4) × (contentOf 4 file ≡ c5)
   contents = rw file-flat (contents-back c1 c2 c3 c4 c5 small)

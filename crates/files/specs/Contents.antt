@@ -1,4 +1,4 @@
--- What the blocks of a file hold, and question 15. Document 02, Change 2.
+-- What the blocks of a file hold, and what 15 asks. Document 02, Change 2.
 -- Assumes nothing.
 use mathlib.Core.Bool.{Bool, true, false, cond}
 use mathlib.Core.List.{List, [], _∷_, _++_, map}

@@ -1,4 +1,4 @@
--- Words of which some bits are cleared.
+-- Words of which some bits are cleared; only private functions cite it.
 -- Assumes nothing.
 use Prim.Native.Nat.{ℕ}
 use lib.Bits.{bitAnd}

@@ -4,3 +4,4 @@ pub mod Load
 pub mod Write
 pub mod Typed
 pub mod Copies
+pub mod Plan

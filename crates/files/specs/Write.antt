@@ -5,6 +5,7 @@ use mathlib.Core.List.{List, [], _∷_, _++_, flatMap}
 use Prim.Native.Nat.{ℕ, _+_, _*_}
 use lib.Dec.{leb}
 use lib.ListN.{length, take, getD}
+use Rattle.hash_parts.specs.Error.{errorNumber}
 use Rattle.hash_parts.specs.declared.setting.SegmentExpiry.{SegmentExpiry}
 use Rattle.hash_parts.specs.declared.setting.SegmentExpiry.the-variants.{None, Relative16}
 use Rattle.records.specs.Area.{over, part}
@@ -13,22 +14,34 @@ use Rattle.index.specs.Walk.{upFrom}
 use Rattle.sets.specs.Answers.{Reply, accept, refuse}
 use Rattle.sets.specs.Lookup.{areasHoldLookup}
 use Rattle.sets.specs.Questions.{decided, firstNo, mostArenaBytes}
-use Rattle.sets.specs.Rebuild.{segmentsInside, sumOf}
+use Rattle.sets.specs.Rebuild.{areasHoldSource, segmentsInside, sumOf}
 use Rattle.sets.specs.declared.cache.FrozenSegmentCache.{FrozenSegmentCache}
 use Rattle.files.specs.Blocks.{block}
 use Rattle.files.specs.Contents.{bytesFor, unmarkedIndex, widths}
+use Rattle.files.specs.declared.write.FileSizeAnswer.{FileSizeAnswer}
+use Rattle.files.specs.declared.write.FileSizeAnswer.the-variants as sizes
+use Rattle.files.specs.declared.write.WriteFileAnswer.{WriteFileAnswer}
+use Rattle.files.specs.declared.write.WriteFileAnswer.the-variants as writes
 
 -- "with expiry off both tick fields are zero"
-abbrev pub tickNumbers : SegmentExpiry → List ℕ
-tickNumbers None = 0 ∷ 0 ∷ 0 ∷ []
-tickNumbers (Relative16 tick) = 1 ∷ tick .secs ∷ tick .nanos ∷ []
+abbrev pub expiryFlag : SegmentExpiry → ℕ
+expiryFlag None = 0
+expiryFlag (Relative16 tick) = 1
+
+abbrev pub tickSecs : SegmentExpiry → ℕ
+tickSecs None = 0
+tickSecs (Relative16 tick) = tick .secs
+
+abbrev pub tickNanos : SegmentExpiry → ℕ
+tickNanos None = 0
+tickNanos (Relative16 tick) = tick .nanos
 
 -- the numbers of kind 1
 unfoldable pub countNumbers : FrozenSegmentCache → List ℕ
 countNumbers s =
-    tickNumbers (s .config .expiry)
-    ++ (s .config .«target_occupied_slots» ∷ cond (s .config .«packed_bucket_index») 1 0 ∷ s .config .«negative_filter_bits_per_entry» ∷ s .entries
-    ∷ s .«logical_key_bytes» ∷ s .«logical_value_bytes» ∷ s .«record_header_bytes» ∷ [])
+    expiryFlag (s .config .expiry) ∷ tickSecs (s .config .expiry) ∷ tickNanos (s .config .expiry)
+    ∷ s .config .«target_occupied_slots» ∷ cond (s .config .«packed_bucket_index») 1 0 ∷ s .config .«negative_filter_bits_per_entry» ∷ s .entries
+    ∷ s .«logical_key_bytes» ∷ s .«logical_value_bytes» ∷ s .«record_header_bytes» ∷ []
 
 unfoldable pub countBytes : FrozenSegmentCache → List ℕ
 countBytes s = bytesFor widths (countNumbers s)
@@ -68,3 +81,28 @@ afterWrite s index filter starts lengths arena file =
     decided (firstNo (askWrite s (length index) (length filter) starts lengths (length arena) (length file)))
     (record { answer = accept (fileSize s lengths); file = over (fileOf s index filter starts lengths arena) file })
     (λ n. record { answer = refuse n tt; file = file })
+
+-- ---- how many bytes a set takes as a file
+
+-- the writer's 11, as far as it goes without the other areas: in an arena of the filled bytes
+unfoldable pub askSize : FrozenSegmentCache → List ℕ → List ℕ → List (Bool × ℕ)
+askSize s starts lengths =
+    (areasHoldSource s starts lengths (s .filled), 11)
+    ∷ (leb (sumOf (s .segments) lengths) mostArenaBytes, 11)
+    ∷ []
+
+unfoldable pub sizeAnswer : FrozenSegmentCache → List ℕ → List ℕ → Reply ℕ (Unit {0})
+sizeAnswer s starts lengths = decided (firstNo (askSize s starts lengths)) (accept (fileSize s lengths)) (λ n. refuse n tt)
+
+-- ---- answers
+
+abbrev pub sizeReply : FileSizeAnswer → Reply ℕ (Unit {0})
+sizeReply (sizes.Bytes n) = accept n
+sizeReply (sizes.Refused e) = refuse (errorNumber e) tt
+
+abbrev pub writeReply : WriteFileAnswer → Reply ℕ (Unit {0})
+writeReply (writes.Written n) = accept n
+writeReply (writes.Refused e) = refuse (errorNumber e) tt
+
+abbrev pub writeResult : WriteFileAnswer → List ℕ → FileWritten
+writeResult r file = record { answer = writeReply r; file = file }

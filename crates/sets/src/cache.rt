@@ -314,7 +314,7 @@ impl FrozenSegmentCache {
     }
 
     // Question 1: the state's own numbers.
-    pub(crate) fn fits(self) -> bool
+    pub fn fits(self) -> bool
         ensures { λ r. ⌜ r ≡ setFits self ⌝ }
     {
         if !counts_fit(self.config, self.entries, self.buckets, self.filter_words) {
