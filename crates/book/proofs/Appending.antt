@@ -37,7 +37,7 @@ module _ (H : List ℕ → ℕ) where
   -- a record is appended; it lies past the bytes of every set
   pub appended : (w : World) (k : Book) → Holds H w k → (at : ℕ) (bytes key value : List ℕ) (deadline : ℕ) → at ≡ length (k .tape) → bytes ≡ recordBytes (k .expiry) key value deadline
       → at + length bytes ≤ length (w .arena) → (c : Current) → CurrentHolds H (length (pasted at bytes (w .arena))) (joined k key value deadline) c
-      → Holds H (record { arena = pasted at bytes (w .arena); current = c; sets = w .sets }) (joined k key value deadline)
+      → Holds H (record { arena = pasted at bytes (w .arena); current = c; sets = w .sets; files = w .files }) (joined k key value deadline)
   appended w k m at bytes key value deadline place content fits c ok =
       record {
         memory = rw (place, ← content) (appended-memory (w .arena) (k .tape) bytes (m .memory) (omega arith));
@@ -48,6 +48,7 @@ module _ (H : List ℕ → ℕ) where
             (λ s l. set-arena H (k .expiry) (w .arena) (pasted at bytes (w .arena)) top top s l (take-pasted at top bytes (w .arena) (omega (arith, m .top)) (omega arith))
             (pasted-length at bytes (w .arena) fits) (omega arith))
             (m .sets);
+        files = m .files;
       }
     where
       top : ℕ
@@ -56,13 +57,14 @@ module _ (H : List ℕ → ℕ) where
   -- a set joins the others, the newest then
   pub joins : (w : World) (k : Book) → Holds H w k → (s : FinishedSet) (starts : List ℕ)
       → SetHolds H (k .expiry) (w .arena) (length (k .tape)) s record { list = k .list; starts = starts; filled = length (k .tape) }
-      → Holds H (record { arena = w .arena; current = idle; sets = w .sets ++ (s ∷ []) }) (closed k starts)
+      → Holds H (record { arena = w .arena; current = idle; sets = w .sets ++ (s ∷ []); files = w .files }) (closed k starts)
   joins w k m s starts ok =
       record {
         memory = m .memory;
         top = omega (arith, newer);
         current = is-idle;
         sets = rw newer (pairs-snoc (Forall₂·imp (λ d l. set-arena H (k .expiry) (w .arena) (w .arena) (filledIn (newest (k .sets))) (length (k .tape)) d l refl refl (m .top)) (m .sets)) ok);
+        files = m .files;
       }
     where
       newer : filledIn (newest (closed k starts .sets)) ≡ length (k .tape)

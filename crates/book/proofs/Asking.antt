@@ -15,11 +15,11 @@ use Rattle.records.specs.Area.{part, spanned}
 use Rattle.records.specs.Record.{Stored, contents}
 use Rattle.records.specs.declared.record.RecordAnswer.the-variants.{Read}
 use Rattle.index.specs.Find.{findIn}
-use Rattle.index.proofs.Contents.{storedIn}
 use Rattle.index.specs.declared.find.FindAnswer.{FindAnswer}
 use Rattle.index.specs.declared.find.FindAnswer.the-variants as find
 use Rattle.index.specs.declared.find.FoundRecord.{FoundRecord}
 use Rattle.index.specs.declared.view.SegmentView.{SegmentView}
+use Rattle.index.proofs.Contents.{storedIn}
 use Rattle.index.proofs.Entries.{Indexed, keyed, reheld}
 use Rattle.index.proofs.Flat.{indexSlots}
 use Rattle.index.proofs.FoundSlots.{find-slot, find-word}
@@ -30,6 +30,7 @@ use Rattle.sets.specs.Answers.{accept}
 use Rattle.sets.specs.Lookup.{areasHoldLookup, viewOf, findOf, slotMarked, slotCleared, liveValue, liveMarked, Got, gotten, afterGet, takenOf, afterTake}
 use Rattle.sets.proofs.Closure.{set-index-holds, get-asks, take-asks, get-passes, take-passes}
 use Rattle.sets.proofs.ReadInside.{read-inside}
+use Rattle.files.proofs.SmallWords.{SmallIf, small-marked, small-cleared}
 use Rattle.book.specs.Book.{Entry, ListedSet, firstOf, ruled}
 use Rattle.book.specs.Calls.{value, nothing}
 use Rattle.book.specs.World.{FinishedSet, withIndex, answerOf}
@@ -122,10 +123,24 @@ module _ (H : List ℕ → ℕ) (x : SegmentExpiry) (arena : List ℕ) (top : �
       (λ m e. storedIn (viewOf (s .cache)) arena (s .areas .starts) (s .areas .lengths) m ≡ some (storedOf e))
       (s .cache .buckets) (indexSlots (s .cache .config .«packed_bucket_index») (s .cache .buckets) index)
       (s .areas .filter) (s .cache .«filter_words») (l .list)
-      → SetHolds H x arena top (withIndex s index) l
-  reindexed index passes i = record { expiry = ok .expiry; low = ok .low; filled = ok .filled; starts = ok .starts; passes = passes; index = i }
+      → SmallIf (s .cache .config .«packed_bucket_index») (s .cache .buckets) index → SetHolds H x arena top (withIndex s index) l
+  reindexed index passes i small =
+      record {
+        typed = ok .typed;
+        expiry = ok .expiry;
+        segments = ok .segments;
+        small = small;
+        low = ok .low;
+        filled = ok .filled;
+        starts = ok .starts;
+        passes = passes;
+        index = i;
+      }
 
   module _ (key : List ℕ) (h : ℕ) (bound : h < 2 ^ 64) where
+    abbrev Small : List ℕ → Type 0
+    Small index = SmallIf (s .cache .config .«packed_bucket_index») (s .cache .buckets) index
+
     abbrev Same : List ℕ → Type 0
     Same index =
         Indexed storedOf H (s .cache .config .«packed_bucket_index»)
@@ -138,7 +153,16 @@ module _ (H : List ℕ → ℕ) (x : SegmentExpiry) (arena : List ℕ) (top : �
     set-got tick =
         reindexed _ (get-passes (s .cache) h key (s .areas .index) (s .areas .filter) (s .areas .starts) (s .areas .lengths) arena tick ∙ ok .passes)
         (rw (get-asks (s .cache) h key (s .areas .index) (s .areas .filter) (s .areas .starts) (s .areas .lengths) arena (ok .passes) tick) (go (foundIn arena s key h) refl))
+        (rw (get-asks (s .cache) h key (s .areas .index) (s .areas .filter) (s .areas .starts) (s .areas .lengths) arena (ok .passes) tick) (still (foundIn arena s key h)))
       where
+        still-live : (y : FoundRecord) (b : Bool) → Small (cond b (slotMarked (s .cache .config .«packed_bucket_index») (s .areas .index) (y .slot)) (s .areas .index))
+        still-live y true = small-marked (s .cache .config .«packed_bucket_index») (s .cache .buckets) (s .areas .index) (y .slot) (ok .small)
+        still-live y false = ok .small
+
+        still : (a : FindAnswer) → Small (gotten tick (s .cache .config .«packed_bucket_index») (s .areas .index) a .index)
+        still find.Nothing = ok .small
+        still (find.Found y) = still-live y (livesAt (y .entry .«expires_at») tick)
+
         live : (y : FoundRecord) → foundIn arena s key h ≡ find.Found y → (b : Bool)
             → Same (cond b (slotMarked (s .cache .config .«packed_bucket_index») (s .areas .index) (y .slot)) (s .areas .index))
         live y f true =
@@ -154,7 +178,12 @@ module _ (H : List ℕ → ℕ) (x : SegmentExpiry) (arena : List ℕ) (top : �
     set-taken =
         reindexed _ (take-passes (s .cache) h key (s .areas .index) (s .areas .filter) (s .areas .starts) (s .areas .lengths) arena ∙ ok .passes)
         (rw (take-asks (s .cache) h key (s .areas .index) (s .areas .filter) (s .areas .starts) (s .areas .lengths) arena (ok .passes)) (go (foundIn arena s key h) refl))
+        (rw (take-asks (s .cache) h key (s .areas .index) (s .areas .filter) (s .areas .starts) (s .areas .lengths) arena (ok .passes)) (still (foundIn arena s key h)))
       where
+        still : (a : FindAnswer) → Small (takenOf (s .cache .config .«packed_bucket_index») (s .areas .index) a .index)
+        still find.Nothing = ok .small
+        still (find.Found y) = small-cleared (s .cache .config .«packed_bucket_index») (s .cache .buckets) (s .areas .index) (y .slot) (ok .small)
+
         go : (a : FindAnswer) → foundIn arena s key h ≡ a → Same (takenOf (s .cache .config .«packed_bucket_index») (s .areas .index) a .index)
         go find.Nothing f = ok .index
         go (find.Found y) f =
@@ -168,6 +197,9 @@ pub set-arena : (H : List ℕ → ℕ) (x : SegmentExpiry) (arena arena′ : Lis
     → take top arena′ ≡ take top arena → length arena′ ≡ length arena → top ≤ top′ → SetHolds H x arena top s l → SetHolds H x arena′ top′ s l
 set-arena H x arena arena′ top top′ s l same size more ok =
     record {
+      typed = ok .typed;
+      segments = ok .segments;
+      small = ok .small;
       expiry = ok .expiry;
       low = omega (arith, ok .low);
       filled = ok .filled;

@@ -57,6 +57,8 @@ module _ (H : List ℕ → ℕ) where
   unfolding displacedMarked
   rebuild-copy r a arena k ok key value h slot deadline size after hash bound found back size-of short room passes =
       record {
+        typed = ok .typed;
+        sums = ok .sums;
         expiry = ok .expiry;
         base = ok .base;
         filled = omega (arith, ok .filled, size-of, length-append (k .tape) new);

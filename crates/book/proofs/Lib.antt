@@ -4,9 +4,13 @@ pub mod Closing
 pub mod Consequences
 pub mod Copying
 pub mod Cutting
+pub mod FileConsequences
+pub mod FileTrial
 pub mod Finishing
 pub mod Hashing
 pub mod Keys
+pub mod Loading
+pub mod Loads
 pub mod Making
 pub mod Pairs
 pub mod Pushing

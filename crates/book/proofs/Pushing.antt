@@ -62,6 +62,7 @@ module _ (H : List ℕ → ℕ) where
   unfolding displacedMarked
   builder-push b a arena k ok key value h slot deadline size after hash bound found back size-of short passes =
       record {
+        typed = ok .typed;
         expiry = ok .expiry;
         filled = omega (arith, ok .filled, size-of, length-append (k .tape) new);
         passes = passes;

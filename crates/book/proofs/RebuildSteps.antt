@@ -16,14 +16,17 @@ use Rattle.records.proofs.Parts.{size-is}
 use Rattle.sets.specs.Lookup.{areasHoldLookup}
 use Rattle.sets.specs.Answers.{accept, RebuildPlaced}
 use Rattle.sets.specs.Rebuild.{RebuildOpened, Reused, Copied, RebuildFinished}
+use Rattle.sets.specs.Rebuild.{segmentsInside}
 use Rattle.sets.specs.declared.rebuild.SegmentRecordLocation.{SegmentRecordLocation}
 use Rattle.sets.specs.declared.rebuild.SharedSegmentCacheBuild.{SharedSegmentCacheBuild}
 use Rattle.sets.specs.declared.rebuild.SharedSegmentCacheBuilder.{SharedSegmentCacheBuilder}
-use Rattle.sets.proofs.RebuildAccepted.{ReopenCase, reopen-made, reopen-refused, reopen-case, ReusedCase, reused-made, reused-refused, reused-case, CopiedCase, copied-made, copied-refused, copied-case, RefinishCase, refinish-made, refinish-refused, refinish-case}
-use Rattle.sets.proofs.RebuildClosure.{rebuildPasses, rebuild-filter-holds, reopen-passes, reused-passes, copied-passes, refinish-passes}
+use Rattle.sets.proofs.RebuildAccepted.{ReopenCase, reopen-made, reopen-refused, reopen-case, ReusedCase, reused-made, reused-refused, reused-case, CopiedCase, copied-made, copied-refused}
+use Rattle.sets.proofs.RebuildAccepted.{copied-case, RefinishCase, refinish-made, refinish-refused, refinish-case}
+use Rattle.sets.proofs.RebuildClosure.{rebuildPasses, rebuild-filter-holds, reopen-passes, reused-passes, copied-passes, refinish-passes, refinish-inside}
 use Rattle.book.specs.Book.{ListedSet, Book, startsIn, filledIn, rebuiltStarts, placeOf, joined, closed, reopened, rejoined, heard}
 use Rattle.book.specs.Calls.{reopen, reuse, copy, refinish, newest}
-use Rattle.book.specs.World.{Current, idle, building, rebuilding, FinishedSet, World, isAccepted, reopenLeaves, reopenStep, reuseLeaves, reuseStep, copyLeaves, copyStep, refinishLeaves, refinishStep}
+use Rattle.book.specs.World.{Current, idle, building, rebuilding, FinishedSet, World, isAccepted, reopenLeaves, reopenStep, reuseLeaves, reuseStep, copyLeaves, copyStep, refinishLeaves}
+use Rattle.book.specs.World.{refinishStep}
 use Rattle.book.proofs.Appending.{appended, joins}
 use Rattle.book.proofs.Copying.{rebuild-copy}
 use Rattle.book.proofs.Pairs.{Both, both-none, both-some, pairs-newest}
@@ -57,7 +60,7 @@ module _ (H : List ℕ → ℕ) where
         go : {o : RebuildOpened} → ReopenCase (s .cache) (s .areas .starts) (s .areas .lengths) (w .arena) records copied flags tick index filter starts lengths o
             → ((r : SharedSegmentCacheBuilder) → o .answer ≡ accept r → rebuildPasses r (length (o .index)) (length (o .filter)) (o .starts) (o .lengths) (length (w .arena)) ≡ true)
             → Holds H (reopenLeaves w o .after) (cond (isAccepted (o .answer)) (reopened k flags tick) k)
-        go (reopen-refused n) passes = record { memory = m .memory; top = m .top; current = m .current; sets = m .sets }
+        go (reopen-refused n) passes = record { memory = m .memory; top = m .top; current = m .current; sets = m .sets; files = m .files }
         go (reopen-made asked) passes =
             record {
               memory = cut-memory;
@@ -66,6 +69,7 @@ module _ (H : List ℕ → ℕ) where
                   is-rebuilding
                   (rebuild-open H s l k (w .arena) top ok f (omega (arith, m .top, ap filledIn f)) records copied flags tick index filter starts lengths asked (passes _ refl));
               sets = m .sets;
+              files = m .files;
             }
 
     pub reopen-holds : Holds H (reopenStep w (newest (w .sets)) records copied flags tick index filter starts lengths .after)
@@ -85,13 +89,14 @@ module _ (H : List ℕ → ℕ) where
       go : {p : Reused} → ReusedCase r h key value source (a .index) (a .filter) (a .starts) (a .lengths) (w .arena) p
           → ((q : RebuildPlaced) → p .answer ≡ accept q → rebuildPasses (q .builder) (length (p .index)) (length (p .filter)) (a .starts) (a .lengths) (length (w .arena)) ≡ true)
           → Holds H (reuseLeaves w a p .after) (cond (isAccepted (p .answer)) (rejoined k key value (placeOf (startsIn (newest (k .sets))) (source .location))) k)
-      go (reused-refused n) passes = record { memory = m .memory; top = m .top; current = is-rebuilding ok; sets = m .sets }
+      go (reused-refused n) passes = record { memory = m .memory; top = m .top; current = is-rebuilding ok; sets = m .sets; files = m .files }
       go (reused-made asked) passes =
           record {
             memory = m .memory;
             top = m .top;
             current = is-rebuilding (rebuild-reuse H r a (w .arena) k ok (m .memory) key value h source hash bound asked (passes _ refl));
             sets = m .sets;
+            files = m .files;
           }
 
   -- ---- copied push
@@ -131,7 +136,7 @@ module _ (H : List ℕ → ℕ) where
       go : {p : Copied} → CopiedCase r h key value ttl (a .index) (a .filter) (a .starts) (a .lengths) (w .arena) p
           → ((q : RebuildPlaced) → p .answer ≡ accept q → rebuildPasses (q .builder) (length (p .index)) (length (p .filter)) (a .starts) (a .lengths) (length (p .arena)) ≡ true)
           → Holds H (copyLeaves w a p .after) (cond (isAccepted (p .answer)) (joined k key value d) k)
-      go (copied-refused n) passes = record { memory = m .memory; top = m .top; current = is-rebuilding ok; sets = m .sets }
+      go (copied-refused n) passes = record { memory = m .memory; top = m .top; current = is-rebuilding ok; sets = m .sets; files = m .files }
       go (copied-made asked) passes =
           let number : encodedExpiry x ttl (k .tick) .number ≡ 0 = rw (← ok .expiry, ← ok .tick) (asked .deadline) in
           let small : recordSize x (length key) (length value) ≤ 1_073_741_824 =
@@ -151,10 +156,12 @@ module _ (H : List ℕ → ℕ) where
   refinish-holds w k m (rebuilding r a) (is-rebuilding ok) scratch =
       go (refinish-case r (a .index) (a .starts) (a .lengths) scratch (w .arena))
       (λ b e. refinish-passes r (a .index) (a .starts) (a .lengths) scratch (w .arena) b e (length (a .filter)) (rebuild-filter-holds r _ _ _ _ _ (ok .passes)))
+      (refinish-inside r (a .index) (a .starts) (a .lengths) scratch (w .arena))
     where
       go : {f : RebuildFinished} → RefinishCase r (a .index) (a .starts) (a .lengths) scratch (w .arena) f
           → ((b : SharedSegmentCacheBuild) → f .answer ≡ accept b → areasHoldLookup (b .cache) (length (f .index)) (length (a .filter)) (length (f .starts)) (length (f .lengths))
           (length (w .arena)) ≡ true)
+          → ((b : SharedSegmentCacheBuild) → f .answer ≡ accept b → segmentsInside (b .cache .segments) (b .cache .filled) (f .starts) (f .lengths) ≡ true)
           → Holds H (refinishLeaves w a f .after) (cond (isAccepted (f .answer)) (closed k (rebuiltStarts (k .kept) (filledIn (newest (k .sets))) (length (k .tape)))) k)
-      go (refinish-refused n) passes = record { memory = m .memory; top = m .top; current = is-rebuilding ok; sets = m .sets }
-      go (refinish-made asked) passes = joins H w k m _ _ (rebuild-finish H r a (w .arena) scratch k ok (m .memory) asked (passes _ refl))
+      go (refinish-refused n) passes inside = record { memory = m .memory; top = m .top; current = is-rebuilding ok; sets = m .sets; files = m .files }
+      go (refinish-made asked) passes inside = joins H w k m _ _ (rebuild-finish H r a (w .arena) scratch k ok (m .memory) asked (passes _ refl) (inside _ refl))

@@ -5,7 +5,7 @@ use mathlib.Core.Bool.{Bool, true, false, cond}
 use mathlib.Core.List.{List, [], _∷_, _++_}
 use mathlib.Core.Logic.{_≢_}
 use mathlib.Core.Option.{some}
-use Prim.Native.Nat.{ℕ, suc, _+_, _-_, _*_, _/_, _%_, _^_, _≤_, _<_}
+use Prim.Native.Nat.{ℕ, zero, suc, _+_, _-_, _*_, _/_, _%_, _^_, _≤_, _<_}
 use native.Mathlib.Omega.{arith}
 use lib.Dec.{eqb, ltb}
 use lib.ListN.{length, take, set, getD, length-set}
@@ -14,16 +14,18 @@ use borrow.Author.Tests.{eq-eqb, eqb-true, eqb-false, ne-eqb, lt-ltb, le-ltb}
 use Rattle.records.specs.Area.{part}
 use Rattle.records.specs.Record.{storedAt}
 use Rattle.index.specs.View.{isSegment}
-use Rattle.index.proofs.Contents.{storedIn}
 use Rattle.index.specs.declared.view.SegmentView.{SegmentView}
+use Rattle.index.proofs.Contents.{storedIn}
 use Rattle.index.proofs.Entries.{reheld}
 use Rattle.index.proofs.Table.{true≢false}
 use Rattle.sets.specs.Kept.{retained}
 use Rattle.sets.specs.Lookup.{areasHoldLookup, viewOf}
 use Rattle.sets.specs.Questions.{scratchHolds}
-use Rattle.sets.specs.Rebuild.{addsSegment, rebuiltSet, withLast, rebuildFinishMade, segmentFor}
+use Rattle.sets.specs.Rebuild.{addsSegment, rebuiltSet, withLast, rebuildFinishMade, segmentFor, segmentsInside, sumOf}
 use Rattle.sets.specs.declared.rebuild.SharedSegmentCacheBuilder.{SharedSegmentCacheBuilder}
 use Rattle.sets.proofs.RebuildAsked.{RefinishAsked}
+use Rattle.sets.proofs.RebuildSteps.{sum-more}
+use Rattle.files.proofs.SmallWords.{small-laid}
 use Rattle.book.specs.Book.{Entry, Book, filledIn, rebuiltStarts}
 use Rattle.book.specs.Calls.{newest}
 use Rattle.book.specs.World.{Areas}
@@ -111,11 +113,20 @@ module _ (view : SegmentView) (tape arena starts lengths S L : List ℕ) (base n
 
 -- ---- the rebuilt set
 
+-- the words before the last are as they were
+sum-set : (l : List ℕ) (m n v : ℕ) → m ≤ n → sumOf m (set l n v) ≡ sumOf m l
+unfolding sumOf
+sum-set l zero n v h = refl
+sum-set l (suc m) n v h =
+    let other : m ≢ n = omega arith in
+    ap₂ (λ (x y : ℕ). x + y) (sum-set l m n v (omega arith)) (getD-set-other l n m v 0 other)
+
 module _ (H : List ℕ → ℕ) where
   pub rebuild-finish : (r : SharedSegmentCacheBuilder) (a : Areas) (arena scratch : List ℕ) (k : Book) → RebuildHolds H r a (length arena) k → take (length (k .tape)) arena ≡ k .tape
       → RefinishAsked r (length (a .index)) (a .starts) (a .lengths) (length scratch) (length arena)
       → areasHoldLookup (rebuiltSet r (a .lengths)) (length (rebuildFinishMade r (a .index) (a .starts) (a .lengths) scratch .index)) (length (a .filter))
       (length (withLast r (a .starts) (r .«source_filled»))) (length (withLast r (a .lengths) (r .«copied_bytes»))) (length arena) ≡ true
+      → segmentsInside (rebuiltSet r (a .lengths) .segments) (rebuiltSet r (a .lengths) .filled) (withLast r (a .starts) (r .«source_filled»)) (withLast r (a .lengths) (r .«copied_bytes»)) ≡ true
       → SetHolds H (k .expiry) arena (length (k .tape))
       record {
         cache = rebuiltSet r (a .lengths);
@@ -129,13 +140,16 @@ module _ (H : List ℕ → ℕ) where
       }
       record { list = k .list; starts = rebuiltStarts (k .kept) (filledIn (newest (k .sets))) (length (k .tape)); filled = length (k .tape) }
   unfolding scratchHolds addsSegment
-  rebuild-finish r a arena scratch k ok memory asked passes =
+  rebuild-finish r a arena scratch k ok memory asked passes inside =
       record {
+        typed = ok .typed;
+        segments = record { inside = inside; bytes = sym (total (addsSegment r) refl); sums = omega (arith, total (addsSegment r) refl, ok .sums) };
         expiry = ok .expiry;
         low = omega (arith, ok .filled);
         filled = ok .filled;
         starts = starts-are (addsSegment r) refl ∙ sym listed;
         passes = passes;
+        small = small-laid (r .config .«packed_bucket_index») (r .«bucket_count») (a .index) scratch (asked .areas .index-holds) (asked .scratch-holds);
         index =
             laid-out (r .config .«packed_bucket_index») (r .«bucket_count») (a .index) scratch (asked .scratch-holds)
             (reheld (λ l e h. rests-read view (k .tape) arena (a .starts) (a .lengths) (S (addsSegment r)) (L (addsSegment r)) base n bytes small (wide (addsSegment r) refl)
@@ -178,6 +192,15 @@ module _ (H : List ℕ → ℕ) where
         omega (arith, few true q, asked .areas .lengths-hold, length-set (a .lengths) n copied),
       )
       wide false q = (omega (arith, few false q, asked .areas .starts-hold), omega (arith, few false q, asked .areas .lengths-hold))
+
+      total : (t : Bool) → addsSegment r ≡ t → sumOf (N t) (L t) ≡ sumOf n (a .lengths) + copied
+      total true q =
+          sum-more n (set (a .lengths) n copied)
+          ∙ ap₂ (λ (x y : ℕ). x + y) (sum-set (a .lengths) n n copied (omega arith)) (getD-set-same (a .lengths) n copied 0 (omega (arith, few true q, asked .areas .lengths-hold)))
+      total false q =
+          let none : copied ≡ 0 = adds-none n copied q in
+          let plus : n + 0 ≡ n = omega arith in
+          ap (λ (i : ℕ). sumOf i (a .lengths)) plus ∙ omega (arith, none)
 
       olds : (t : Bool) (g : ℕ) → g < n → (g < N t) × (getD (S t) g 0 ≡ getD (a .starts) g 0) × (getD (L t) g 0 ≡ getD (a .lengths) g 0)
       olds true g h =

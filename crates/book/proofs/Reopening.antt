@@ -1,9 +1,9 @@
 -- An accepted rebuild open: the rebuild stands for an empty list, and its kept segments are those of the newest set. Assumes nothing.
 use mathlib.Core.Path.{_≡_, refl, sym, ap, _∙_}
-use mathlib.Core.Bool.{true, cond, not}
+use mathlib.Core.Bool.{Bool, true, false, cond, not}
 use mathlib.Core.List.{List, [], _∷_}
 use mathlib.Core.Option.{some}
-use Prim.Native.Nat.{ℕ, zero, suc, _*_, _≤_, _<_}
+use Prim.Native.Nat.{ℕ, zero, suc, _+_, _*_, _≤_, _<_}
 use native.Mathlib.Omega.{arith}
 use lib.Dec.{eqb}
 use lib.ListN.{length, take, getD}
@@ -14,12 +14,14 @@ use Rattle.index.specs.Segments.{padded}
 use Rattle.index.proofs.Filling.{filled-back}
 use Rattle.index.proofs.Kept.{cleared-indexed}
 use Rattle.index.proofs.Table.{true≢false}
-use Rattle.sets.specs.Kept.{chosen, isKept, keptCount, keptOf, newNumber}
+use Rattle.sets.specs.Kept.{chosen, isKept, keptCount, keptOf, newNumber, retained}
 use Rattle.sets.specs.Questions.{bucketsIn, filterWordsIn}
-use Rattle.sets.specs.Rebuild.{rebuildOpened}
+use Rattle.sets.specs.Rebuild.{rebuildOpened, sumOf}
 use Rattle.sets.proofs.KeptBits.{chosen-length, chosen-at, is-kept-flag, number-below, number-kept, retained-kept}
 use Rattle.sets.proofs.RebuildAsked.{ReopenAsked}
 use Rattle.sets.proofs.RebuildClosure.{rebuildPasses}
+use Rattle.files.specs.Contents.{sum}
+use Rattle.files.proofs.Moved.{sum-filled, sum-taken}
 use Rattle.book.specs.Book.{ListedSet, Book, startsIn, filledIn, keptBy, reopened}
 use Rattle.book.specs.Calls.{newest}
 use Rattle.book.specs.World.{FinishedSet}
@@ -48,6 +50,17 @@ flag-inside [] g e = absurd (true≢false (sym e))
 flag-inside (f ∷ flags) zero e = omega arith
 flag-inside (f ∷ flags) (suc g) e = omega (arith, flag-inside flags g e)
 
+-- what is chosen adds up to no more than what it is chosen from
+chosen-sum : (flags words : List ℕ) → sum (chosen flags words) ≤ sum (take (length flags) words)
+unfolding chosen
+chosen-sum [] words = omega arith
+chosen-sum (f ∷ flags) [] = omega arith
+chosen-sum (f ∷ flags) (w ∷ words) = go (eqb f 0) (chosen-sum flags words)
+  where
+    go : (b : Bool) → sum (chosen flags words) ≤ sum (take (length flags) words) → sum (cond b (chosen flags words) (w ∷ chosen flags words)) ≤ w + sum (take (length flags) words)
+    go true h = omega arith
+    go false h = omega arith
+
 module _ (H : List ℕ → ℕ) where
   pub rebuild-open : (s : FinishedSet) (l : ListedSet) (k : Book) (arena : List ℕ) (top : ℕ) → SetHolds H (k .expiry) arena top s l → newest (k .sets) ≡ some l → l .filled ≤ length (k .tape)
       → (records copied : ℕ) (flags : List ℕ) (tick : ℕ) (index filter starts lengths : List ℕ)
@@ -65,6 +78,8 @@ module _ (H : List ℕ → ℕ) where
       (length arena) (reopened k flags tick)
   rebuild-open s l k arena top ok newer low records copied flags tick index filter starts lengths asked passes =
       record {
+        typed = ok .typed;
+        sums = sums;
         expiry = ok .expiry;
         base = ok .filled ∙ sym top-is;
         filled = omega (arith, ok .filled, cut);
@@ -95,6 +110,17 @@ module _ (H : List ℕ → ℕ) where
 
       short : length kept ≤ 256
       short = omega (arith, size, asked .few)
+
+      sums : sumOf (retained (keptOf flags)) (over (padded (chosen flags (s .areas .lengths))) lengths) ≤ s .cache .filled
+      sums =
+          let held′ : length flags ≤ length (s .areas .lengths) = omega (arith, few, asked .areas .lengths-hold) in
+          let n : retained (keptOf flags) ≡ length (chosen flags (s .areas .lengths)) = retained-kept flags few ∙ sym (chosen-length flags (s .areas .lengths) held′) in
+          let all : sumOf (retained (keptOf flags)) (over (padded (chosen flags (s .areas .lengths))) lengths) ≡ sum (chosen flags (s .areas .lengths)) =
+          ap (λ (i : ℕ). sumOf i (over (padded (chosen flags (s .areas .lengths))) lengths)) n
+          ∙ sum-filled (chosen flags (s .areas .lengths)) lengths (omega (arith, chosen-length flags (s .areas .lengths) held′, asked .few)) (asked .lengths-hold) in
+          let whole : sum (take (length flags) (s .areas .lengths)) ≡ sumOf (s .cache .segments) (s .areas .lengths) =
+          sum-taken (length flags) (s .areas .lengths) held′ ∙ ap (λ (i : ℕ). sumOf i (s .areas .lengths)) (asked .same-count) in
+          omega (arith, all, whole, chosen-sum flags (s .areas .lengths), ok .segments .sums)
 
       listed : take (length flags) (s .areas .starts) ≡ startsIn (newest (k .sets))
       listed = ap (λ (n : ℕ). take n (s .areas .starts)) (asked .same-count) ∙ ok .starts ∙ ap startsIn (sym newer)

@@ -44,6 +44,8 @@ module _ (H : List ℕ → ℕ) where
   unfolding displacedMarked
   rebuild-reuse r a arena k ok memory key value h source hash bound asked passes =
       record {
+        typed = ok .typed;
+        sums = ok .sums;
         expiry = ok .expiry;
         base = ok .base;
         filled = ok .filled;

@@ -36,22 +36,22 @@ use Rattle.book.specs.World.{Areas, FinishedSet, World, unopened, worldA
 
 -- ---- what is computed of a list, from nothing on
 
-run : List (Call (List ℕ)) → List Answer
+run : List (Call (List ℕ) ℕ) → List Answer
 run calls = answers (unopened []) calls
 
 -- the book before the first open has another setting than the list then opens with
-byBook : List (Call (List ℕ)) → List Answer
+byBook : List (Call (List ℕ) ℕ) → List Answer
 byBook calls = replies (blank withoutExpiry) (told (unopened []) calls)
 
 -- whether each was accepted
-accepted : List (Call (List ℕ)) → List Bool
+accepted : List (Call (List ℕ) ℕ) → List Bool
 accepted calls = map (λ c. c .1) (told (unopened []) calls)
 
 -- the starts of each set's segments
-starts : List (Call (List ℕ)) → List (List ℕ)
+starts : List (Call (List ℕ) ℕ) → List (List ℕ)
 starts calls = map (λ (s : FinishedSet). take (s .cache .segments) (s .areas .starts)) (worldAfter (unopened []) calls .sets)
 
-bookStarts : List (Call (List ℕ)) → List (List ℕ)
+bookStarts : List (Call (List ℕ) ℕ) → List (List ℕ)
 bookStarts calls = map (λ (l : ListedSet). l .starts) (bookAfter (blank withoutExpiry) (told (unopened []) calls) .sets)
 
 -- ---- opens
@@ -66,11 +66,11 @@ setting occupancy packed =
     record { expiry = Relative16 record { secs = 1; nanos = 0 }; «target_occupied_slots» = occupancy; «packed_bucket_index» = packed; «negative_filter_bits_per_entry» = 8 }
 
 -- in an arena of arbitrary content
-abbrev opens : SegmentCacheConfig → ℕ → Call (List ℕ)
+abbrev opens : SegmentCacheConfig → ℕ → Call (List ℕ) ℕ
 opens config records = opening config records (replicate 40 8) (areas .index) (areas .filter) (areas .starts) (areas .lengths)
 
 -- a rebuild of the newest set
-abbrev reopens : ℕ → ℕ → List ℕ → ℕ → Call (List ℕ)
+abbrev reopens : ℕ → ℕ → List ℕ → ℕ → Call (List ℕ) ℕ
 reopens records copied flags tick = reopen records copied flags tick (areas .index) (areas .filter) (areas .starts) (areas .lengths)
 
 -- ---- a build, in both layouts
@@ -78,7 +78,7 @@ reopens records copied flags tick = reopen records copied flags tick (areas .ind
 -- An open that is refused, and one for three records, of which one has an empty key; a key twice, a finish too early, a fourth record, a target of 0. Then
 -- lookups, a peek, a clearing, calls out of turn, a probe with another hash than its key has elsewhere, a step of the walk, statistics, and those of a set that
 -- there is not.
-abbrev buildCalls : Bool → List (Call (List ℕ))
+abbrev buildCalls : Bool → List (Call (List ℕ) ℕ)
 buildCalls packed =
     opens (setting 0 packed) 3
     ∷ opens (setting 1 packed) 3
@@ -113,7 +113,7 @@ buildAnswers = absent ∷ value (65 ∷ 66 ∷ []) ∷ nothing ∷ value [] ∷ 
 
 -- Two segments. A rebuild that is ended; then one that drops the first segment: flags of the wrong number, a record of the dropped segment, another value,
 -- a record reused, its key again as a copy, a copy that lapses, one too many; lookups in the new set and in both segments of the old. Then a rebuild that keeps all, reuses two records, copies nothing.
-abbrev rebuildCalls : Bool → List (Call (List ℕ))
+abbrev rebuildCalls : Bool → List (Call (List ℕ) ℕ)
 rebuildCalls packed =
     opens (setting 1 packed) 2
     ∷ push (2 ∷ []) [] (2 ^ 63) Never
@@ -168,7 +168,7 @@ rebuildAnswers =
 
 -- Two records of one hash. In a rebuild of 17 records, seven to a bucket, the first is reused sixteen times and fills two buckets; the second then stands in the
 -- third, and a lookup of it goes on after its second bucket only by the mark in the filter.
-abbrev displacedCalls : Bool → List (Call (List ℕ))
+abbrev displacedCalls : Bool → List (Call (List ℕ) ℕ)
 displacedCalls packed =
     (opens (setting 7 packed) 2 ∷ push (1 ∷ []) [] 0 Never ∷ push (2 ∷ []) (65 ∷ []) 0 Never ∷ finish 4096 (1 ∷ []) ∷ reopens 17 0 (1 ∷ []) 0 ∷ [])
     ++ (replicate 16 (reuse (1 ∷ []) [] 0 0 4)
@@ -179,7 +179,7 @@ displacedAnswers = value (65 ∷ []) ∷ nothing ∷ []
 
 -- ---- the example of document 01: two records, packed, ticks of one second; before it another line of sets, which its open ends
 
-abbrev exampleCalls : List (Call (List ℕ))
+abbrev exampleCalls : List (Call (List ℕ) ℕ)
 exampleCalls =
     opens (setting 1 false) 1
     ∷ push (0x61 ∷ []) [] 1 Never

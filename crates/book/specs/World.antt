@@ -1,14 +1,15 @@
 -- The world that a list of calls goes through: states and areas as the calls leave them. Each call is the very definition that its contract cites
 -- (afterOpen, afterPush, afterFinish, afterGet, afterPeek, afterTake, probeAnswer, walkAnswer, statsAnswer, afterRebuildOpen, afterReused, afterCopied,
--- afterRebuildFinish), and the world after it holds what that definition says is left, refused calls included. src/calls.rt makes each call as code, and
--- its contracts say that the call is this step. States and areas are carried over from call to call, nothing else writes to them, and no area is shared.
--- There is one line of rebuilds: each is opened from the newest set, and opening another ends an unfinished one.
+-- afterRebuildFinish, afterWrite, afterLoad), and the world after it holds what that definition says is left, refused calls included. src/calls.rt makes each
+-- call as code, and its contracts say that the call is this step. States and areas are carried over from call to call, nothing else writes to them, and no
+-- area is shared. There is one line of rebuilds: each is opened from the newest set, and opening another ends an unfinished one. An open or a load begins
+-- another line; the files that were written stay.
 -- Assumes nothing.
 use mathlib.Core.Bool.{Bool, true, false}
 use mathlib.Core.List.{List, [], _∷_, _++_}
 use mathlib.Core.Option.{Option, none, some}
 use Prim.Native.Nat.{ℕ}
-use lib.ListN.{set, getElem?}
+use lib.ListN.{take, set, getElem?}
 use Rattle.hash_parts.specs.declared.duration.Lifetime.{Lifetime}
 use Rattle.hash_parts.specs.declared.setting.SegmentCacheConfig.{SegmentCacheConfig}
 use Rattle.records.specs.Area.{spanned}
@@ -22,7 +23,10 @@ use Rattle.sets.specs.declared.cache.FrozenSegmentCache.{FrozenSegmentCache}
 use Rattle.sets.specs.declared.rebuild.SegmentRecordLocation.{SegmentRecordLocation}
 use Rattle.sets.specs.declared.rebuild.SharedSegmentCacheBuild.{SharedSegmentCacheBuild}
 use Rattle.sets.specs.declared.rebuild.SharedSegmentCacheBuilder.{SharedSegmentCacheBuilder}
-use Rattle.book.specs.Calls.{Call, opening, push, finish, lookup, peek, clear, probe, walk, stats, reopen, reuse, copy, refinish, bare, Answer, value, nothing, denied, absent, newest}
+use Rattle.files.specs.Load.{Loaded, afterLoad}
+use Rattle.files.specs.Write.{FileWritten, afterWrite}
+use Rattle.book.specs.Calls.{Call, opening, push, finish, lookup, peek, clear, probe, walk, stats, reopen, reuse, copy, refinish, write, load, bare, Answer, value, nothing, denied, absent}
+use Rattle.book.specs.Calls.{newest}
 
 -- ---- states with their areas
 
@@ -43,15 +47,16 @@ pub record FinishedSet : Type 0 where
   pub cache : FrozenSegmentCache
   pub areas : Areas
 
--- the arena, and the finished sets in it, the oldest first
+-- the arena, and the finished sets in it, the oldest first; and the files that were written, the first is 0
 pub record World : Type 0 where
   pub arena : List ℕ
   pub current : Current
   pub sets : List FinishedSet
+  pub files : List (List ℕ)
 
--- before the first open: an arena of any content, nothing open and no set
+-- before the first open: an arena of any content, nothing open, no set and no file
 abbrev pub unopened : List ℕ → World
-unopened arena = record { arena = arena; current = idle; sets = [] }
+unopened arena = record { arena = arena; current = idle; sets = []; files = [] }
 
 -- what a call leaves: the world, and whether it was accepted
 pub record Step : Type 0 where
@@ -76,17 +81,18 @@ abbrev pub openedAs : Reply SegmentCacheBuilder (Unit {0}) → Areas → Current
 openedAs (accept b) areas = building b areas
 openedAs (refuse n u) areas = idle
 
-abbrev pub openLeaves : List ℕ → Areas → Opened → World
-openLeaves arena a o =
+abbrev pub openLeaves : List (List ℕ) → List ℕ → Areas → Opened → World
+openLeaves files arena a o =
     record {
       arena = arena;
       current = openedAs (o .answer) (record { index = o .index; filter = o .filter; starts = a .starts; lengths = a .lengths });
       sets = [];
+      files = files;
     }
 
 -- the world after a first open
 abbrev pub opened : SegmentCacheConfig → ℕ → List ℕ → Areas → World
-opened config records arena a = openLeaves arena a (afterOpen config records (a .index) (a .filter) (a .starts) (a .lengths) arena)
+opened config records arena a = openLeaves [] arena a (afterOpen config records (a .index) (a .filter) (a .starts) (a .lengths) arena)
 
 -- an open among other calls: accepted, another line of sets begins, in the arena and areas lent with it; refused, nothing changes
 abbrev pub openedOr : World → World → Reply SegmentCacheBuilder (Unit {0}) → World
@@ -96,7 +102,9 @@ openedOr w new (refuse n u) = w
 abbrev pub openingStep : World → SegmentCacheConfig → ℕ → List ℕ → Areas → Step
 openingStep w config records arena a =
     record {
-      after = openedOr w (opened config records arena a) (afterOpen config records (a .index) (a .filter) (a .starts) (a .lengths) arena .answer);
+      after =
+          openedOr w (openLeaves (w .files) arena a (afterOpen config records (a .index) (a .filter) (a .starts) (a .lengths) arena))
+          (afterOpen config records (a .index) (a .filter) (a .starts) (a .lengths) arena .answer);
       accepted = isAccepted (afterOpen config records (a .index) (a .filter) (a .starts) (a .lengths) arena .answer);
     }
 
@@ -115,6 +123,7 @@ pushLeaves w a p =
             arena = p .arena;
             current = building (builderIn (p .answer)) (record { index = p .index; filter = p .filter; starts = a .starts; lengths = a .lengths });
             sets = w .sets;
+            files = w .files;
           };
       accepted = isAccepted (p .answer);
     }
@@ -128,8 +137,8 @@ pushStep w (rebuilding r a) key v h ttl = outOfTurn w
 
 -- the set joins the others; a builder that is refused stays open
 abbrev pub closedAs : World → Areas → Reply FrozenSegmentCache SegmentCacheBuilder → World
-closedAs w areas (accept s) = record { arena = w .arena; current = idle; sets = w .sets ++ (record { cache = s; areas = areas } ∷ []) }
-closedAs w areas (refuse n b) = record { arena = w .arena; current = building b areas; sets = w .sets }
+closedAs w areas (accept s) = record { arena = w .arena; current = idle; sets = w .sets ++ (record { cache = s; areas = areas } ∷ []); files = w .files }
+closedAs w areas (refuse n b) = record { arena = w .arena; current = building b areas; sets = w .sets; files = w .files }
 
 abbrev pub finishLeaves : World → Areas → Finished → Step
 finishLeaves w a f =
@@ -155,7 +164,7 @@ withIndex s index =
 
 abbrev pub setLeaves : World → ℕ → FinishedSet → List ℕ → Bool → Step
 setLeaves w j s index accepted =
-    record { after = record { arena = w .arena; current = w .current; sets = set (w .sets) j (withIndex s index) }; accepted = accepted }
+    record { after = record { arena = w .arena; current = w .current; sets = set (w .sets) j (withIndex s index); files = w .files }; accepted = accepted }
 
 abbrev pub getFrom : World → FinishedSet → List ℕ → ℕ → ℕ → Got
 getFrom w s key h tick =
@@ -211,6 +220,7 @@ reopenLeaves w o =
             arena = w .arena;
             current = reopenedAs (w .current) (record { index = o .index; filter = o .filter; starts = o .starts; lengths = o .lengths }) (o .answer);
             sets = w .sets;
+            files = w .files;
           };
       accepted = isAccepted (o .answer);
     }
@@ -237,6 +247,7 @@ reuseLeaves w a p =
             arena = w .arena;
             current = rebuilding (rebuildIn (p .answer)) (record { index = p .index; filter = p .filter; starts = a .starts; lengths = a .lengths });
             sets = w .sets;
+            files = w .files;
           };
       accepted = isAccepted (p .answer);
     }
@@ -254,6 +265,7 @@ copyLeaves w a p =
             arena = p .arena;
             current = rebuilding (rebuildIn (p .answer)) (record { index = p .index; filter = p .filter; starts = a .starts; lengths = a .lengths });
             sets = w .sets;
+            files = w .files;
           };
       accepted = isAccepted (p .answer);
     }
@@ -266,8 +278,8 @@ copyStep w (rebuilding r a) key v h ttl = copyLeaves w a (afterCopied r h key v 
 -- ---- rebuild finish
 
 abbrev pub rebuiltAs : World → Areas → Reply SharedSegmentCacheBuild SharedSegmentCacheBuilder → World
-rebuiltAs w areas (accept s) = record { arena = w .arena; current = idle; sets = w .sets ++ (record { cache = s .cache; areas = areas } ∷ []) }
-rebuiltAs w areas (refuse n r) = record { arena = w .arena; current = rebuilding r areas; sets = w .sets }
+rebuiltAs w areas (accept s) = record { arena = w .arena; current = idle; sets = w .sets ++ (record { cache = s .cache; areas = areas } ∷ []); files = w .files }
+rebuiltAs w areas (refuse n r) = record { arena = w .arena; current = rebuilding r areas; sets = w .sets; files = w .files }
 
 abbrev pub refinishLeaves : World → Areas → RebuildFinished → Step
 refinishLeaves w a f =
@@ -281,9 +293,44 @@ refinishStep w idle scratch = outOfTurn w
 refinishStep w (building b a) scratch = outOfTurn w
 refinishStep w (rebuilding r a) scratch = refinishLeaves w a (afterRebuildFinish r (a .index) (a .starts) (a .lengths) scratch (w .arena))
 
+-- ---- a set as a file
+
+abbrev pub writeIn : World → FinishedSet → List ℕ → FileWritten
+writeIn w s out = afterWrite (s .cache) (s .areas .index) (s .areas .filter) (s .areas .starts) (s .areas .lengths) (w .arena) out
+
+-- the file joins the others: as many bytes as the writer says, from the front of the area that was lent
+abbrev pub filedAs : World → List ℕ → Reply ℕ (Unit {0}) → World
+filedAs w area (accept n) = record { arena = w .arena; current = w .current; sets = w .sets; files = w .files ++ (take n area ∷ []) }
+filedAs w area (refuse n u) = w
+
+abbrev pub writeStep : World → Option FinishedSet → List ℕ → Step
+writeStep w none out = outOfTurn w
+writeStep w (some s) out =
+    record { after = filedAs w (writeIn w s out .file) (writeIn w s out .answer); accepted = isAccepted (writeIn w s out .answer) }
+
+-- a load of a file that was written: accepted, another line of sets begins, in the arena and areas lent with it, and "the load then stands in the build's
+-- place"; refused, nothing changes
+abbrev pub loadIn : List ℕ → List ℕ → Areas → Loaded
+loadIn file arena a = afterLoad file (a .index) (a .filter) (a .starts) (a .lengths) arena
+
+abbrev pub loadedAs : World → Loaded → Reply FrozenSegmentCache (Unit {0}) → World
+loadedAs w o (accept s) =
+    record {
+      arena = o .arena;
+      current = idle;
+      sets = record { cache = s; areas = record { index = o .index; filter = o .filter; starts = o .starts; lengths = o .lengths } } ∷ [];
+      files = w .files;
+    }
+loadedAs w o (refuse n u) = w
+
+abbrev pub loadStep : World → Option (List ℕ) → List ℕ → Areas → Step
+loadStep w none arena a = outOfTurn w
+loadStep w (some file) arena a =
+    record { after = loadedAs w (loadIn file arena a) (loadIn file arena a .answer); accepted = isAccepted (loadIn file arena a .answer) }
+
 -- ---- a list of calls
 
-abbrev pub step : World → Call (List ℕ) → Step
+abbrev pub step : World → Call (List ℕ) ℕ → Step
 step w (opening config records arena index filter starts lengths) =
     openingStep w config records arena record { index = index; filter = filter; starts = starts; lengths = lengths }
 step w (push key v h ttl) = pushStep w (w .current) key v h ttl
@@ -299,16 +346,19 @@ step w (reopen records copied flags tick index filter starts lengths) =
 step w (reuse key v h location header) = reuseStep w (w .current) key v h record { location = location; «header_bytes» = header }
 step w (copy key v h ttl) = copyStep w (w .current) key v h ttl
 step w (refinish scratch) = refinishStep w (w .current) scratch
+step w (write j out) = writeStep w (getElem? (w .sets) j) out
+step w (load i arena index filter starts lengths) =
+    loadStep w (getElem? (w .files) i) arena record { index = index; filter = filter; starts = starts; lengths = lengths }
 
 -- the world after a list of calls
-abbrev pub worldAfter : World → List (Call (List ℕ)) → World
+abbrev pub worldAfter : World → List (Call (List ℕ) ℕ) → World
 worldAfter w [] = w
 worldAfter w (c ∷ cs) = worldAfter (step w c .after) cs
 
--- the calls, without their areas, each with whether it was accepted: all that the book is fed
-abbrev pub told : World → List (Call (List ℕ)) → List (Call (Unit {0}) × Bool)
+-- the calls, without their areas and a load with its file's bytes, each with whether it was accepted: all that the book is fed
+abbrev pub told : World → List (Call (List ℕ) ℕ) → List (Call (Unit {0}) (ℕ × List ℕ) × Bool)
 told w [] = []
-told w (c ∷ cs) = (bare c, step w c .accepted) ∷ told (step w c .after) cs
+told w (c ∷ cs) = (bare (w .files) c, step w c .accepted) ∷ told (step w c .after) cs
 
 -- the bytes of a value are those that `value_slice` hands out of the arena as it is at that moment
 abbrev pub answerOf : List ℕ → Reply (Option Span) (Unit {0}) → Answer
@@ -325,7 +375,7 @@ peekedFrom w none key h tick = absent
 peekedFrom w (some s) key h tick = answerOf (w .arena) (peekFrom w s key h tick .answer)
 
 -- lookups and peeks answer by the book, of other calls it says nothing
-abbrev pub answered : World → Call (List ℕ) → List Answer
+abbrev pub answered : World → Call (List ℕ) ℕ → List Answer
 answered w (opening config records arena index filter starts lengths) = []
 answered w (push key v h ttl) = []
 answered w (finish target scratch) = []
@@ -339,8 +389,10 @@ answered w (reopen records copied flags tick index filter starts lengths) = []
 answered w (reuse key v h location header) = []
 answered w (copy key v h ttl) = []
 answered w (refinish scratch) = []
+answered w (write j out) = []
+answered w (load i arena index filter starts lengths) = []
 
 -- the answers of the lookups and peeks in a list of calls
-abbrev pub answers : World → List (Call (List ℕ)) → List Answer
+abbrev pub answers : World → List (Call (List ℕ) ℕ) → List Answer
 answers w [] = []
 answers w (c ∷ cs) = answered w c ++ answers (step w c .after) cs

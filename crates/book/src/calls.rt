@@ -1,9 +1,13 @@
-// Each call of a list, as code. A function makes one call of crates/sets, and its first clause is that
-// call's contract. The second says, for every input, that the call is this step of the world, whatever
-// else stands in the world: what the call was answered and what its areas then hold is what `step`
-// leaves, and accepted is what `step` accepts. So the definitions that contracts cite and those that the
-// claim on lists is made of are held together by proof. Areas that a call does not take are lent all the
-// same, for the contract to name them.
+// Each call of a list, as code. A function makes one call of crates/sets or crates/files, and its first
+// clause is that call's contract. The second says, for every input, that the call is this step of the
+// world, whatever else stands in the world: what the call was answered and what its areas then hold is
+// what `step` leaves, and accepted is what `step` accepts. So the definitions that contracts cite and
+// those that the claim on lists is made of are held together by proof. Areas that a call does not take
+// are lent all the same, for the contract to name them.
+use files::load::LoadFileAnswer;
+use files::load::load_file;
+use files::write::WriteFileAnswer;
+use files::write::write_file;
 use hash_parts::duration::Lifetime;
 use hash_parts::setting::SegmentCacheConfig;
 use sets::builder::FinishAnswer;
@@ -23,13 +27,16 @@ use sets::rebuild::SegmentRecordLocation;
 use sets::rebuild::SharedSegmentCacheBuilder;
 ghost use mathlib.Core.Path.{_≡_};
 ghost use mathlib.Core.List.{List};
+ghost use Prim.Native.Nat.{ℕ};
 ghost use Rattle.sets.specs.Answers.{probeReply, walkReply, statsReply};
 ghost use Rattle.sets.specs.Build.{openResult, afterOpen, pushResult, afterPush, finishResult, afterFinish};
 ghost use Rattle.sets.specs.Lookup.{getResult, afterGet, afterPeek, takeResult, afterTake, probeAnswer, walkAnswer, statsAnswer};
 ghost use Rattle.sets.specs.Rebuild.{rebuildOpenResult, afterRebuildOpen, reusedResult, afterReused, copiedResult, afterCopied, rebuildFinishResult, afterRebuildFinish};
-ghost use Rattle.book.specs.Calls.{opening, push, finish, lookup, peek, clear, probe, walk, stats, reopen, reuse, copy, refinish};
+ghost use Rattle.files.specs.Load.{loadResult, afterLoad};
+ghost use Rattle.files.specs.Write.{writeResult, afterWrite};
+ghost use Rattle.book.specs.Calls.{opening, push, finish, lookup, peek, clear, probe, walk, stats, reopen, reuse, copy, refinish, write, load};
 ghost use Rattle.book.specs.World.{building, rebuilding, FinishedSet, World, step, answered};
-ghost use Rattle.book.specs.Made.{areasOf, setWith, worldOf, left, Wherever, WhereNewest, openLeft, pushLeft, finishLeft, setLeft, getAccepted, getGives, takeAccepted, probeAccepted, walkAccepted, statsAccepted, reopenLeft, repushLeft, refinishLeft};
+ghost use Rattle.book.specs.Made.{areasOf, setWith, worldOf, left, Wherever, WhereNewest, openLeft, pushLeft, finishLeft, setLeft, getAccepted, getGives, takeAccepted, probeAccepted, walkAccepted, statsAccepted, reopenLeft, repushLeft, refinishLeft, WhereWritten, writeLeft, loadLeft};
 
 // Open, in any world.
 pub fn make_open(
@@ -61,7 +68,7 @@ pub fn make_push(
     arena: &mut [u8],
 ) -> PushAnswer
     ensures { λ r. ⌜ pushResult r (now (index .exit)) (now (filter .exit)) (now (arena .exit)) ≡ afterPush builder hash (now (key .entry)) (now (value .entry)) ttl (now (index .entry)) (now (filter .entry)) (now (arena .entry)) ⌝ }
-    ensures { λ r. ⌜ ((sets : List FinishedSet) → pushLeft sets (now (arena .exit)) (areasOf (now (index .exit)) (now (filter .exit)) (now (starts .entry)) (now (lengths .entry))) r ≡ step (worldOf (now (arena .entry)) (building builder (areasOf (now (index .entry)) (now (filter .entry)) (now (starts .entry)) (now (lengths .entry)))) sets) (push (now (key .entry)) (now (value .entry)) hash ttl)) ⌝ }
+    ensures { λ r. ⌜ ((sets : List FinishedSet) (files : List (List ℕ)) → pushLeft sets files (now (arena .exit)) (areasOf (now (index .exit)) (now (filter .exit)) (now (starts .entry)) (now (lengths .entry))) r ≡ step (worldOf (now (arena .entry)) (building builder (areasOf (now (index .entry)) (now (filter .entry)) (now (starts .entry)) (now (lengths .entry)))) sets files) (push (now (key .entry)) (now (value .entry)) hash ttl)) ⌝ }
 {
     builder.push(hash, key, value, ttl, index, filter, arena)
 }
@@ -78,7 +85,7 @@ pub fn make_finish(
     arena: &[u8],
 ) -> FinishAnswer
     ensures { λ r. ⌜ finishResult r (now (index .exit)) (now (starts .exit)) (now (lengths .exit)) (now (scratch .exit)) ≡ afterFinish builder target (now (index .entry)) (now (starts .entry)) (now (lengths .entry)) (now (scratch .entry)) (now (arena .entry)) ⌝ }
-    ensures { λ r. ⌜ ((sets : List FinishedSet) → finishLeft sets (now (arena .entry)) (areasOf (now (index .exit)) (now (filter .entry)) (now (starts .exit)) (now (lengths .exit))) r ≡ step (worldOf (now (arena .entry)) (building builder (areasOf (now (index .entry)) (now (filter .entry)) (now (starts .entry)) (now (lengths .entry)))) sets) (finish target (now (scratch .entry)))) ⌝ }
+    ensures { λ r. ⌜ ((sets : List FinishedSet) (files : List (List ℕ)) → finishLeft sets files (now (arena .entry)) (areasOf (now (index .exit)) (now (filter .entry)) (now (starts .exit)) (now (lengths .exit))) r ≡ step (worldOf (now (arena .entry)) (building builder (areasOf (now (index .entry)) (now (filter .entry)) (now (starts .entry)) (now (lengths .entry)))) sets files) (finish target (now (scratch .entry)))) ⌝ }
 {
     builder.finish(target, index, starts, lengths, scratch, arena)
 }
@@ -236,7 +243,7 @@ pub fn make_reuse(
     arena: &[u8],
 ) -> RebuildPushAnswer
     ensures { λ r. ⌜ reusedResult r (now (index .exit)) (now (filter .exit)) ≡ afterReused builder hash (now (key .entry)) (now (value .entry)) source (now (index .entry)) (now (filter .entry)) (now (starts .entry)) (now (lengths .entry)) (now (arena .entry)) ⌝ }
-    ensures { λ r. ⌜ ((sets : List FinishedSet) → repushLeft sets (now (arena .entry)) (areasOf (now (index .exit)) (now (filter .exit)) (now (starts .entry)) (now (lengths .entry))) r ≡ step (worldOf (now (arena .entry)) (rebuilding builder (areasOf (now (index .entry)) (now (filter .entry)) (now (starts .entry)) (now (lengths .entry)))) sets) (reuse (now (key .entry)) (now (value .entry)) hash (source .location) (source .«header_bytes»))) ⌝ }
+    ensures { λ r. ⌜ ((sets : List FinishedSet) (files : List (List ℕ)) → repushLeft sets files (now (arena .entry)) (areasOf (now (index .exit)) (now (filter .exit)) (now (starts .entry)) (now (lengths .entry))) r ≡ step (worldOf (now (arena .entry)) (rebuilding builder (areasOf (now (index .entry)) (now (filter .entry)) (now (starts .entry)) (now (lengths .entry)))) sets files) (reuse (now (key .entry)) (now (value .entry)) hash (source .location) (source .«header_bytes»))) ⌝ }
 {
     builder.push_reused(
         hash,
@@ -265,7 +272,7 @@ pub fn make_copy(
     arena: &mut [u8],
 ) -> RebuildPushAnswer
     ensures { λ r. ⌜ copiedResult r (now (index .exit)) (now (filter .exit)) (now (arena .exit)) ≡ afterCopied builder hash (now (key .entry)) (now (value .entry)) ttl (now (index .entry)) (now (filter .entry)) (now (starts .entry)) (now (lengths .entry)) (now (arena .entry)) ⌝ }
-    ensures { λ r. ⌜ ((sets : List FinishedSet) → repushLeft sets (now (arena .exit)) (areasOf (now (index .exit)) (now (filter .exit)) (now (starts .entry)) (now (lengths .entry))) r ≡ step (worldOf (now (arena .entry)) (rebuilding builder (areasOf (now (index .entry)) (now (filter .entry)) (now (starts .entry)) (now (lengths .entry)))) sets) (copy (now (key .entry)) (now (value .entry)) hash ttl)) ⌝ }
+    ensures { λ r. ⌜ ((sets : List FinishedSet) (files : List (List ℕ)) → repushLeft sets files (now (arena .exit)) (areasOf (now (index .exit)) (now (filter .exit)) (now (starts .entry)) (now (lengths .entry))) r ≡ step (worldOf (now (arena .entry)) (rebuilding builder (areasOf (now (index .entry)) (now (filter .entry)) (now (starts .entry)) (now (lengths .entry)))) sets files) (copy (now (key .entry)) (now (value .entry)) hash ttl)) ⌝ }
 {
     builder.push_copied(hash, key, value, ttl, index, filter, starts, lengths, arena)
 }
@@ -281,7 +288,38 @@ pub fn make_refinish(
     arena: &[u8],
 ) -> RebuildFinishAnswer
     ensures { λ r. ⌜ rebuildFinishResult r (now (index .exit)) (now (starts .exit)) (now (lengths .exit)) (now (scratch .exit)) ≡ afterRebuildFinish builder (now (index .entry)) (now (starts .entry)) (now (lengths .entry)) (now (scratch .entry)) (now (arena .entry)) ⌝ }
-    ensures { λ r. ⌜ ((sets : List FinishedSet) → refinishLeft sets (now (arena .entry)) (areasOf (now (index .exit)) (now (filter .entry)) (now (starts .exit)) (now (lengths .exit))) r ≡ step (worldOf (now (arena .entry)) (rebuilding builder (areasOf (now (index .entry)) (now (filter .entry)) (now (starts .entry)) (now (lengths .entry)))) sets) (refinish (now (scratch .entry)))) ⌝ }
+    ensures { λ r. ⌜ ((sets : List FinishedSet) (files : List (List ℕ)) → refinishLeft sets files (now (arena .entry)) (areasOf (now (index .exit)) (now (filter .entry)) (now (starts .exit)) (now (lengths .exit))) r ≡ step (worldOf (now (arena .entry)) (rebuilding builder (areasOf (now (index .entry)) (now (filter .entry)) (now (starts .entry)) (now (lengths .entry)))) sets files) (refinish (now (scratch .entry)))) ⌝ }
 {
     builder.finish(index, starts, lengths, scratch, arena)
+}
+
+// A set is written as a file, to the front of an area.
+pub fn make_write(
+    cache: FrozenSegmentCache,
+    index: &[u64],
+    filter: &[u64],
+    starts: &[u64],
+    lengths: &[u64],
+    arena: &[u8],
+    file: &mut [u8],
+) -> WriteFileAnswer
+    ensures { λ r. ⌜ writeResult r (now (file .exit)) ≡ afterWrite cache (now (index .entry)) (now (filter .entry)) (now (starts .entry)) (now (lengths .entry)) (now (arena .entry)) (now (file .entry)) ⌝ }
+    ensures { λ r. ⌜ Wherever (setWith cache (areasOf (now (index .entry)) (now (filter .entry)) (now (starts .entry)) (now (lengths .entry)))) (now (arena .entry)) (λ w j. writeLeft w (now (file .exit)) r ≡ step w (write j (now (file .entry)))) ⌝ }
+{
+    write_file(cache, index, filter, starts, lengths, arena, file)
+}
+
+// A file that was written is loaded, in any world.
+pub fn make_load(
+    file: &[u8],
+    index: &mut [u64],
+    filter: &mut [u64],
+    starts: &mut [u64],
+    lengths: &mut [u64],
+    arena: &mut [u8],
+) -> LoadFileAnswer
+    ensures { λ r. ⌜ loadResult r (now (index .exit)) (now (filter .exit)) (now (starts .exit)) (now (lengths .exit)) (now (arena .exit)) ≡ afterLoad (now (file .entry)) (now (index .entry)) (now (filter .entry)) (now (starts .entry)) (now (lengths .entry)) (now (arena .entry)) ⌝ }
+    ensures { λ r. ⌜ WhereWritten (now (file .entry)) (λ w i. loadLeft w (now (arena .exit)) (areasOf (now (index .exit)) (now (filter .exit)) (now (starts .exit)) (now (lengths .exit))) r ≡ step w (load i (now (arena .entry)) (now (index .entry)) (now (filter .entry)) (now (starts .entry)) (now (lengths .entry)))) ⌝ }
+{
+    load_file(file, index, filter, starts, lengths, arena)
 }

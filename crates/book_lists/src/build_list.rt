@@ -115,7 +115,7 @@ fn push_twice(
     scratch: &mut [u64],
     arena: &mut [u8],
 ) -> ListAnswer
-    ensures { λ r. ⌜ gives (now (arena .exit)) r ≡ answers (worldOf (now (arena .entry)) (building builder (areasOf (now (index .entry)) (now (filter .entry)) (now (starts .entry)) (now (lengths .entry)))) []) (push (now (key .entry)) (now (value .entry)) hash ttl ∷ push (now («second_key» .entry)) (now («second_value» .entry)) «second_hash» «second_ttl» ∷ finish target (now (scratch .entry)) ∷ lookup 0 (now («asked_key» .entry)) «asked_hash» «now_tick» ∷ []) ⌝ }
+    ensures { λ r. ⌜ gives (now (arena .exit)) r ≡ answers (worldOf (now (arena .entry)) (building builder (areasOf (now (index .entry)) (now (filter .entry)) (now (starts .entry)) (now (lengths .entry)))) [] []) (push (now (key .entry)) (now (value .entry)) hash ttl ∷ push (now («second_key» .entry)) (now («second_value» .entry)) «second_hash» «second_ttl» ∷ finish target (now (scratch .entry)) ∷ lookup 0 (now («asked_key» .entry)) «asked_hash» «now_tick» ∷ []) ⌝ }
 {
     let pushed = make_push(
         builder,
@@ -166,7 +166,7 @@ fn push_once(
     scratch: &mut [u64],
     arena: &mut [u8],
 ) -> ListAnswer
-    ensures { λ r. ⌜ gives (now (arena .exit)) r ≡ answers (worldOf (now (arena .entry)) (building builder (areasOf (now (index .entry)) (now (filter .entry)) (now (starts .entry)) (now (lengths .entry)))) []) (push (now (key .entry)) (now (value .entry)) hash ttl ∷ finish target (now (scratch .entry)) ∷ lookup 0 (now («asked_key» .entry)) «asked_hash» «now_tick» ∷ []) ⌝ }
+    ensures { λ r. ⌜ gives (now (arena .exit)) r ≡ answers (worldOf (now (arena .entry)) (building builder (areasOf (now (index .entry)) (now (filter .entry)) (now (starts .entry)) (now (lengths .entry)))) [] []) (push (now (key .entry)) (now (value .entry)) hash ttl ∷ finish target (now (scratch .entry)) ∷ lookup 0 (now («asked_key» .entry)) «asked_hash» «now_tick» ∷ []) ⌝ }
 {
     let pushed = make_push(
         builder,
@@ -226,7 +226,7 @@ fn finish_and_ask(
     scratch: &mut [u64],
     arena: &[u8],
 ) -> ListAnswer
-    ensures { λ r. ⌜ gives (now (arena .entry)) r ≡ answers (worldOf (now (arena .entry)) (building builder (areasOf (now (index .entry)) (now (filter .entry)) (now (starts .entry)) (now (lengths .entry)))) []) (finish target (now (scratch .entry)) ∷ lookup 0 (now («asked_key» .entry)) «asked_hash» «now_tick» ∷ []) ⌝ }
+    ensures { λ r. ⌜ gives (now (arena .entry)) r ≡ answers (worldOf (now (arena .entry)) (building builder (areasOf (now (index .entry)) (now (filter .entry)) (now (starts .entry)) (now (lengths .entry)))) [] []) (finish target (now (scratch .entry)) ∷ lookup 0 (now («asked_key» .entry)) «asked_hash» «now_tick» ∷ []) ⌝ }
 {
     let FinishAnswer::Finished(cache) = make_finish(
         builder,

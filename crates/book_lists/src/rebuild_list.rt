@@ -51,7 +51,7 @@ pub(crate) fn rebuild_and_ask(
     scratch: &mut [u64],
     arena: &mut [u8],
 ) -> ListAnswer
-    ensures { λ r. ⌜ gives (now (arena .exit)) r ≡ answers (worldOf (now (arena .entry)) idle ((setWith source (areasOf (now («source_index» .entry)) (now («source_filter» .entry)) (now («source_starts» .entry)) (now («source_lengths» .entry)))) ∷ [])) (reopen «entry_count» «copied_record_capacity» (now («used_source_segments» .entry)) «source_now_tick» (now (index .entry)) (now (filter .entry)) (now (starts .entry)) (now (lengths .entry)) ∷ reuse (now («reused_key» .entry)) (now («reused_value» .entry)) «reused_hash» («reused_at» .location) («reused_at» .«header_bytes») ∷ copy (now (key .entry)) (now (value .entry)) hash ttl ∷ refinish (now (scratch .entry)) ∷ lookup 1 (now («asked_key» .entry)) «asked_hash» «now_tick» ∷ []) ⌝ }
+    ensures { λ r. ⌜ gives (now (arena .exit)) r ≡ answers (worldOf (now (arena .entry)) idle ((setWith source (areasOf (now («source_index» .entry)) (now («source_filter» .entry)) (now («source_starts» .entry)) (now («source_lengths» .entry)))) ∷ []) []) (reopen «entry_count» «copied_record_capacity» (now («used_source_segments» .entry)) «source_now_tick» (now (index .entry)) (now (filter .entry)) (now (starts .entry)) (now (lengths .entry)) ∷ reuse (now («reused_key» .entry)) (now («reused_value» .entry)) «reused_hash» («reused_at» .location) («reused_at» .«header_bytes») ∷ copy (now (key .entry)) (now (value .entry)) hash ttl ∷ refinish (now (scratch .entry)) ∷ lookup 1 (now («asked_key» .entry)) «asked_hash» «now_tick» ∷ []) ⌝ }
 {
     let RebuildOpenAnswer::Opened(builder) = make_reopen(
         source,
@@ -114,7 +114,7 @@ fn reuse_and_copy(
     scratch: &mut [u64],
     arena: &mut [u8],
 ) -> ListAnswer
-    ensures { λ r. ⌜ ((source : FinishedSet) → gives (now (arena .exit)) r ≡ answers (worldOf (now (arena .entry)) (rebuilding builder (areasOf (now (index .entry)) (now (filter .entry)) (now (starts .entry)) (now (lengths .entry)))) (source ∷ [])) (reuse (now («reused_key» .entry)) (now («reused_value» .entry)) «reused_hash» («reused_at» .location) («reused_at» .«header_bytes») ∷ copy (now (key .entry)) (now (value .entry)) hash ttl ∷ refinish (now (scratch .entry)) ∷ lookup 1 (now («asked_key» .entry)) «asked_hash» «now_tick» ∷ [])) ⌝ }
+    ensures { λ r. ⌜ ((source : FinishedSet) → gives (now (arena .exit)) r ≡ answers (worldOf (now (arena .entry)) (rebuilding builder (areasOf (now (index .entry)) (now (filter .entry)) (now (starts .entry)) (now (lengths .entry)))) (source ∷ []) []) (reuse (now («reused_key» .entry)) (now («reused_value» .entry)) «reused_hash» («reused_at» .location) («reused_at» .«header_bytes») ∷ copy (now (key .entry)) (now (value .entry)) hash ttl ∷ refinish (now (scratch .entry)) ∷ lookup 1 (now («asked_key» .entry)) «asked_hash» «now_tick» ∷ [])) ⌝ }
 {
     let pushed = make_reuse(
         builder,
@@ -163,7 +163,7 @@ fn copy_and_finish(
     scratch: &mut [u64],
     arena: &mut [u8],
 ) -> ListAnswer
-    ensures { λ r. ⌜ ((source : FinishedSet) → gives (now (arena .exit)) r ≡ answers (worldOf (now (arena .entry)) (rebuilding builder (areasOf (now (index .entry)) (now (filter .entry)) (now (starts .entry)) (now (lengths .entry)))) (source ∷ [])) (copy (now (key .entry)) (now (value .entry)) hash ttl ∷ refinish (now (scratch .entry)) ∷ lookup 1 (now («asked_key» .entry)) «asked_hash» «now_tick» ∷ [])) ⌝ }
+    ensures { λ r. ⌜ ((source : FinishedSet) → gives (now (arena .exit)) r ≡ answers (worldOf (now (arena .entry)) (rebuilding builder (areasOf (now (index .entry)) (now (filter .entry)) (now (starts .entry)) (now (lengths .entry)))) (source ∷ []) []) (copy (now (key .entry)) (now (value .entry)) hash ttl ∷ refinish (now (scratch .entry)) ∷ lookup 1 (now («asked_key» .entry)) «asked_hash» «now_tick» ∷ [])) ⌝ }
 {
     let pushed = make_copy(
         builder,
@@ -221,7 +221,7 @@ fn refinish_and_ask(
     scratch: &mut [u64],
     arena: &[u8],
 ) -> ListAnswer
-    ensures { λ r. ⌜ ((source : FinishedSet) → gives (now (arena .entry)) r ≡ answers (worldOf (now (arena .entry)) (rebuilding builder (areasOf (now (index .entry)) (now (filter .entry)) (now (starts .entry)) (now (lengths .entry)))) (source ∷ [])) (refinish (now (scratch .entry)) ∷ lookup 1 (now («asked_key» .entry)) «asked_hash» «now_tick» ∷ [])) ⌝ }
+    ensures { λ r. ⌜ ((source : FinishedSet) → gives (now (arena .entry)) r ≡ answers (worldOf (now (arena .entry)) (rebuilding builder (areasOf (now (index .entry)) (now (filter .entry)) (now (starts .entry)) (now (lengths .entry)))) (source ∷ []) []) (refinish (now (scratch .entry)) ∷ lookup 1 (now («asked_key» .entry)) «asked_hash» «now_tick» ∷ [])) ⌝ }
 {
     let RebuildFinishAnswer::Finished(build) = make_refinish(
         builder,

@@ -16,7 +16,7 @@ returns c =
     let m = k .make-finish in
     let calls = lookup 0 (a .asked-key .now) (a .asked-hash) (a .now-tick) ∷ [] in
     let areas = areasOf (m .last .1 .1 .0) (a .filter .now) (m .last .1 .1 .1 .1 .0) (m .last .1 .1 .1 .1 .1 .0) in
-    goes-on calls (finishLeft [] (a .arena .now) areas) (c .enum-told .given .1) (m .ensures .1 [])
+    goes-on calls (finishLeft [] [] (a .arena .now) areas) (c .enum-told .given .1) (m .ensures .1 [] [])
 
 returns-2 : tie.Need-returns-2
 returns-2 c =
@@ -26,7 +26,7 @@ returns-2 c =
     let m = n .make-finish in
     let calls = lookup 0 (a .asked-key .now) (a .asked-hash) (a .now-tick) ∷ [] in
     let areas = areasOf (m .last .1 .1 .0) (a .filter .now) (m .last .1 .1 .1 .1 .0) (m .last .1 .1 .1 .1 .1 .0) in
-    rw (c .before .before .ask .ensures idle (setWith (k .cache .given .0 .0) areas ∷ []) 0 refl) (goes-on calls (finishLeft [] (a .arena .now) areas) (k .cache .given .1) (m .ensures .1 []))
+    rw (c .before .before .ask .ensures idle (setWith (k .cache .given .0 .0) areas ∷ []) [] 0 refl) (goes-on calls (finishLeft [] [] (a .arena .now) areas) (k .cache .given .1) (m .ensures .1 [] []))
 
 pub finish-and-ask-spec : {M : Type 1} → statement M
 finish-and-ask-spec =

@@ -16,7 +16,7 @@ returns c =
     let m = n .make-push in
     let calls = finish (a .target) (a .scratch .now) ∷ lookup 0 (a .asked-key .now) (a .asked-hash) (a .now-tick) ∷ [] in
     let areas = areasOf (m .last .1 .1 .1 .1 .1 .0) (m .last .1 .1 .1 .1 .1 .1 .0) (a .starts .now) (a .lengths .now) in
-    rw (k .finish-and-ask .ensures) (push-goes-on calls [] (m .last .1 .1 .1 .1 .1 .1 .1 .1 .1 .0) areas (m .result) (l .builder-after .ensures) (m .ensures .1 []))
+    rw (k .finish-and-ask .ensures) (push-goes-on calls [] [] (m .last .1 .1 .1 .1 .1 .1 .1 .1 .1 .0) areas (m .result) (l .builder-after .ensures) (m .ensures .1 [] []))
 
 pub push-once-spec : {M : Type 1} → statement M
 push-once-spec =

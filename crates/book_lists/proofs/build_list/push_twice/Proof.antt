@@ -17,7 +17,7 @@ returns c =
     let asked = lookup 0 (a .asked-key .now) (a .asked-hash) (a .now-tick) ∷ [] in
     let calls = push (a .second-key .now) (a .second-value .now) (a .second-hash) (a .second-ttl) ∷ finish (a .target) (a .scratch .now) ∷ asked in
     let areas = areasOf (m .last .1 .1 .1 .1 .1 .0) (m .last .1 .1 .1 .1 .1 .1 .0) (a .starts .now) (a .lengths .now) in
-    rw (k .push-once .ensures) (push-goes-on calls [] (m .last .1 .1 .1 .1 .1 .1 .1 .1 .1 .0) areas (m .result) (l .builder-after .ensures) (m .ensures .1 []))
+    rw (k .push-once .ensures) (push-goes-on calls [] [] (m .last .1 .1 .1 .1 .1 .1 .1 .1 .1 .0) areas (m .result) (l .builder-after .ensures) (m .ensures .1 [] []))
 
 pub push-twice-spec : {M : Type 1} → statement M
 push-twice-spec =

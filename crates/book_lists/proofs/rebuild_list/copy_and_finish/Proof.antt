@@ -17,7 +17,7 @@ returns c = λ source.
     let calls = refinish (a .scratch .now) ∷ lookup 1 (a .asked-key .now) (a .asked-hash) (a .now-tick) ∷ [] in
     let areas = areasOf (m .last .1 .1 .1 .1 .1 .0) (m .last .1 .1 .1 .1 .1 .1 .0) (a .starts .now) (a .lengths .now) in
     rw (k .refinish-and-ask .ensures source)
-    (repush-goes-on calls (source ∷ []) (m .last .1 .1 .1 .1 .1 .1 .1 .1 .1 .0) areas (m .result) (l .rebuild-after .ensures) (m .ensures .1 (source ∷ [])))
+    (repush-goes-on calls (source ∷ []) [] (m .last .1 .1 .1 .1 .1 .1 .1 .1 .1 .0) areas (m .result) (l .rebuild-after .ensures) (m .ensures .1 (source ∷ []) []))
 
 pub copy-and-finish-spec : {M : Type 1} → statement M
 copy-and-finish-spec =

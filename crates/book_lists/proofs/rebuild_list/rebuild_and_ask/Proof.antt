@@ -20,8 +20,8 @@ returns c =
     let lent = m .last .1 .1 .1 .1 .1 .1 .1 .1 .1 .1 in
     let areas = areasOf (lent .0) (lent .1 .0) (lent .1 .1 .0) (lent .1 .1 .1 .0) in
     let source = setWith (a .source) (areasOf (a .source-index .now) (a .source-filter .now) (a .source-starts .now) (a .source-lengths .now)) in
-    let w = worldOf (a .arena .now) idle (source ∷ []) in
-    goes-on calls (reopenLeft w areas) (c .enum-told .given .1) (m .ensures .1 idle (source ∷ []) refl)
+    let w = worldOf (a .arena .now) idle (source ∷ []) [] in
+    goes-on calls (reopenLeft w areas) (c .enum-told .given .1) (m .ensures .1 idle (source ∷ []) [] refl)
 
 same-length-6 : tie.Need-same-length-6
 same-length-6 c =
@@ -41,8 +41,8 @@ returns-2 c =
     let lent = m .last .1 .1 .1 .1 .1 .1 .1 .1 .1 .1 in
     let areas = areasOf (lent .0) (lent .1 .0) (lent .1 .1 .0) (lent .1 .1 .1 .0) in
     let source = setWith (a .source) (areasOf (a .source-index .now) (a .source-filter .now) (a .source-starts .now) (a .source-lengths .now)) in
-    let w = worldOf (a .arena .now) idle (source ∷ []) in
-    rw (k .reuse-and-copy .ensures source) (goes-on calls (reopenLeft w areas) (l .builder .given .1) (m .ensures .1 idle (source ∷ []) refl))
+    let w = worldOf (a .arena .now) idle (source ∷ []) [] in
+    rw (k .reuse-and-copy .ensures source) (goes-on calls (reopenLeft w areas) (l .builder .given .1) (m .ensures .1 idle (source ∷ []) [] refl))
 
 pub rebuild-and-ask-spec : {M : Type 1} → statement M
 rebuild-and-ask-spec =

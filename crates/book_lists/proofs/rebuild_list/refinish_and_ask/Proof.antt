@@ -16,7 +16,7 @@ returns c = λ source.
     let m = k .make-refinish in
     let calls = lookup 1 (a .asked-key .now) (a .asked-hash) (a .now-tick) ∷ [] in
     let areas = areasOf (m .last .1 .0) (a .filter .now) (m .last .1 .1 .1 .0) (m .last .1 .1 .1 .1 .0) in
-    goes-on calls (refinishLeft (source ∷ []) (a .arena .now) areas) (c .enum-told .given .1) (m .ensures .1 (source ∷ []))
+    goes-on calls (refinishLeft (source ∷ []) [] (a .arena .now) areas) (c .enum-told .given .1) (m .ensures .1 (source ∷ []) [])
 
 returns-2 : tie.Need-returns-2
 returns-2 c = λ source.
@@ -26,8 +26,8 @@ returns-2 c = λ source.
     let m = n .make-refinish in
     let calls = lookup 1 (a .asked-key .now) (a .asked-hash) (a .now-tick) ∷ [] in
     let areas = areasOf (m .last .1 .0) (a .filter .now) (m .last .1 .1 .1 .0) (m .last .1 .1 .1 .1 .0) in
-    rw (c .before .before .ask .ensures idle (source ∷ setWith (k .build .given .0 .0 .cache) areas ∷ []) 1 refl)
-    (goes-on calls (refinishLeft (source ∷ []) (a .arena .now) areas) (k .build .given .1) (m .ensures .1 (source ∷ [])))
+    rw (c .before .before .ask .ensures idle (source ∷ setWith (k .build .given .0 .0 .cache) areas ∷ []) [] 1 refl)
+    (goes-on calls (refinishLeft (source ∷ []) [] (a .arena .now) areas) (k .build .given .1) (m .ensures .1 (source ∷ []) []))
 
 pub refinish-and-ask-spec : {M : Type 1} → statement M
 refinish-and-ask-spec =

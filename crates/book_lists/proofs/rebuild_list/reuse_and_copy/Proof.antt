@@ -17,7 +17,7 @@ returns c = λ source.
     let asked = lookup 1 (a .asked-key .now) (a .asked-hash) (a .now-tick) ∷ [] in
     let calls = copy (a .key .now) (a .value .now) (a .hash) (a .ttl) ∷ refinish (a .scratch .now) ∷ asked in
     let areas = areasOf (m .last .1 .1 .1 .1 .1 .0) (m .last .1 .1 .1 .1 .1 .1 .0) (a .starts .now) (a .lengths .now) in
-    rw (k .copy-and-finish .ensures source) (repush-goes-on calls (source ∷ []) (a .arena .now) areas (m .result) (l .rebuild-after .ensures) (m .ensures .1 (source ∷ [])))
+    rw (k .copy-and-finish .ensures source) (repush-goes-on calls (source ∷ []) [] (a .arena .now) areas (m .result) (l .rebuild-after .ensures) (m .ensures .1 (source ∷ []) []))
 
 pub reuse-and-copy-spec : {M : Type 1} → statement M
 reuse-and-copy-spec =
