@@ -18,7 +18,7 @@ ghost use Rattle.capi.specs.Words.{askWidths, builderIn, builderWords, e
 
 pub const BUILDER_WORDS: usize = 13;
 
-pub(crate) const SET_WORDS: usize = 15;
+pub const SET_WORDS: usize = 15;
 
 pub const REBUILD_WORDS: usize = 22;
 
@@ -364,7 +364,7 @@ pub fn store_builder(out: &mut [u64], builder: SegmentCacheBuilder)
     );
 }
 
-pub(crate) fn store_set(out: &mut [u64], set: FrozenSegmentCache)
+pub fn store_set(out: &mut [u64], set: FrozenSegmentCache)
     ensures { λ r. ⌜ now (out .exit) ≡ stored (setWords set) (now (out .entry)) ⌝ }
 {
     store_state(

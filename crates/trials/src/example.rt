@@ -30,6 +30,24 @@ fn ask(set: FrozenSegmentCache, index: &mut [u64], starts: &[u64], lengths: &[u6
     get(set, 2, b"b", 70_000, index, starts, lengths, arena);
 }
 
+// Asks the set, shows the first words of its index, then what it is as a file.
+fn ask_and_write(
+    set: FrozenSegmentCache,
+    index: &mut [u64],
+    starts: &[u64],
+    lengths: &[u64],
+    arena: &[u8],
+) {
+    if index.len() < 3 {
+        return;
+    }
+    ask(set, index, starts, lengths, arena);
+    show::hex(b"control word", index[0]);
+    show::hex(b"index word 1", index[1]);
+    show::hex(b"index word 2", index[2]);
+    crate::file::run(set, &index[..], starts, lengths, arena);
+}
+
 pub(crate) fn run() {
     let mut index = [0u64; 8];
     let mut arena = [0u8; 16];
@@ -57,8 +75,5 @@ pub(crate) fn run() {
     ) else {
         return;
     };
-    ask(set, &mut index, &starts, &lengths, &arena);
-    show::hex(b"control word", index[0]);
-    show::hex(b"index word 1", index[1]);
-    show::hex(b"index word 2", index[2]);
+    ask_and_write(set, &mut index, &starts, &lengths, &arena);
 }

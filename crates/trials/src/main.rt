@@ -1,6 +1,7 @@
 // Document 01's trials, run: each line says what was asked and what came out.
 mod calls;
 mod example;
+mod file;
 mod orders;
 mod seventeen;
 mod targets;
