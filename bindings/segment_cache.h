@@ -13,8 +13,8 @@
  *
  * Ticks: the caller counts them, in units of the setting's tick length. A pushed record lapses its
  * lifetime after tick 0, whenever it is pushed, so let the count begin when the builder is opened; of a
- * lifetime that began before, give what is left at tick 0. A rebuilt set goes on with the same count: to
- * begin at 0 again shows lapsed records as live. A copied record lapses its lifetime after the tick given
+ * lifetime that began before, give what is left at tick 0. A rebuilt or loaded set goes on with the same
+ * count: to begin at 0 again shows lapsed records as live. A copied record lapses its lifetime after the tick given
  * to rebuild_open. To copy a record with what is left of its time, take that (probe, next_entry) at the
  * very tick given to rebuild_open; taken at an earlier one, the copy outlives the record. The library has
  * no clock and notices neither. The last deadline is tick 65,534; a record without one never lapses.
@@ -29,29 +29,32 @@
  *   lengths   uint64_t  SEGMENT_CACHE_SEGMENT_WORDS            from finish on, while the set is asked
  *   scratch   uint64_t  1 a bucket if packed, else none        during finish only
  *   arena     uint8_t   the records (encoded_record_bytes)     from open on, while any set over it is asked
+ *   file      uint8_t   as file_bytes tells                    during write_file or load_file only
  *
  * For a rebuild read rebuild_open and rebuild_finish; its starts and lengths live from rebuild_open on.
+ * For a loaded set read load_file in place of open, for all of its areas (file_needs tells how long).
  * "Asked" includes being the source of a rebuild. Longer areas are fine, up to an arena of
  * SEGMENT_CACHE_MAX_ARENA_BYTES; what lies past the words in use is never written. A value that was
- * found is a part of the arena, and stays there until a builder is opened in it.
+ * found is a part of the arena, and stays there until a builder is opened or a file is loaded in it.
  *
  * All other areas are read or written during the one call: setting, lifetime, key, value and keep flags
  * are read, and answers go to areas of exactly the length that segment_cache_words.h names (place, span,
- * record, stats, totals, area words; accessed, size and out are one word). The record of record_at has
- * SEGMENT_CACHE_STORED_WORDS.
+ * record, stats, totals, area words, needs; accessed, size, out and bytes are one word). The record of
+ * record_at has SEGMENT_CACHE_STORED_WORDS.
  *
  * Rules of lending, which the library can't check:
  *  - A slice is a pointer and a length in elements. The pointer is aligned for its element and never
  *    null, not even with length 0.
- *  - A slice that a call writes (a pointer to non-const) overlaps no other slice of that call.
+ *  - A slice that a call writes (a pointer to non-const) overlaps no other slice of that call. So the
+ *    bytes of a file overlap none of the areas that are lent with them.
  *  - Between calls nobody writes into the areas above, and each call gets them as the last one left
  *    them, all of the same set.
  *  - Two sets share no index, filter, starts, lengths or set words. They share an arena only in one
- *    line of rebuilds, each from the newest set of that arena. Opening a builder in an arena ends
- *    every set over it; opening a rebuild ends an unfinished one.
+ *    line of rebuilds, each from the newest set of that arena. Opening a builder or loading a file in
+ *    an arena ends every set over it; opening a rebuild ends an unfinished one.
  *  - While a call runs that writes an area (a pointer to non-const), no other call is lent that area.
- *    get and take_accessed write the set's index; peek, probe, next_entry, record_at and stats only read,
- *    and may run beside each other.
+ *    get and take_accessed write the set's index; peek, probe, next_entry, record_at, stats, file_bytes
+ *    and write_file only read the set, and may run beside each other.
  *
  * Every call but the functions without arguments returns 0 (accepted) or the number of a refusal, here
  * by the name that segment_cache_refusal_name gives it; enum segment_cache_refusal says when:
@@ -60,12 +63,14 @@
  *    2 ZeroExpiryTick            6 ExpiryOutOfRange        10 AreaTooShort
  *    3 CapacityOverflow          7 ArenaTooLarge           11 InvalidState
  *    4 DuplicateKey              8 InvalidSegmentTarget    12 RecordMismatch
+ *   13 FileFraming              14 FileKinds               15 FileContent
  *
  * A refusal changes no area, answers included, with one exception: finish refused with 7 leaves the
  * first 256 starts in `starts`. A builder or rebuild stays open after any refusal. Each call below lists
  * its refusals in the order in which it asks. In every call words of a wrong number or form are 11 before
- * anything else is asked. For what goes back to open or rebuild_open under the rules above 11 does not
- * occur otherwise, and there is always an empty slot (else pushes answer 3).
+ * anything else is asked. For what goes back to open or rebuild_open under the rules above, or to
+ * load_file of a file that was written from such a set, 11 does not occur otherwise, and there is always
+ * an empty slot (else pushes answer 3).
  *
  * Example: two records, a tick of one second.
  *
@@ -268,6 +273,50 @@ uint64_t segment_cache_rebuild_finish(const uint64_t *rebuild, size_t rebuild_le
                                       size_t scratch_len, const uint8_t *arena, size_t arena_len,
                                       uint64_t *set, size_t set_len, uint64_t *totals,
                                       size_t totals_len);
+
+/* ---- a set as a file
+
+   Five blocks, each a length of 4 bytes, a kind of 2 and as many bytes as the length says, all
+   little-endian: 1 the setting and counts, 2 the segments' lengths, 3 the index words, 4 the filter words,
+   5 the segments' bytes one after the other. Access marks don't travel: they are cleared by write_file and
+   by load_file. Of a rebuilt set only its own segments travel. Deadlines travel as ticks: a unit that
+   loads the file goes on with the writer's count of ticks, and its hashes are the writer's.
+
+   A file says nothing of who made it. One that is accepted has the right form; whether its index, filter
+   and counts fit its records is not asked. */
+
+/* The bytes that a set takes as a file, in bytes[0]. Refusals: 11, also where a segment leaves the filled
+   arena or the segments' lengths add up to more than SEGMENT_CACHE_MAX_ARENA_BYTES. */
+uint64_t segment_cache_file_bytes(const uint64_t *set, size_t set_len, const uint64_t *starts,
+                                  size_t starts_len, const uint64_t *lengths, size_t lengths_len,
+                                  uint64_t *bytes, size_t bytes_len);
+
+/* Writes a set to the front of the file area, and the file's length to bytes[0]; what lies behind the file
+   stays as it was. Refusals: 11, as of file_bytes, and 10. */
+uint64_t segment_cache_write_file(const uint64_t *set, size_t set_len, const uint64_t *index,
+                                  size_t index_len, const uint64_t *filter, size_t filter_len,
+                                  const uint64_t *starts, size_t starts_len,
+                                  const uint64_t *lengths, size_t lengths_len,
+                                  const uint8_t *arena, size_t arena_len, uint8_t *file,
+                                  size_t file_len, uint64_t *bytes, size_t bytes_len);
+
+/* How long the areas must be that a file is loaded into: words of index, filter, starts and lengths, and
+   bytes of the arena. Refusals: 11 (of the words alone), 13, 14, 15. */
+uint64_t segment_cache_file_needs(const uint8_t *file, size_t file_len, uint64_t *needs,
+                                  size_t needs_len);
+
+/* Loads a file, of exactly this length, into areas lent for its set. At the end index and filter begin with
+   the file's words, the arena with its segments' bytes; of starts and lengths the first
+   SEGMENT_CACHE_SEGMENT_WORDS are written, 0 past the last segment; what lies behind stays as it was. The
+   set's filled bytes are those of the file; lend a longer arena where it is to be rebuilt. Refusals: 11 (of
+   the words alone), 13, 14, 15, and 10, also for an arena above SEGMENT_CACHE_MAX_ARENA_BYTES. */
+uint64_t segment_cache_load_file(const uint8_t *file, size_t file_len, uint64_t *index,
+                                 size_t index_len, uint64_t *filter, size_t filter_len,
+                                 uint64_t *starts, size_t starts_len, uint64_t *lengths,
+                                 size_t lengths_len, uint8_t *arena, size_t arena_len,
+                                 uint64_t *set, size_t set_len);
+
+/* ---- how long areas must be */
 
 /* The words that index, filter, starts, lengths and scratch need for this many records, of a build or a
    rebuild. Refusals: 11 (of the words alone), 9, 1, 2, 3, as of open. */

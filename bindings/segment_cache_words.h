@@ -22,10 +22,16 @@ enum segment_cache_refusal {
     SEGMENT_CACHE_INVALID_SEGMENT_TARGET = 8,   /* target is not 1 to 100,663,296 */
     SEGMENT_CACHE_INVALID_NANOSECONDS = 9,      /* 1,000,000,000 nanoseconds or more */
     SEGMENT_CACHE_AREA_TOO_SHORT = 10,          /* an area or the arena's rest is too short, or the
-                                                   arena too long at open */
+                                                   arena too long at open or load_file */
     SEGMENT_CACHE_INVALID_STATE = 11,           /* state and areas contradict each other, or words have
                                                    a wrong number or form */
-    SEGMENT_CACHE_RECORD_MISMATCH = 12          /* no such record at the location to reuse */
+    SEGMENT_CACHE_RECORD_MISMATCH = 12,         /* no such record at the location to reuse */
+    SEGMENT_CACHE_FILE_FRAMING = 13,            /* a block runs past the file's end, or bytes follow
+                                                   the fifth */
+    SEGMENT_CACHE_FILE_KINDS = 14,              /* a kind is missing, unknown or out of place */
+    SEGMENT_CACHE_FILE_CONTENT = 15             /* a number of the file is out of its bounds, a block's
+                                                   length doesn't fit the counts, or the segments'
+                                                   lengths don't add up */
 };
 
 /* ---- limits and lengths in words */
@@ -41,6 +47,7 @@ enum segment_cache_refusal {
 #define SEGMENT_CACHE_REBUILD_WORDS 22
 #define SEGMENT_CACHE_SEGMENT_WORDS 256
 #define SEGMENT_CACHE_AREA_WORDS 5
+#define SEGMENT_CACHE_NEEDS_WORDS 5
 #define SEGMENT_CACHE_PLACE_WORDS 2
 #define SEGMENT_CACHE_SPAN_WORDS 3
 #define SEGMENT_CACHE_RECORD_WORDS 12
@@ -106,6 +113,15 @@ enum segment_cache_area_word {
     SEGMENT_CACHE_AREA_STARTS = 2,
     SEGMENT_CACHE_AREA_LENGTHS = 3,
     SEGMENT_CACHE_AREA_SCRATCH = 4
+};
+
+/* Of a file: as above, and in the last word the bytes of the arena. */
+enum segment_cache_needs_word {
+    SEGMENT_CACHE_NEEDS_INDEX = 0,
+    SEGMENT_CACHE_NEEDS_FILTER = 1,
+    SEGMENT_CACHE_NEEDS_STARTS = 2,
+    SEGMENT_CACHE_NEEDS_LENGTHS = 3,
+    SEGMENT_CACHE_NEEDS_ARENA = 4
 };
 
 enum segment_cache_place_word { SEGMENT_CACHE_PLACE_SLOT = 0, SEGMENT_CACHE_PLACE_LOCATION = 1 };
@@ -230,8 +246,8 @@ static inline const char *segment_cache_refusal_name(uint64_t refusal) {
         "Accepted",          "InvalidBucketOccupancy", "ZeroExpiryTick",       "CapacityOverflow",
         "DuplicateKey",      "ExpiryDisabled",         "ExpiryOutOfRange",     "ArenaTooLarge",
         "InvalidSegmentTarget", "InvalidNanoseconds",  "AreaTooShort",         "InvalidState",
-        "RecordMismatch"};
-    return refusal <= SEGMENT_CACHE_RECORD_MISMATCH ? names[refusal] : "unknown";
+        "RecordMismatch",    "FileFraming",            "FileKinds",            "FileContent"};
+    return refusal <= SEGMENT_CACHE_FILE_CONTENT ? names[refusal] : "unknown";
 }
 
 /* A hash for keys: FNV-1a, then the finisher of MurmurHash3. FNV-1a alone leaves the upper bits of short

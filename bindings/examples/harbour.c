@@ -1,7 +1,7 @@
 /*
  * Depths by cell and notes of a harbour, some with a lapse time: built, asked before and after they
- * lapse, stepped through segment by segment, and rebuilt after a new survey. Prints what it finds; any
- * call that is refused unexpectedly ends it with status 1.
+ * lapse, stepped through segment by segment, rebuilt after a new survey, written as a file and loaded.
+ * Prints what it finds; any call that is refused unexpectedly ends it with status 1.
  */
 #include <stdio.h>
 #include <stdlib.h>
@@ -12,6 +12,7 @@
 #define ARENA_BYTES 1024
 #define SEGMENT_TARGET 32
 #define MINUTES 60
+#define FILE_BYTES 512
 
 static uint8_t arena[ARENA_BYTES];
 
@@ -285,6 +286,57 @@ static void rebuild(const struct set *source, struct set *set, uint64_t tick) {
            (int)totals[SEGMENT_CACHE_TOTALS_COPIED_RECORD_BYTES]);
 }
 
+/* The set as a file; its length is returned. */
+static size_t write_file(const struct set *set, uint8_t *file) {
+    uint64_t size[1];
+    must(segment_cache_file_bytes(set->words, SEGMENT_CACHE_SET_WORDS, set->starts,
+                                  SEGMENT_CACHE_SEGMENT_WORDS, set->lengths,
+                                  SEGMENT_CACHE_SEGMENT_WORDS, size, 1),
+         "file_bytes");
+    if (size[0] > FILE_BYTES) exit(1);
+    must(segment_cache_write_file(set->words, SEGMENT_CACHE_SET_WORDS, set->index, 8, set->filter, 1,
+                                  set->starts, SEGMENT_CACHE_SEGMENT_WORDS, set->lengths,
+                                  SEGMENT_CACHE_SEGMENT_WORDS, arena, ARENA_BYTES, file, FILE_BYTES,
+                                  size, 1),
+         "write_file");
+    printf("written: a file of %d bytes\n", (int)size[0]);
+    return size[0];
+}
+
+/* Loads a file into the arena, where that ends every other set. */
+static void load_file(const uint8_t *file, size_t file_len, struct set *set) {
+    uint64_t needs[SEGMENT_CACHE_NEEDS_WORDS];
+    printf("without its last byte: %s\n",
+           segment_cache_refusal_name(segment_cache_file_needs(file, file_len - 1, needs,
+                                                               SEGMENT_CACHE_NEEDS_WORDS)));
+    must(segment_cache_file_needs(file, file_len, needs, SEGMENT_CACHE_NEEDS_WORDS), "file_needs");
+    printf("its needs: index %d, filter %d words, arena %d bytes\n",
+           (int)needs[SEGMENT_CACHE_NEEDS_INDEX], (int)needs[SEGMENT_CACHE_NEEDS_FILTER],
+           (int)needs[SEGMENT_CACHE_NEEDS_ARENA]);
+    must(segment_cache_load_file(file, file_len, set->index, 8, set->filter, 1, set->starts,
+                                 SEGMENT_CACHE_SEGMENT_WORDS, set->lengths,
+                                 SEGMENT_CACHE_SEGMENT_WORDS, arena, ARENA_BYTES, set->words,
+                                 SEGMENT_CACHE_SET_WORDS),
+         "load_file");
+    printf("loaded: %d records, %d segments, %d bytes\n",
+           (int)set->words[SEGMENT_CACHE_SET_ENTRIES], (int)set->words[SEGMENT_CACHE_SET_SEGMENTS],
+           (int)set->words[SEGMENT_CACHE_SET_FILLED]);
+}
+
+/* Marks don't travel: what was asked before the file was written is not asked in the loaded set. */
+static void travel(const struct set *set) {
+    static uint8_t file[FILE_BYTES];
+    static struct set loaded;
+    load_file(file, write_file(set, file), &loaded);
+    take_mark(&loaded, "Aurora");
+    ask(&loaded, "loaded", "cell 1205", 59);
+    ask(&loaded, "loaded", "cell 1205", 60);
+    ask(&loaded, "loaded", "Aurora", 359);
+    take_mark(&loaded, "Aurora");
+    walk(&loaded, 31);
+    step_segments(&loaded);
+}
+
 int main(void) {
     static struct set first;
     build(&first);
@@ -309,5 +361,6 @@ int main(void) {
     ask(&first, "first", "cell 1204", 31);
     walk(&second, 31);
     step_segments(&second);
+    travel(&second);
     return 0;
 }

@@ -1,7 +1,8 @@
 //! Depths by cell and notes of a harbour, some with a lapse time: built, asked before and after they
-//! lapse, stepped through segment by segment, and rebuilt after a new survey. Prints the lines of harbour.c.
+//! lapse, stepped through segment by segment, rebuilt after a new survey, written as a file and loaded. Prints
+//! the lines of harbour.c.
 use segment_cache::{
-    AreaWords, Arena, Builder, Refusal, Remaining, Set, Setting, StoredRecord, hash,
+    AreaWords, Arena, Builder, FileNeeds, Refusal, Remaining, Set, Setting, StoredRecord, hash,
 };
 use std::time::Duration;
 
@@ -189,7 +190,42 @@ fn rebuild_and_ask(arena: &mut Arena, first: &mut Set) -> Result<(), Refusal> {
     ask(&mut second, arena, "second", "Aurora", 360)?;
     ask(first, arena, "first", "cell 1204", 31)?;
     walk(&second, arena, 31)?;
-    step_segments(&second, arena)
+    step_segments(&second, arena)?;
+    travel(arena, &second)
+}
+
+// Loads a file into the arena, where that ends every other set.
+fn load_file(arena: &mut Arena, file: &[u8]) -> Result<Set, Refusal> {
+    if let Err(refusal) = FileNeeds::of(&file[..file.len() - 1]) {
+        println!("without its last byte: {refusal:?}");
+    }
+    let needs = FileNeeds::of(file)?;
+    println!(
+        "its needs: index {}, filter {} words, arena {} bytes",
+        needs.index, needs.filter, needs.arena
+    );
+    let set = Set::from_file(arena, file)?;
+    println!(
+        "loaded: {} records, {} segments, {} bytes",
+        set.len(),
+        set.segments(),
+        set.filled_bytes()
+    );
+    Ok(set)
+}
+
+// Marks don't travel: what was asked before the file was written is not asked in the loaded set.
+fn travel(arena: &mut Arena, set: &Set) -> Result<(), Refusal> {
+    let file = set.to_file(arena)?;
+    println!("written: a file of {} bytes", file.len());
+    let mut loaded = load_file(arena, &file)?;
+    take_mark(&mut loaded, arena, "Aurora")?;
+    ask(&mut loaded, arena, "loaded", "cell 1205", 59)?;
+    ask(&mut loaded, arena, "loaded", "cell 1205", 60)?;
+    ask(&mut loaded, arena, "loaded", "Aurora", 359)?;
+    take_mark(&mut loaded, arena, "Aurora")?;
+    walk(&loaded, arena, 31)?;
+    step_segments(&loaded, arena)
 }
 
 fn main() -> Result<(), Refusal> {

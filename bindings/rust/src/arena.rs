@@ -6,7 +6,7 @@ use std::sync::atomic::{AtomicU64, Ordering};
 // Numbers of lines are unique in the process, so that a set can't be asked with another's arena.
 static NEXT_LINE: AtomicU64 = AtomicU64::new(0);
 
-// A line of rebuilds begins where a builder is opened; its sets are numbered from 1.
+// A line of rebuilds begins where a builder is opened or a file is loaded; its sets are numbered from 1.
 #[derive(Clone, Copy, Debug, PartialEq, Eq)]
 pub(crate) struct Stamp {
     line: u64,
@@ -14,8 +14,8 @@ pub(crate) struct Stamp {
 }
 
 /// The bytes that records stand in. All sets of one line of rebuilds share an arena: they read it, and
-/// a rebuild only appends to it, so that older sets can still be asked. Opening a new builder in an
-/// arena ends the sets that stand in it; they then answer [`Refusal::InvalidState`].
+/// a rebuild only appends to it, so that older sets can still be asked. Opening a new builder or loading a
+/// file in an arena ends the sets that stand in it; they then answer [`Refusal::InvalidState`].
 pub struct Arena {
     bytes: Vec<u8>,
     newest: Stamp,

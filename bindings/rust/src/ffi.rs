@@ -233,6 +233,39 @@ export!(fn segment_cache_area_words(
     words: &mut [u64],
 ));
 
+export!(fn segment_cache_file_bytes(
+    set: &[u64],
+    starts: &[u64],
+    lengths: &[u64],
+    bytes: &mut [u64],
+));
+
+export!(fn segment_cache_write_file(
+    set: &[u64],
+    index: &[u64],
+    filter: &[u64],
+    starts: &[u64],
+    lengths: &[u64],
+    arena: &[u8],
+    file: &mut [u8],
+    bytes: &mut [u64],
+));
+
+export!(fn segment_cache_file_needs(
+    file: &[u8],
+    needs: &mut [u64],
+));
+
+export!(fn segment_cache_load_file(
+    file: &[u8],
+    index: &mut [u64],
+    filter: &mut [u64],
+    starts: &mut [u64],
+    lengths: &mut [u64],
+    arena: &mut [u8],
+    set: &mut [u64],
+));
+
 // The crate has these three as constants; tests of the library ask for them.
 #[allow(dead_code)]
 unsafe extern "C" {

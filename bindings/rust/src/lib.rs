@@ -9,6 +9,7 @@
 //! - [`SegmentRecords`] steps through a segment without the index.
 //! - [`Rebuild`] makes the next set out of the newest one, while older ones can still
 //!   be asked.
+//! - [`Set::to_file`] writes a set as a file, and [`Set::from_file`] loads it.
 //!
 //! Hash and tick come from the caller.
 //!
@@ -23,8 +24,8 @@
 //!
 //! The caller counts ticks, in units of the setting's tick length. A pushed record lapses its lifetime
 //! after tick 0, whenever it is pushed, so let the count begin when the builder is opened; of a lifetime
-//! that began before, give what is left at tick 0. A rebuilt set goes on with the same count: to begin at
-//! 0 again shows lapsed records as live. A copied record lapses its lifetime after [`Plan::now_tick`].
+//! that began before, give what is left at tick 0. A rebuilt or loaded set goes on with the same count: to
+//! begin at 0 again shows lapsed records as live. A copied record lapses its lifetime after [`Plan::now_tick`].
 //! [`Rebuild::copy`] copies a record with what is left of its time; with [`Rebuild::push_copied`] take what
 //! is left at that very tick, since with what was left at an earlier one the copy outlives the record. The
 //! library has no clock and notices neither.
@@ -43,6 +44,7 @@ mod arena;
 mod builder;
 mod entry;
 mod ffi;
+mod file;
 mod hash;
 mod rebuild;
 mod refusal;
@@ -55,6 +57,7 @@ pub use areas::AreaWords;
 pub use arena::Arena;
 pub use builder::{Builder, Placed};
 pub use entry::{Entries, Entry, OwnedEntry, Place, Remaining};
+pub use file::FileNeeds;
 pub use hash::hash;
 pub use rebuild::{Plan, Rebuild, Rebuilt};
 pub use refusal::{Refusal, Unfinished};

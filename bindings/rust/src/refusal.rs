@@ -24,15 +24,23 @@ pub enum Refusal {
     InvalidSegmentTarget = 8,
     /// Nanoseconds of a second or more; [`std::time::Duration`] has none.
     InvalidNanoseconds = 9,
-    /// The arena's rest is too short for the record, or the arena is too long at open.
+    /// The arena's rest is too short for the record, the arena is too long at open or load, or too short for
+    /// a file's records.
     AreaTooShort = 10,
     /// Set and arena don't belong together, or the set to rebuild from isn't the newest.
     InvalidState = 11,
     /// No such record stands at the location to reuse.
     RecordMismatch = 12,
+    /// A block of the file runs past its end, or bytes follow the fifth.
+    FileFraming = 13,
+    /// A kind of block is missing, unknown or out of place.
+    FileKinds = 14,
+    /// A number of the file is out of its bounds, a block's length doesn't fit the counts, or the segments'
+    /// lengths don't add up.
+    FileContent = 15,
 }
 
-const ALL: [Refusal; 12] = [
+const ALL: [Refusal; 15] = [
     Refusal::InvalidBucketOccupancy,
     Refusal::ZeroExpiryTick,
     Refusal::CapacityOverflow,
@@ -45,10 +53,13 @@ const ALL: [Refusal; 12] = [
     Refusal::AreaTooShort,
     Refusal::InvalidState,
     Refusal::RecordMismatch,
+    Refusal::FileFraming,
+    Refusal::FileKinds,
+    Refusal::FileContent,
 ];
 
 impl Refusal {
-    /// The refusal's number, 1 to 12.
+    /// The refusal's number, 1 to 15.
     pub fn number(self) -> u64 {
         self as u64
     }

@@ -18,9 +18,9 @@ const ENTRIES: usize = 6;
 const SEGMENTS: usize = 9;
 const FILLED: usize = 10;
 
-/// A frozen set of records. It owns its index and refers to the arena that it was built in, which is
-/// lent to each call; with another arena, or one in which another builder was opened since, every call
-/// answers [`Refusal::InvalidState`].
+/// A frozen set of records. It owns its index and refers to the arena that it was built in or loaded into,
+/// which is lent to each call; with another arena, or one in which another builder was opened or a file was
+/// loaded since, every call answers [`Refusal::InvalidState`].
 ///
 /// ```
 /// use segment_cache::{Arena, Builder, Refusal, Setting};
