@@ -5,6 +5,7 @@ pub mod calls {
     pub mod all;
     pub mod areas;
     pub mod build;
+    pub mod files;
     pub mod lookups;
     pub mod steps;
 }
@@ -20,6 +21,7 @@ pub mod index {
 }
 pub mod lines {
     use super::{calls, oracle};
+    mod files;
     pub mod line;
     mod list;
     pub mod lists;

@@ -11,6 +11,13 @@ mod calls {
     pub mod records;
     pub mod world;
 }
+mod files {
+    pub mod bounds;
+    pub mod damage;
+    pub mod group;
+    pub mod load;
+    pub mod sets;
+}
 mod forged {
     pub mod arenas;
     pub mod calls;
@@ -38,6 +45,7 @@ mod lines {
 mod model {
     pub mod book;
     pub mod calls;
+    pub mod files;
     pub mod index;
     pub mod lookups;
     pub mod rebuilds;
@@ -165,6 +173,7 @@ fn sets(run: &mut Run) {
     run.group("forged states and areas", forged::states::states);
     run.group("forged rebuilds and areas", forged::rebuilds::states);
     run.group("forged words, records and segments", forged::calls::calls);
+    run.group("files", files::group::files);
 }
 
 // The two builds are what they should be: the segment target of each, and the stub for the hash.

@@ -1,5 +1,6 @@
-// What must hold after a call: an answer of document 01, and nothing changed but what it may change.
+// What must hold after a call: an answer of documents 01 and 02, and nothing changed but what it may change.
 use crate::exports::Export;
+use crate::files;
 use crate::lent::Role::*;
 use crate::lent::{Lent, Role};
 use crate::world::{World, size, word_of};
@@ -83,6 +84,10 @@ fn may_write(name: &str, role: Role, before: &World, lent: &Lent) -> Range<usize
         ("rebuild_finish", Index) => packed(Rebuild, 8 * old(Rebuild, 8)),
         ("rebuild_finish", Scratch) => packed(Rebuild, old(Rebuild, 8)),
         ("get" | "take_accessed", Index) => 0..8 * old(Set, 7),
+        ("write_file", File) => 0..new(Out, 0),
+        ("load_file", Index) => 0..8 * new(Set, 7),
+        ("load_file", Filter) => 0..new(Set, 8),
+        ("load_file", Arena) => 0..new(Set, 10),
         (_, Starts | Lengths) => 0..256,
         _ => 0..usize::MAX,
     }
@@ -90,6 +95,9 @@ fn may_write(name: &str, role: Role, before: &World, lent: &Lent) -> Range<usize
 
 // What is handed out lies in the filled arena, and its flag is 0 or 1.
 fn told(name: &str, before: &World, lent: &Lent) -> Option<String> {
+    if let Some(right) = files::right(name, before, lent) {
+        return (!right).then(|| "the file or the set that it holds is not so".to_string());
+    }
     let out = lent.places[Out as usize]?;
     let word = |at| word_of(out.content(), at);
     let filled = before.word(Set, 10);

@@ -1,5 +1,6 @@
 // Damage to a call: words, lengths, contents and numbers that no call has left so.
 use crate::exports::Export;
+use crate::files;
 use crate::lent::Role::{self, *};
 use crate::rng::Rng;
 use crate::world::{World, size};
@@ -53,7 +54,10 @@ pub fn some(rng: &mut Rng, export: &Export, world: &mut World) {
     }
     for _ in 0..=rng.below(3) {
         let role = rng.pick(&roles);
-        let state = roles.iter().find(|role| is_state(**role));
+        let state = match export.reads(File) {
+            true => Some(&File),
+            false => roles.iter().find(|role| is_state(**role)),
+        };
         match rng.below(8) {
             0 | 1 => number(rng, world),
             2 => length(rng, world, role),
@@ -96,10 +100,12 @@ fn content(rng: &mut Rng, world: &mut World, role: Role) {
     if len == 0 {
         return;
     }
-    // A state begins with its setting, in which most things can be wrong.
-    let at = match is_state(role) && rng.one_in(2) {
-        true => rng.index(len.min(6)),
-        false => rng.index(len),
+    // A state begins with its setting, in which most things can be wrong; a file with its numbers.
+    let at = match role {
+        _ if is_state(role) && rng.one_in(2) => rng.index(len.min(6)),
+        File if rng.one_in(2) => rng.index(len.min(64)),
+        File if rng.one_in(2) => files::header(rng, world.area(File)),
+        _ => rng.index(len),
     };
     if role.is_bytes() {
         let byte = other(rng, world.area(role)[at].into()) as u8;

@@ -1,6 +1,7 @@
 // One line of sets from open on: what call comes next, and the areas and numbers for it. Calls of this
 // kind are mostly accepted; the damage is done to them afterwards.
 use crate::exports::EXPORTS;
+use crate::files;
 use crate::lent::Role::{self, *};
 use crate::rng::Rng;
 use crate::world::World;
@@ -39,6 +40,9 @@ pub struct Episode {
     // The slot from which a walk goes on, and the place from which steps through a segment do.
     from: u64,
     step: Step,
+    // The last file that was written, and the set's words.
+    file: Vec<u8>,
+    written: World,
 }
 
 #[derive(Clone, Copy, Default)]
@@ -79,6 +83,8 @@ impl Episode {
             stored: Vec::new(),
             from: 0,
             step: Step::default(),
+            file: Vec::new(),
+            written: World::empty(),
         };
         size_areas(rng, &mut episode.world, Setting, records);
         episode
@@ -128,7 +134,7 @@ impl Episode {
     }
 
     fn ask(&self, rng: &mut Rng) -> &'static str {
-        match rng.below(28) {
+        match rng.below(34) {
             0..5 => "get",
             5..7 => "peek",
             7..10 => "take_accessed",
@@ -136,6 +142,11 @@ impl Episode {
             13..20 => "next_entry",
             20 => "stats",
             21..25 => "record_at",
+            25 => "file_bytes",
+            26 | 27 => "write_file",
+            28..31 if self.file.is_empty() => "write_file",
+            28 => "file_needs",
+            29 | 30 => "load_file",
             _ => "rebuild_open",
         }
     }
@@ -157,7 +168,7 @@ impl Episode {
             "push" | "push_reused" | "push_copied" => 2,
             "get" | "peek" => 3,
             "rebuild_finish" => 4,
-            "area_words" => 5,
+            "area_words" | "file_needs" => 5,
             "stats" => 8,
             "record_at" => 9,
             "probe" | "next_entry" => 12,
@@ -178,6 +189,12 @@ impl Episode {
             "push_reused" => self.reused(rng, world),
             "rebuild_open" => self.opened(rng, world),
             "record_at" => self.stepped(rng, world),
+            "write_file" => files::room(rng, world),
+            "file_needs" => world.set_bytes(File, &self.file),
+            "load_file" => {
+                world.set_bytes(File, &self.file);
+                files::areas(rng, &self.written, world);
+            }
             _ => (),
         }
     }
@@ -301,10 +318,15 @@ impl Episode {
             self.go_on(&world);
             return;
         }
+        if EXPORTS[number].name == "write_file" {
+            self.file = world.area(File).to_vec();
+            self.file.truncate(world.word(Out, 0) as usize);
+            self.written = world.clone();
+        }
         self.world = world;
         match EXPORTS[number].name {
             "open" => self.stage = Stage::Building,
-            "finish" | "rebuild_finish" => {
+            "finish" | "rebuild_finish" | "load_file" => {
                 (self.stage, self.from) = (Stage::Finished, 0);
                 self.step = Step::default();
                 self.stored.clear();

@@ -1,4 +1,4 @@
-// The 22 exports: what each may answer, the areas and numbers that it is lent, and how it is called.
+// The 26 exports: what each may answer, the areas and numbers that it is lent, and how it is called.
 use crate::ffi::*;
 use crate::lent::Role::*;
 use crate::lent::{Lent, Numbers, Role};
@@ -72,14 +72,14 @@ macro_rules! count {
             name: $name,
             answers: &[0],
             areas: &[],
-            call: |_, _| if $call() == $right { 0 } else { 13 },
+            call: |_, _| if $call() == $right { 0 } else { 99 },
         }
     };
 }
 
 // 11 is also the answer to words of a wrong number or form.
 #[rustfmt::skip]
-pub const EXPORTS: [Export; 22] = [
+pub const EXPORTS: [Export; 26] = [
     export!("open", [0, 1, 2, 3, 9, 10, 11], segment_cache_open(
         words Setting, number count, words_mut Builder, words_mut Index, words_mut Filter, words Starts,
         words Lengths, bytes Arena,
@@ -146,6 +146,18 @@ pub const EXPORTS: [Export; 22] = [
         words Stats, words_mut Out,
     )),
     export!("index_load_bps", [0, 11], segment_cache_index_load_bps(words Stats, words_mut Out)),
+    export!("file_bytes", [0, 11], segment_cache_file_bytes(
+        words Set, words Starts, words Lengths, words_mut Out,
+    )),
+    export!("write_file", [0, 10, 11], segment_cache_write_file(
+        words Set, words Index, words Filter, words Starts, words Lengths, bytes Arena, bytes_mut File,
+        words_mut Out,
+    )),
+    export!("file_needs", [0, 11, 13, 14, 15], segment_cache_file_needs(bytes File, words_mut Out)),
+    export!("load_file", [0, 10, 11, 13, 14, 15], segment_cache_load_file(
+        bytes File, words_mut Index, words_mut Filter, words_mut Starts, words_mut Lengths,
+        bytes_mut Arena, words_mut Set,
+    )),
     count!("builder_words", segment_cache_builder_words, 13),
     count!("set_words", segment_cache_set_words, 15),
     count!("rebuild_words", segment_cache_rebuild_words, 22),

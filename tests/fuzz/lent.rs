@@ -33,11 +33,12 @@ roles!(
     Key,
     Value,
     Keep,
+    File,
 );
 
 impl Role {
     pub fn is_bytes(self) -> bool {
-        matches!(self, Arena | Key | Value | Keep)
+        matches!(self, Arena | Key | Value | Keep | File)
     }
 }
 

@@ -5,6 +5,7 @@ mod check;
 mod damage;
 mod episode;
 mod exports;
+mod files;
 mod guarded;
 mod lent;
 mod tally;

@@ -5,6 +5,7 @@ use super::oracle::access::SEGMENT_TARGET;
 use super::oracle::access_index::Setting;
 use crate::calls::records::{Entry, entries, total};
 use crate::calls::world::{By, model, port};
+use crate::files::load::loaded;
 use crate::full::records::made;
 use crate::report::Group;
 use crate::rng::Rng;
@@ -159,6 +160,14 @@ fn asked(group: &mut Group, rng: &mut Rng, by: By, about: &str, setting: Setting
         return;
     };
     set.stats(group);
+    // Every set is loaded from its file; every second one goes on so.
+    let file = set.written(group);
+    if rng.one_in(2) {
+        set.load(group, &file);
+        set.stats(group);
+    } else {
+        loaded(group, by, about, &file);
+    }
     // Of many records a part is asked in every way.
     let one_in = if list.len() > 1_000 { 8 } else { 1 };
     set.lookups(group, rng, list, one_in);
@@ -168,6 +177,7 @@ fn asked(group: &mut Group, rng: &mut Rng, by: By, about: &str, setting: Setting
         set.walk(group, rng.below(65_535));
     }
     set.steps(group);
+    set.written_again(group, &file);
     set.end(group);
 }
 

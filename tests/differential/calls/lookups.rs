@@ -43,6 +43,23 @@ impl Finished {
         }
     }
 
+    // Who answers, and one call with nothing compared.
+    pub(super) fn answers(&self) -> By {
+        self.by
+    }
+
+    pub(super) fn ask(&mut self, ask: &Ask) -> u64 {
+        (self.by)(&mut self.world, ask, ask.answer())
+    }
+
+    // In other areas, with the same set of the Rust.
+    pub(super) fn go_on(&mut self, about: String, mut world: World) {
+        self.plain = world.kept();
+        self.filled = world.set[10] as usize;
+        self.world = world;
+        self.about = about;
+    }
+
     // With a set that was put together from the areas.
     pub fn put_together(self) -> Finished {
         Finished { own: false, ..self }

@@ -21,10 +21,17 @@ pub fn orders(group: &mut Group, random: u64) {
     targets(group, &mut rng);
     settings(group);
     sizes(group, &mut rng, random / 12);
+    let mut loads = 0;
     for _ in 0..random / 6_000 {
-        list_of_calls(group, &mut rng);
+        loads += list_of_calls(group, &mut rng);
     }
+    group.rule("files loaded", loads > random / 60_000, true, || {
+        loads.to_string()
+    });
 }
+
+// Room for the files of lists.
+const FILE: usize = 1 << 15;
 
 // Each bit of a number is one reason why an open is refused.
 fn opens(group: &mut Group) {
@@ -259,8 +266,9 @@ fn methods_by_model(group: &mut Group, stats: &[u64]) {
     }
 }
 
-// Any calls in any order on one world, many of them refused: on the builder after a finish too.
-fn list_of_calls(group: &mut Group, rng: &mut Rng) {
+// Any calls in any order on one world, many of them refused: on the builder after a finish too, and on all
+// that stands there after a load. How many files were loaded comes back.
+fn list_of_calls(group: &mut Group, rng: &mut Rng) -> u64 {
     let on = rng.below(2);
     let setting = [
         on,
@@ -275,14 +283,27 @@ fn list_of_calls(group: &mut Group, rng: &mut Rng) {
     made(rng, &setting, count, &mut stages);
     let start = rng.index(stages.len());
     let Some(stage) = stages.get(start) else {
-        return;
+        return 0;
     };
-    let (mut ours, mut wanted) = (stage.world.clone(), stage.world.clone());
+    let mut ours = stage.world.clone();
+    ours.room_for_file(FILE);
+    let mut wanted = ours.clone();
     let about = format!("list of calls, {}", stage.name);
+    let mut loads = 0;
     for _ in 0..60 {
         let ask = any_call(rng, &stage.list);
-        on_both(group, &about, &mut ours, &mut wanted, &ask, ask.answer());
+        let number = on_both(group, &about, &mut ours, &mut wanted, &ask, ask.answer());
+        // A file that was written is lent as it is, until the next one is.
+        let size = match (ask, number) {
+            (Ask::WriteFile, 0) => wanted.out[0] as usize,
+            (Ask::LoadFile, _) => FILE + 3,
+            _ => continue,
+        };
+        ours.lent.file = size;
+        wanted.lent.file = size;
+        loads += u64::from(matches!(ask, Ask::LoadFile) && number == 0);
     }
+    loads
 }
 
 fn any_call<'a>(rng: &mut Rng, list: &'a [Entry]) -> Ask<'a> {
@@ -295,7 +316,11 @@ fn any_call<'a>(rng: &mut Rng, list: &'a [Entry]) -> Ask<'a> {
         }
     };
     let tick = rng.pick(&[0, 1, 2, 1_000, 65_534, u64::MAX]);
-    match rng.below(40) {
+    match rng.below(46) {
+        40 => Ask::FileBytes,
+        41 | 42 => Ask::WriteFile,
+        43 => Ask::FileNeeds,
+        44 | 45 => Ask::LoadFile,
         0 => Ask::Open {
             records: list.len() as u64,
         },

@@ -16,6 +16,8 @@ pub struct World {
     pub lengths: Vec<u64>,
     pub scratch: Vec<u64>,
     pub arena: Vec<u8>,
+    // A file that is written or loaded; nothing of it is lent but for that.
+    pub file: Vec<u8>,
     // Empty but for a rebuild.
     pub rebuild: Vec<u64>,
     pub source: Source,
@@ -41,6 +43,7 @@ pub struct Sizes {
     pub lengths: usize,
     pub scratch: usize,
     pub arena: usize,
+    pub file: usize,
 }
 
 impl Sizes {
@@ -54,6 +57,7 @@ impl Sizes {
             lengths: 259,
             scratch: buckets + 3,
             arena: (arena + 3).min(ARENA_MAX as usize),
+            file: 0,
         }
     }
 }
@@ -86,6 +90,7 @@ impl World {
             lengths: word_pattern(lent.lengths + 3),
             scratch: word_pattern(lent.scratch + 3),
             arena: pattern(lent.arena + 3),
+            file: pattern(lent.file + 3),
             rebuild: Vec::new(),
             source: Source::default(),
             out: vec![UNSET; OUT],
@@ -103,6 +108,12 @@ impl World {
             lengths: source.lengths[..source.lent.lengths].to_vec(),
         };
         world
+    }
+
+    // An area for a file of so many bytes, three longer, with three more behind.
+    pub fn room_for_file(&mut self, bytes: usize) {
+        self.file = pattern(bytes + 6);
+        self.lent.file = bytes + 3;
     }
 
     // A copy to compare with later. A large arena is not in it: what is filled there stands in the
@@ -158,8 +169,14 @@ impl World {
                 return format!("{name} {at}: {port:#x}, wanted {wanted:x?}");
             }
         }
-        let at = (0..self.arena.len()).find(|&i| self.arena.get(i) != other.arena.get(i));
-        format!("arena {at:?}")
+        let areas = [&self.file, &self.arena]
+            .into_iter()
+            .zip([&other.file, &other.arena]);
+        let first = |(port, wanted): (&Vec<u8>, &Vec<u8>)| {
+            (0..port.len()).find(|&i| port.get(i) != wanted.get(i))
+        };
+        let [file, arena] = [0, 1].map(|i| areas.clone().nth(i).and_then(first));
+        format!("file {file:?}, arena {arena:?}")
     }
 }
 
@@ -176,6 +193,11 @@ pub enum Ask<'a> {
     // The record at a position of a segment's bytes, with the setting in the set's words.
     Step { segment: usize, position: u64 },
     Stats,
+    // The four calls on files; the file is the world's.
+    FileBytes,
+    WriteFile,
+    FileNeeds,
+    LoadFile,
     RebuildOpen(Opened<'a>),
     Reused(Reused<'a>),
     Copied(Pushed<'a>),
@@ -212,10 +234,11 @@ impl Ask<'_> {
     // How many words the answer has.
     pub fn answer(&self) -> usize {
         match self {
-            Ask::Open { .. } | Ask::Finish { .. } | Ask::RebuildOpen(_) => 0,
+            Ask::Open { .. } | Ask::Finish { .. } | Ask::RebuildOpen(_) | Ask::LoadFile => 0,
             Ask::Push(_) | Ask::Reused(_) | Ask::Copied(_) => 2,
             Ask::Get { .. } | Ask::Peek { .. } => 3,
-            Ask::Take { .. } => 1,
+            Ask::Take { .. } | Ask::FileBytes | Ask::WriteFile => 1,
+            Ask::FileNeeds => 5,
             Ask::Probe { .. } | Ask::Walk { .. } => 12,
             Ask::Step { .. } => 9,
             Ask::Stats => 8,
@@ -240,6 +263,7 @@ macro_rules! ask_by {
         let World {
             scratch,
             arena,
+            file,
             rebuild,
             source,
             out,
@@ -250,6 +274,7 @@ macro_rules! ask_by {
         let (index, filter) = (&mut index[..lent.index], &mut filter[..lent.filter]);
         let (starts, lengths) = (&mut starts[..lent.starts], &mut lengths[..lent.lengths]);
         let (scratch, arena) = (&mut scratch[..lent.scratch], &mut arena[..lent.arena]);
+        let file = &mut file[..lent.file];
         let out = &mut out[..$words];
         match *$ask {
             Ask::Open { records } => $calls::open(
@@ -302,6 +327,12 @@ macro_rules! ask_by {
                 out,
             ),
             Ask::Stats => $calls::stats(set, out),
+            Ask::FileBytes => $calls::file_bytes(set, starts, lengths, out),
+            Ask::WriteFile => {
+                $calls::write_file(set, index, filter, starts, lengths, arena, file, out)
+            }
+            Ask::FileNeeds => $calls::file_needs(file, out),
+            Ask::LoadFile => $calls::load_file(file, index, filter, starts, lengths, arena, set),
             Ask::RebuildOpen(opened) => $calls::rebuild_open(
                 source, arena, &opened, rebuild, index, filter, starts, lengths,
             ),

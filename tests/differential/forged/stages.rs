@@ -72,6 +72,8 @@ pub fn made(rng: &mut Rng, setting: &[u64; 6], count: usize, stages: &mut Vec<St
     }
     stage("full", &world, false);
     model(&mut world, &Ask::Finish { target: TARGET }, 0);
+    model(&mut world, &Ask::FileBytes, 1);
+    world.room_for_file(world.out[0] as usize);
     stage("finished", &world, true);
 }
 
@@ -111,6 +113,8 @@ impl Stage {
                     position: 0,
                 },
                 Ask::Stats,
+                Ask::FileBytes,
+                Ask::WriteFile,
             ];
         }
         self.pushes(hash, key)

@@ -58,7 +58,7 @@ fn line(group: &mut Group, rng: &mut Rng, about: &str, setting: Setting, list: V
             return;
         };
         sets.push(next);
-        ask_all(group, rng, &mut sets);
+        ask_all(group, rng, setting, &mut sets);
         group.done(&about);
     }
 }
@@ -144,7 +144,12 @@ fn choose(
 }
 
 // The newest set whole, and some of each older one, which is lent the arena meanwhile.
-fn ask_all(group: &mut Group, rng: &mut Rng, sets: &mut [(Finished, Vec<Entry>)]) {
+fn ask_all(
+    group: &mut Group,
+    rng: &mut Rng,
+    setting: Setting,
+    sets: &mut [(Finished, Vec<Entry>)],
+) {
     let Some(((newest, list), older)) = sets.split_last_mut() else {
         return;
     };
@@ -153,6 +158,7 @@ fn ask_all(group: &mut Group, rng: &mut Rng, sets: &mut [(Finished, Vec<Entry>)]
     newest.walk(group, 3);
     newest.steps_as_read(group);
     newest.end(group);
+    ask_loaded(group, rng, setting, newest, list);
     for (set, list) in older {
         set.borrow_arena(newest);
         for entry in list.iter().step_by(64) {
@@ -161,4 +167,26 @@ fn ask_all(group: &mut Group, rng: &mut Rng, sets: &mut [(Finished, Vec<Entry>)]
         set.end(group);
         newest.world.arena = take(&mut set.world.arena);
     }
+}
+
+// A part of the newest set as it is loaded from its file.
+fn ask_loaded(
+    group: &mut Group,
+    rng: &mut Rng,
+    setting: Setting,
+    newest: &mut Finished,
+    list: &[Entry],
+) {
+    let file = newest.written(group);
+    let Some(mut loaded) = newest.beside(group, setting, &file) else {
+        return;
+    };
+    loaded.stats_are(group, &newest.set.stats());
+    for entry in list.iter().step_by(16) {
+        loaded.all_ways(group, &entry.key, entry.hash, rng.below(65_540));
+    }
+    loaded.walk(group, 3);
+    loaded.steps_as_read(group);
+    loaded.end(group);
+    loaded.written_again(group, &file);
 }

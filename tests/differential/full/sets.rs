@@ -82,6 +82,12 @@ fn asked(
         return;
     };
     set.stats(group);
+    // Every second set goes on as it is loaded from its file.
+    let file = set.written(group);
+    if rng.one_in(2) {
+        set.load(group, &file);
+        set.stats(group);
+    }
     let part = if whole { 0 } else { 512 };
     if whole {
         set.lookups(group, rng, list, 1);
@@ -99,6 +105,7 @@ fn asked(
     }
     set.walk(group, rng.pick(&[0, 1, 65_534]));
     set.steps(group);
+    set.written_again(group, &file);
     set.end(group);
 }
 

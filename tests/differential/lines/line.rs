@@ -19,15 +19,17 @@ pub struct Line {
     pub sides: Sides,
     pub book: Book,
     pub sets: Vec<Known>,
+    // The first set of the line was built, so that it has all records that were appended.
+    pub built: bool,
     building: Option<Builder>,
     // None also where the Rust has gone another way than the rules.
-    rebuilding: Option<Rebuild>,
+    pub(super) rebuilding: Option<Rebuild>,
 }
 
 pub struct Known {
     pub set: Rc<Set>,
     // Made by the Rust itself, so that its statistics are its own.
-    own: bool,
+    pub own: bool,
 }
 
 pub type Lend<'a> = &'a dyn Fn(&mut Sizes);
@@ -52,6 +54,7 @@ impl Line {
             sides: Sides::new(&setting_words(setting), lent),
             book: Book::open(rules),
             sets: Vec::new(),
+            built: true,
             building: Some(building),
             rebuilding: None,
         };
@@ -146,10 +149,11 @@ impl Line {
         self.sets.push(Known { set, own });
         self.same_set(group, self.sets.len() - 1);
         self.same_page(group, at);
+        self.travel(group, self.sets.len() - 1);
     }
 
     // Starts, lengths, filled bytes and the number of records that the book has of a set.
-    fn same_page(&self, group: &mut Group, at: At) {
+    pub(super) fn same_page(&self, group: &mut Group, at: At) {
         let (Some(world), Some(page)) = (self.sides.ours.world(at), self.book.finished.last())
         else {
             return;

@@ -59,6 +59,9 @@ pub fn list(group: &mut Group, rng: &mut Rng, shape: &Shape, seen: &mut Seen) {
     let mut deep = 0;
     while deep < shape.depth && list.rebuilt(group, shape.tiny && deep < 2) {
         deep += 1;
+        if list.rng.one_in(5) {
+            list.reload(group);
+        }
     }
     list.seen("line", deep as u64);
     list.end(group);
@@ -236,6 +239,25 @@ impl List<'_> {
         false
     }
 
+    // Goes on with the newest set alone, loaded from its file.
+    fn reload(&mut self, group: &mut Group) {
+        let page = self.line.book.finished.last();
+        let Some((starts, lengths)) = page.map(|page| (page.starts.clone(), page.lengths.clone()))
+        else {
+            return;
+        };
+        let number = self.line.reload(group, self.arena);
+        self.seen("load", number);
+        let now = &self.line.book.finished[0].starts;
+        let segments = starts.into_iter().zip(lengths).zip(now);
+        let segments: Vec<_> = segments
+            .map(|((from, length), &to)| (from, length, to))
+            .collect();
+        self.records.moved(&segments);
+        self.line.look_around(group, self.rng, &self.records, 2);
+        self.step(group, 0);
+    }
+
     // Every key of the line in every set, and every set whole.
     fn end(&mut self, group: &mut Group) {
         for set in 0..self.line.sets.len() {
@@ -254,6 +276,7 @@ impl List<'_> {
             self.line.walk(group, set, tick);
             self.step(group, set);
             self.line.same_set(group, set);
+            self.line.ask_loaded(group, self.rng, &self.records, set);
         }
     }
 }

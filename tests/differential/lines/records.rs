@@ -136,6 +136,20 @@ impl Records {
         })
     }
 
+    // After a load: the segments that started here start there now, and the others are gone.
+    pub fn moved(&mut self, segments: &[(u64, u64, u64)]) {
+        self.readable.retain_mut(|readable| {
+            let segment = segments
+                .iter()
+                .find(|(from, length, _)| (*from..from + length).contains(&readable.at));
+            match segment {
+                Some((from, _, to)) => readable.at = readable.at - from + to,
+                None => return false,
+            }
+            true
+        });
+    }
+
     pub fn cut(&mut self, filled: u64) {
         self.readable.retain(|readable| readable.at < filled);
     }

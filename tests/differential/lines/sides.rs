@@ -141,6 +141,51 @@ impl Sides {
         number
     }
 
+    // The file of a set, which both write alike; in an area three bytes longer.
+    pub fn write(&mut self, group: &mut Group, about: &str, at: At) -> Vec<u8> {
+        self.call(group, about, at, &Ask::FileBytes);
+        let size = self.wanted.world(at).map_or(0, |world| world.out[0]) as usize;
+        for side in [&mut self.ours, &mut self.wanted] {
+            if let Some(world) = side.world_mut(at) {
+                world.room_for_file(size);
+            }
+        }
+        self.call(group, about, at, &Ask::WriteFile);
+        let mut file = Vec::new();
+        for side in [&mut self.ours, &mut self.wanted] {
+            if let Some(world) = side.world_mut(at) {
+                file = std::mem::take(&mut world.file);
+                world.lent.file = 0;
+            }
+        }
+        file.truncate(size);
+        file
+    }
+
+    // Goes on with the set of a file alone, loaded by both into a fresh arena of so many bytes.
+    pub fn load(&mut self, group: &mut Group, about: &str, lent: Sizes, file: &[u8]) -> u64 {
+        let arena = lent.arena;
+        let setting = self
+            .wanted
+            .world(At::Set(0))
+            .map(|world| world.setting.clone());
+        let setting = setting.unwrap_or_default();
+        let mut world = bare(World::new(&setting, Sizes { arena: 0, ..lent }), arena);
+        world.file = file.to_vec();
+        world.lent.file = file.len();
+        self.ours = Side::new(port, &world, arena);
+        self.wanted = Side::new(model, &world, arena);
+        let number = self.call(group, about, At::Open, &Ask::LoadFile);
+        for side in [&mut self.ours, &mut self.wanted] {
+            if let Some(world) = side.world_mut(At::Open) {
+                world.file = Vec::new();
+                world.lent.file = 0;
+            }
+        }
+        self.close();
+        number
+    }
+
     // What was open is a finished set now.
     pub fn close(&mut self) {
         for side in [&mut self.ours, &mut self.wanted] {

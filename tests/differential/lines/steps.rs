@@ -30,7 +30,7 @@ impl Line {
         };
         let records: Vec<_> = known.records().into_iter().map(place).collect();
         // A set that was built has all records that were appended, and no others.
-        if set == 0 {
+        if set == 0 && self.built {
             let about = || format!("set {set}, {}", self.about);
             group.area("records of the set", &stepped, &records, about);
         }

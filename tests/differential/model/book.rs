@@ -187,6 +187,36 @@ impl Book {
         self.close(segments);
     }
 
+    // A finished set is loaded from its file, and stands alone from then on: the tape is that of its own
+    // segments, one behind the other.
+    pub fn load(&mut self, set: usize) {
+        let page = self.finished.swap_remove(set);
+        let (mut tape, mut written, mut starts) = (Vec::new(), Vec::new(), Vec::new());
+        for (&from, &length) in page.starts.iter().zip(&page.lengths) {
+            let start = tape.len() as u64;
+            let segment = from..from + length;
+            let inside = self
+                .written
+                .iter()
+                .filter(|written| segment.contains(&written.at));
+            written.extend(inside.map(|written| Written {
+                at: written.at - from + start,
+                ..written.clone()
+            }));
+            tape.extend_from_slice(&self.tape[from as usize..(from + length) as usize]);
+            starts.push(start);
+        }
+        let filled = tape.len() as u64;
+        self.finished = vec![Page {
+            starts,
+            filled,
+            ..page
+        }];
+        (self.tape, self.written) = (tape, written);
+        self.list.clear();
+        self.kept.clear();
+    }
+
     // The first record of a key counts, also where it has lapsed.
     pub fn answer(&self, set: usize, key: &[u8], tick: u64) -> Option<&[u8]> {
         let entry = self.entry(set, key)?;

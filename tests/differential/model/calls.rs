@@ -1,5 +1,6 @@
 // The calls of sets as an executable model, in the form in which the port exports them: states in
 // words, answers in lent words, the refusal's number back. Written from the papers alone.
+pub use crate::model::files::{file_bytes, file_needs, load_file, write_file};
 pub use crate::model::lookups::{get, next_entry, peek, probe, take_accessed};
 pub use crate::model::rebuilds::{push_copied, push_reused, rebuild_finish, rebuild_open};
 use crate::model::rules::{self, *};
