@@ -20,13 +20,15 @@ soak:
 	tests/wrong_answers/run records
 	tests/wrong_answers/run index
 	tests/wrong_answers/run sets
+	tests/wrong_answers/run files
 	tests/wrong_answers/run book
 	tests/wrong_answers/run passage_lines
 
-# Speed beside the Rust, as ratios; what a poor hash costs.
+# Speed beside the Rust, as ratios; what a poor hash costs; files beside a plain copy.
 bench:
 	bench/run
 	bench/hashes
+	bench/files
 
 # The library for C and Rust. What is there is handed out only while its proof holds, which is asked each time.
 library:
