@@ -50,7 +50,7 @@ fn rust_pushes(shape: Shape, records: &[Record]) -> (Builder, Duration) {
     let (time, refused) = timed(|| {
         let push = |record: &Record| {
             oracle_large::set_hash(record.entry.1);
-            builder.push(&record.entry.0, &record.value, record.lifetime())
+            builder.push(&record.entry.0, &record.value, record.lifetime)
         };
         records.iter().map(push).filter(Result::is_err).count() as u64
     });
@@ -88,7 +88,11 @@ pub fn port_build(port: &mut Port, records: &[Record], target: usize) -> [Pass; 
 impl Sides {
     // The arena has room for so many times the records.
     pub fn new(rng: &mut Rng, shape: Shape, count: usize, room: usize) -> Sides {
-        let records = random_records(rng, shape, count);
+        Sides::of(shape, random_records(rng, shape, count), room)
+    }
+
+    pub fn of(shape: Shape, records: Vec<Record>, room: usize) -> Sides {
+        let count = records.len();
         let (builder, _) = rust_pushes(shape, &records);
         let rust = builder.finish().expect("one segment");
         let mut port = Port::new(shape, count, room * count * shape.record_bytes());
@@ -114,7 +118,7 @@ impl Sides {
     }
 
     // All answers in full, outside of the clock: the whole walk, the whole segment, and each lookup.
-    fn compare(&mut self, queries: &[Entry]) {
+    pub fn compare(&mut self, queries: &[Entry]) {
         let mut walk = self.rust.walk(NOW).into_iter();
         (self.port).visit(|record| assert_eq!(walk.next().as_ref(), record[1..].as_array()));
         assert!(walk.next().is_none(), "the walk is shorter");

@@ -36,7 +36,7 @@ pub fn points(rng: &mut Rng, packed: bool, powers: RangeInclusive<u32>) -> Vec<P
     let shape = Shape {
         packed,
         bits: 0,
-        expiry: false,
+        tick: None,
     };
     powers.map(|power| point(rng, shape, 1 << power)).collect()
 }

@@ -1,11 +1,12 @@
 // Measures the port beside the Rust, in one process and on the same inputs, and prints tables of
-// times and ratios: bench all | quick | plot FILE
+// times and ratios: bench all | quick | lifetimes | plot FILE
 mod calls;
 #[allow(dead_code)]
 #[macro_use]
 #[path = "../bindings/rust/src/ffi.rs"]
 mod ffi;
 mod growth;
+mod lifetimes;
 mod lookups;
 mod measure;
 mod passes;
@@ -14,6 +15,9 @@ mod port;
 #[allow(dead_code)]
 #[path = "../tests/differential/port/index.rs"]
 mod port_index;
+#[allow(dead_code)]
+#[path = "../tests/differential/port/parts.rs"]
+mod port_parts;
 mod rebuilds;
 mod records;
 #[allow(dead_code)]
@@ -24,14 +28,13 @@ use measure::{ROUNDS, Table};
 use records::Shape;
 use rng::Rng;
 use std::io::{Error, Result};
+use std::time::Duration;
 
 const SHAPES: [Shape; 8] = {
     const fn shape(packed: bool, bits: u8, expiry: bool) -> Shape {
-        Shape {
-            packed,
-            bits,
-            expiry,
-        }
+        let second = Some(Duration::from_secs(1));
+        let tick = if expiry { second } else { None };
+        Shape { packed, bits, tick }
     }
     [
         shape(true, 0, false),
@@ -82,13 +85,19 @@ fn main() -> Result<()> {
             calls(rng, &[1 << 10, 1 << 16, 1 << 20]);
             growth(rng);
             functions(rng);
+            lifetimes::lifetimes(rng);
         }
         ["quick"] => calls(rng, &[1 << 10]),
+        ["lifetimes"] => lifetimes::lifetimes(rng),
         ["plot", file] => {
             let [packed, words] = growth(rng);
             std::fs::write(file, plot::svg(&packed, &words).map_err(Error::other)?)?;
         }
-        _ => return Err(Error::other("usage: bench all | quick | plot FILE")),
+        _ => {
+            return Err(Error::other(
+                "usage: bench all | quick | lifetimes | plot FILE",
+            ));
+        }
     }
     Ok(())
 }

@@ -104,7 +104,7 @@ fn rust_copied(source: &Rc<Set>, shape: Shape, records: &[Record]) -> Pass {
     rust_rebuild(source, &opening, |rebuild| {
         let push = |record: &Record| {
             oracle_large::set_hash(record.entry.1);
-            rebuild.push_copied(&record.entry.0, &record.value, record.lifetime())
+            rebuild.push_copied(&record.entry.0, &record.value, record.lifetime)
         };
         records.iter().map(push).filter(Result::is_err).count()
     })

@@ -19,20 +19,25 @@ const LATEST: u64 = 60_000;
 pub struct Shape {
     pub packed: bool,
     pub bits: u8,
-    pub expiry: bool,
+    // The tick length, or none where there is no expiry.
+    pub tick: Option<Duration>,
 }
 
 impl Shape {
+    fn expiry(&self) -> bool {
+        self.tick.is_some()
+    }
+
     pub fn title(&self, records: usize) -> String {
         let layout = if self.packed { "packed" } else { "words" };
-        let expiry = if self.expiry { "with" } else { "without" };
+        let expiry = if self.expiry() { "with" } else { "without" };
         let bits = self.bits;
         format!("{records} records, {layout}, {bits} filter bits, {expiry} expiry")
     }
 
     pub fn setting(&self) -> Setting {
         Setting {
-            tick: self.expiry.then_some(Duration::from_secs(1)),
+            tick: self.tick,
             occupied: OCCUPIED,
             packed: self.packed,
             bits: self.bits,
@@ -41,13 +46,21 @@ impl Shape {
 
     // The setting as the port takes it.
     pub fn words(&self) -> [u64; 6] {
-        let (expiry, packed) = (self.expiry.into(), self.packed.into());
-        [expiry, expiry, 0, OCCUPIED.into(), packed, self.bits.into()]
+        let [secs, nanos] = in_words(self.tick.unwrap_or_default());
+        let (expiry, packed) = (self.expiry().into(), self.packed.into());
+        [
+            expiry,
+            secs,
+            nanos,
+            OCCUPIED.into(),
+            packed,
+            self.bits.into(),
+        ]
     }
 
     // A prefix of one byte for each length, and the deadline.
     pub fn record_bytes(&self) -> usize {
-        2 + 2 * usize::from(self.expiry) + KEY + VALUE
+        2 + 2 * usize::from(self.expiry()) + KEY + VALUE
     }
 }
 
@@ -57,28 +70,37 @@ pub type Entry = ([u8; KEY], u64);
 pub struct Record {
     pub entry: Entry,
     pub value: [u8; VALUE],
-    // Seconds and nanoseconds, or none where there is no expiry.
-    lifetime: [u64; 2],
-    expiry: bool,
+    pub lifetime: Option<Duration>,
+    // Its seconds and nanoseconds, as the port takes them.
+    words: [u64; 2],
+}
+
+fn in_words(duration: Duration) -> [u64; 2] {
+    [duration.as_secs(), duration.subsec_nanos().into()]
 }
 
 impl Record {
-    fn random(rng: &mut Rng, expiry: bool) -> Record {
+    pub fn random(rng: &mut Rng, lifetime: Option<Duration>) -> Record {
         Record {
             entry: random_entry(rng),
             value: random_bytes(rng),
-            lifetime: [NOW + 1 + rng.below(LATEST - NOW), 0],
-            expiry,
+            lifetime,
+            words: in_words(lifetime.unwrap_or_default()),
         }
     }
 
     pub fn lifetime_words(&self) -> &[u64] {
-        if self.expiry { &self.lifetime } else { &[] }
+        if self.lifetime.is_some() {
+            &self.words
+        } else {
+            &[]
+        }
     }
+}
 
-    pub fn lifetime(&self) -> Option<Duration> {
-        (self.expiry).then(|| Duration::from_secs(self.lifetime[0]))
-    }
+// A number of ticks that is a deadline after NOW.
+pub fn random_ticks(rng: &mut Rng) -> u32 {
+    (NOW + 1 + rng.below(LATEST - NOW)) as u32
 }
 
 fn random_bytes<const N: usize>(rng: &mut Rng) -> [u8; N] {
@@ -99,7 +121,10 @@ pub fn random_entries(rng: &mut Rng, count: usize) -> Vec<Entry> {
 }
 
 pub fn random_records(rng: &mut Rng, shape: Shape, count: usize) -> Vec<Record> {
-    let record = |_| Record::random(rng, shape.expiry);
+    let record = |_| {
+        let lifetime = shape.tick.map(|tick| tick * random_ticks(rng));
+        Record::random(rng, lifetime)
+    };
     (0..count).map(record).collect()
 }
 

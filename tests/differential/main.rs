@@ -131,6 +131,7 @@ fn parts(run: &mut Run) {
     run.group("tags", parts::hash::tags);
     run.group("zero bytes and marks", parts::hash::marks);
     run.group("mixed hash", parts::hash::mixed);
+    run.group("nanoseconds", parts::durations::nanoseconds);
     run.group("deadlines", parts::durations::deadlines);
     run.group("remaining time", parts::durations::remaining);
     run.group("varint writing", parts::varints::write);

@@ -6,6 +6,7 @@ use lib.Dec.{eqb, leb, ltb}
 use Rattle.hash_parts.specs.declared.duration.Duration.{Duration}
 use Rattle.hash_parts.specs.declared.duration.Lifetime.{Lifetime}
 use Rattle.hash_parts.specs.declared.duration.Lifetime.the-variants as life
+use Rattle.hash_parts.specs.declared.duration.Nanoseconds.{Nanoseconds}
 use Rattle.hash_parts.specs.declared.duration.EncodedExpiry.{EncodedExpiry}
 use Rattle.hash_parts.specs.declared.duration.EncodedExpiry.the-variants.{At, Refused}
 use Rattle.hash_parts.specs.declared.duration.SegmentRemainingTtl.{SegmentRemainingTtl}
@@ -18,6 +19,14 @@ use Rattle.hash_parts.specs.Outcome.{Outcome, accepted, refused}
 -- Setting: "A duration is whole seconds (64 bits) and nanoseconds". Nanoseconds of a second or more count with their value.
 abbrev pub nanosOf : Duration → ℕ
 nanosOf d = d .secs * 1_000_000_000 + d .nanos
+
+-- Document 02, Change 3: "its nanoseconds in two 64-bit words"
+abbrev pub nanosWords : ℕ → Nanoseconds
+nanosWords n = record { high = n / 2 ^ 64; low = n % 2 ^ 64 }
+
+-- the number in two such words
+unfoldable pub nanosIn : Nanoseconds → ℕ
+nanosIn n = n .high * 2 ^ 64 + n .low
 
 -- n divided by m, rounded up
 abbrev pub ceilDiv : ℕ → ℕ → ℕ

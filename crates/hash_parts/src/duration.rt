@@ -1,11 +1,13 @@
 // Durations of whole seconds and nanoseconds, deadlines in ticks and the time that is left,
 // with no number wider than 64 bits.
 use crate::error::SegmentCacheBuildError;
+use crate::hash::upper_product;
+use crate::hash::wrapping_mul;
 use crate::setting::SegmentExpiry;
 ghost use mathlib.Core.Path.{_≡_};
 ghost use Prim.Native.Nat.{_+_, _*_, _<_, _≤_, _^_, min};
 ghost use lib.Dec.{eqb, leb};
-ghost use Rattle.hash_parts.specs.Duration.{nanosOf, ceilDiv, deadlineAt, encodedExpiry, expiryOutcome, livesAt, product, remaining};
+ghost use Rattle.hash_parts.specs.Duration.{nanosOf, nanosIn, nanosWords, ceilDiv, deadlineAt, encodedExpiry, expiryOutcome, livesAt, product, remaining};
 
 // The deadline of a record that never lapses.
 pub const NEVER_EXPIRES: u16 = 65_535;
@@ -13,9 +15,6 @@ pub const NEVER_EXPIRES: u16 = 65_535;
 const MAX_EXPIRY_TICK: u64 = 65_534;
 
 const NANOS_PER_SEC: u64 = 1_000_000_000;
-
-// Below so many seconds a duration has less than 2^63 nanoseconds, whatever its nanoseconds hold.
-const SHORT_SECS: u64 = 0x1_0000_0000;
 
 pub struct Duration {
     pub secs: u64,
@@ -31,6 +30,28 @@ impl Duration {
         }
         self.nanos == 0
     }
+
+    // All of it in nanoseconds, which pass one word after some 584 years.
+    pub fn as_nanos(self) -> Nanoseconds
+        ensures { λ r. ⌜ r ≡ nanosWords (nanosOf self) ⌝ }
+    {
+        let high = upper_product(self.secs, NANOS_PER_SEC);
+        let whole = wrapping_mul(self.secs, NANOS_PER_SEC);
+        let low = std::num::wrapping_add_u64(whole, self.nanos as u64);
+        if low < whole {
+            return Nanoseconds {
+                high: high + 1,
+                low,
+            };
+        }
+        Nanoseconds { high, low }
+    }
+}
+
+// A number of nanoseconds in two words, high × 2^64 + low: the Rust's u128.
+pub struct Nanoseconds {
+    pub high: u64,
+    pub low: u64,
 }
 
 // How long a record lives: the Rust's Option<Duration>.
@@ -64,60 +85,53 @@ pub fn encode_expiry_at_tick(expiry: SegmentExpiry, ttl: Lifetime, now_tick: u64
     if tick.is_zero() {
         return EncodedExpiry::Refused(SegmentCacheBuildError::ZeroExpiryTick);
     }
-    deadline_at(now_tick, tick, lifetime)
+    deadline_at(now_tick, tick.as_nanos(), lifetime)
 }
 
-fn deadline_at(base: u64, tick: Duration, lifetime: Duration) -> EncodedExpiry
-    requires { ⌜ 0 < nanosOf tick ⌝ }
-    ensures { λ r. ⌜ expiryOutcome r ≡ deadlineAt base (nanosOf lifetime) (nanosOf tick) ⌝ }
+// The tick length comes worked out: no turn of the search does it again. An upper word below 2^30,
+// as every duration's is, keeps the products of the search in 64 bits.
+fn deadline_at(base: u64, tick: Nanoseconds, lifetime: Duration) -> EncodedExpiry
+    requires { ⌜ (0 < nanosIn tick) × (tick .high < 2 ^ 30) ⌝ }
+    ensures { λ r. ⌜ expiryOutcome r ≡ deadlineAt base (nanosOf lifetime) (nanosIn tick) ⌝ }
 {
     if base > MAX_EXPIRY_TICK {
         return EncodedExpiry::Refused(SegmentCacheBuildError::ExpiryOutOfRange);
     }
     let limit = MAX_EXPIRY_TICK - base;
-    let ticks = ticks_of(lifetime, tick, limit);
+    let ticks = ticks_of(lifetime.as_nanos(), tick, limit);
     if ticks > limit {
         return EncodedExpiry::Refused(SegmentCacheBuildError::ExpiryOutOfRange);
     }
     EncodedExpiry::At((base + ticks) as u16)
 }
 
-// The lifetime in ticks, rounded up, and limit + 1 for all above limit.
-fn ticks_of(lifetime: Duration, tick: Duration, limit: u64) -> u64
-    requires { ⌜ (0 < nanosOf tick) × (limit ≤ 65534) ⌝ }
-    ensures { λ r. ⌜ r ≡ min (ceilDiv (nanosOf lifetime) (nanosOf tick)) (limit + 1) ⌝ }
+// The lifetime in ticks, rounded up, and limit + 1 for all above limit. Where both have one word they
+// are divided; a tick of two words is longer than any lifetime of one.
+fn ticks_of(lifetime: Nanoseconds, tick: Nanoseconds, limit: u64) -> u64
+    requires { ⌜ (0 < nanosIn tick) × (tick .high < 2 ^ 30) × (limit ≤ 65534) ⌝ }
+    ensures { λ r. ⌜ r ≡ min (ceilDiv (nanosIn lifetime) (nanosIn tick)) (limit + 1) ⌝ }
 {
-    if lifetime.secs >= SHORT_SECS {
+    if lifetime.high > 0 {
         return search_ticks(lifetime, tick, limit);
     }
-    if tick.secs >= SHORT_SECS {
-        return search_ticks(lifetime, tick, limit);
-    }
-    let ticks = divide_ticks(lifetime, tick);
-    if ticks > limit {
-        return limit + 1;
-    }
-    ticks
-}
-
-// The lifetime in ticks, rounded up, where both fit in 64 bits as nanoseconds.
-fn divide_ticks(lifetime: Duration, tick: Duration) -> u64
-    requires { ⌜ (0 < nanosOf tick) × (lifetime .secs < 2 ^ 32) × (tick .secs < 2 ^ 32) ⌝ }
-    ensures { λ r. ⌜ r ≡ ceilDiv (nanosOf lifetime) (nanosOf tick) ⌝ }
-{
-    let nanos = lifetime.secs * NANOS_PER_SEC + (lifetime.nanos as u64);
-    let tick_nanos = tick.secs * NANOS_PER_SEC + (tick.nanos as u64);
-    (nanos + (tick_nanos - 1)) / tick_nanos
-}
-
-// The same for durations of any length: halves the range in which the answer lies, at most 16 times.
-fn search_ticks(lifetime: Duration, tick: Duration, limit: u64) -> u64
-    requires { ⌜ (0 < nanosOf tick) × (limit ≤ 65534) ⌝ }
-    ensures { λ r. ⌜ r ≡ min (ceilDiv (nanosOf lifetime) (nanosOf tick)) (limit + 1) ⌝ }
-{
-    if lifetime.is_zero() {
+    if lifetime.low == 0 {
         return 0;
     }
+    if tick.high > 0 {
+        return 1;
+    }
+    let before = (lifetime.low - 1) / tick.low;
+    if before > limit {
+        return limit + 1;
+    }
+    before + 1
+}
+
+// The same for any lifetime above zero: halves the range in which the answer lies, at most 16 times.
+fn search_ticks(lifetime: Nanoseconds, tick: Nanoseconds, limit: u64) -> u64
+    requires { ⌜ (0 < nanosIn lifetime) × (0 < nanosIn tick) × (tick .high < 2 ^ 30) × (limit ≤ 65534) ⌝ }
+    ensures { λ r. ⌜ r ≡ min (ceilDiv (nanosIn lifetime) (nanosIn tick)) (limit + 1) ⌝ }
+{
     let mut short: u64 = 0;
     let mut enough = limit + 1;
     while short + 1 < enough {
@@ -131,27 +145,17 @@ fn search_ticks(lifetime: Duration, tick: Duration, limit: u64) -> u64
     enough
 }
 
-// Whether so many ticks are at least as long as a lifetime, by division: the product may pass 64 bits.
-fn covers(ticks: u64, tick: Duration, lifetime: Duration) -> bool
-    requires { ⌜ (0 < ticks) × (ticks ≤ 65534) ⌝ }
-    ensures { λ r. ⌜ r ≡ leb (nanosOf lifetime) (nanosOf tick * ticks) ⌝ }
+// Whether so many ticks are at least as long as a lifetime. Their product has two words again; the
+// upper ones decide unless they are the same.
+fn covers(ticks: u64, tick: Nanoseconds, lifetime: Nanoseconds) -> bool
+    requires { ⌜ (ticks ≤ 65534) × (tick .high < 2 ^ 30) ⌝ }
+    ensures { λ r. ⌜ r ≡ leb (nanosIn lifetime) (nanosIn tick * ticks) ⌝ }
 {
-    let part = (tick.nanos as u64) * ticks;
-    let nanos = lifetime.nanos as u64;
-    let secs = lifetime.secs;
-    if nanos <= part {
-        let carry = (part - nanos) / NANOS_PER_SEC;
-        if secs <= carry {
-            return true;
-        }
-        return (secs - carry - 1) / ticks < tick.secs;
+    let high = tick.high * ticks + upper_product(tick.low, ticks);
+    if lifetime.high != high {
+        return lifetime.high < high;
     }
-    let quotient = secs / ticks;
-    if tick.secs <= quotient {
-        return false;
-    }
-    let more = (nanos - part - 1) / NANOS_PER_SEC;
-    (secs % ticks + more) / ticks < tick.secs - quotient
+    lifetime.low <= wrapping_mul(tick.low, ticks)
 }
 
 // Whether a record with this deadline is live.

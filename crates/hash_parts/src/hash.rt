@@ -1,6 +1,6 @@
 // The parts of a hash.
 ghost use mathlib.Core.Path.{_≡_};
-ghost use Prim.Native.Nat.{_*_, _-_, _%_, _^_, _≤_};
+ghost use Prim.Native.Nat.{_*_, _-_, _/_, _%_, _^_, _≤_};
 ghost use Rattle.hash_parts.specs.Hash.{tagOf, firstBucket, controlTag, secondaryTag, rotated, mixedHash};
 
 const HALF: u64 = 0x1_0000_0000;
@@ -12,16 +12,17 @@ pub const fn hash_tag(hash: u64) -> u64
     hash >> 41
 }
 
-// The first bucket of a hash, the upper half of a product of 128 bits. The products of the
-// 32-bit halves are added column by column, a form that compiles to one multiplication.
+// The first bucket of a hash.
 pub fn reduce_hash(hash: u64, buckets: usize) -> usize
     ensures { λ r. ⌜ (r ≡ firstBucket hash buckets) × (r ≤ buckets - 1) ⌝ }
 {
     upper_product(hash, buckets as u64) as usize
 }
 
-fn upper_product(a: u64, b: u64) -> u64
-    ensures { λ r. ⌜ r ≡ firstBucket a b ⌝ }
+// The upper half of a product of 128 bits. The products of the 32-bit halves are added column by
+// column, a form that compiles to one multiplication.
+pub(crate) fn upper_product(a: u64, b: u64) -> u64
+    ensures { λ r. ⌜ r ≡ a * b / 2 ^ 64 ⌝ }
 {
     let a0 = a % HALF;
     let a1 = a >> 32;

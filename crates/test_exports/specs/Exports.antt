@@ -8,6 +8,7 @@ use Rattle.hash_parts.specs.Outcome.{Outcome}
 use Rattle.hash_parts.specs.declared.duration.Duration.{Duration}
 use Rattle.hash_parts.specs.declared.duration.Lifetime.{Lifetime}
 use Rattle.hash_parts.specs.declared.duration.Lifetime.the-variants as life
+use Rattle.hash_parts.specs.declared.duration.Nanoseconds.{Nanoseconds}
 use Rattle.hash_parts.specs.declared.duration.SegmentRemainingTtl.{SegmentRemainingTtl}
 use Rattle.hash_parts.specs.declared.duration.SegmentRemainingTtl.the-variants as left
 use Rattle.hash_parts.specs.declared.setting.SegmentExpiry.{SegmentExpiry}
@@ -68,6 +69,10 @@ lent t out = told (t .answer) (placed (t .words) out)
 -- the refusal's number, or 0 and the value
 unfoldable pub outcomeTold : Outcome → Told ℕ
 outcomeTold o = told (o .number) (cond (eqb (o .number) 0) (o .value ∷ []) [])
+
+-- the upper and the lower word
+abbrev pub nanosTold : Nanoseconds → List ℕ
+nanosTold n = n .high ∷ n .low ∷ []
 
 -- 0: nothing is left; 1: it never lapses; 2: seconds and nanoseconds
 abbrev pub leftTold : SegmentRemainingTtl → Told ℕ

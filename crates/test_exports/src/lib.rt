@@ -16,14 +16,14 @@ use records::varint::WriteAnswer;
 ghost use mathlib.Core.Path.{_≡_};
 ghost use Prim.Native.Nat.{_*_, _%_, _^_};
 ghost use lib.ListN.{length};
-ghost use Rattle.hash_parts.specs.Duration.{encodedExpiry, livesAt, remaining};
+ghost use Rattle.hash_parts.specs.Duration.{encodedExpiry, livesAt, nanosOf, nanosWords, remaining};
 ghost use Rattle.hash_parts.specs.Hash.{tagOf, firstBucket, controlTag, secondaryTag, rotated, mixedHash};
 ghost use Rattle.hash_parts.specs.ZeroBytes.{lowestSet, withoutLowest, zeroMarks};
 ghost use Rattle.records.specs.Area.{sameBytes, spanned, written};
 ghost use Rattle.records.specs.Record.{encodedSize, recordAt, recordBytes};
 ghost use Rattle.records.specs.Uleb128.{uleb128};
 ghost use Rattle.records.specs.Varint.{readVarint};
-ghost use Rattle.test_exports.specs.Exports.{byteOr256, codeOf, expiryOf, leftTold, lent, lifetimeOf, outcomeTold, placed, recordTold, spanOf, told, varintTold};
+ghost use Rattle.test_exports.specs.Exports.{byteOr256, codeOf, durationOf, expiryOf, leftTold, lent, lifetimeOf, nanosTold, outcomeTold, placed, recordTold, spanOf, told, varintTold};
 
 #[no_mangle]
 pub extern "C" fn test_hash_tag(hash: u64) -> u64
@@ -112,6 +112,16 @@ fn lifetime_of(finite: bool, secs: u64, nanos: u32) -> Lifetime
         return Lifetime::For(Duration { secs, nanos });
     }
     Lifetime::Never
+}
+
+// The upper and the lower word.
+#[no_mangle]
+pub extern "C" fn test_as_nanos(secs: u64, nanos: u32, out: &mut [u64])
+    ensures { λ r. ⌜ now (out .exit) ≡ placed (nanosTold (nanosWords (nanosOf (durationOf secs nanos)))) (now (out .entry)) ⌝ }
+{
+    let duration = Duration { secs, nanos };
+    let words = duration.as_nanos();
+    put_words(out, &[words.high, words.low]);
 }
 
 // The deadline, or 65,536 and the refusal's number.

@@ -1,4 +1,4 @@
--- Document 01's trials marked P, as one table of tests on the definitions that the contracts cite.
+-- Document 01's trials marked P, as one table of tests on the definitions that the contracts cite; worked values of document 02's Change 3.
 -- Assumes nothing.
 use mathlib.Core.Path.{_≡_}
 use mathlib.Core.Bool.{Bool, true, false, cond, not, _&&_}
@@ -7,7 +7,7 @@ use Prim.Native.Nat.{ℕ, _+_, _-_, _^_, _<_}
 use native.Mathlib.Omega.{arith}
 use borrow.Author.Tests.{le-ltb}
 use lib.Dec.{T, eqb}
-use Rattle.hash_parts.specs.Duration.{encodedExpiry, deadlineAt, livesAt}
+use Rattle.hash_parts.specs.Duration.{encodedExpiry, deadlineAt, livesAt, nanosOf, nanosWords}
 use Rattle.hash_parts.specs.Hash.{tagOf, firstBucket, controlTag, secondaryTag, mixedHash, rotated}
 use Rattle.hash_parts.specs.Outcome.{Outcome}
 use Rattle.hash_parts.specs.ZeroBytes.{zeroMarks, zeroBytes, marks, bytesOf}
@@ -59,6 +59,40 @@ pub p-trials : T
     ∷ []))
 unfolding uleb128 ulebIn sameBytes firstBucket zeroMarks zeroBytes marks bytesOf encodedExpiry deadlineAt livesAt filterWord filterMask bitPast mixedHash rotated
 p-trials = tt
+
+-- Document 02, Change 3: the two words of a duration's nanoseconds
+abbrev inWords : ℕ → ℕ → ℕ → ℕ → Bool
+inWords secs nanos high low =
+    let words = nanosWords (nanosOf record { secs = secs; nanos = nanos }) in
+    eqb (words .high) high && eqb (words .low) low
+
+pub words-worked : T
+    (all
+    (inWords 1 0 0 1000000000
+    ∷ inWords 18446744073 709551615 0 (2 ^ 64 - 1)
+    ∷ inWords 18446744073 709551616 1 0
+    ∷ inWords 18446744074 0 1 290448384
+    ∷ inWords (2 ^ 64 - 1) 999999999 999999999 (2 ^ 64 - 1)
+    ∷ inWords (2 ^ 64 - 1) (2 ^ 32 - 1) 1000000000 3294967295
+    ∷ []))
+words-worked = tt
+
+-- deadlines with a tick of 2^64 nanoseconds
+abbrev byLongTick : ℕ → ℕ → ℕ → Outcome
+byLongTick secs nanos base = encodedExpiry (Relative16 record { secs = 18446744073; nanos = 709551616 }) (For record { secs = secs; nanos = nanos }) base
+
+pub long-ticks : T
+    (all
+    (gives (byLongTick 0 0 0) 0 0
+    ∷ gives (byLongTick 0 1 0) 0 1
+    ∷ gives (byLongTick 18446744073 709551616 0) 0 1
+    ∷ gives (byLongTick 18446744073 709551617 0) 0 2
+    ∷ gives (byLongTick 1208888926126481 755602944 0) 0 65534
+    ∷ gives (byLongTick 1208888926126481 755602945 0) 6 0
+    ∷ gives (byLongTick 1208888926126481 755602944 1) 6 0
+    ∷ []))
+unfolding encodedExpiry deadlineAt
+long-ticks = tt
 
 -- "lapsed from tick 0": a record with deadline 0 lives at no tick whatever
 pub lapsed-from-start : (tick : ℕ) → livesAt 0 tick ≡ false

@@ -24,11 +24,13 @@ const LENGTHS: [usize; 6] = [127, 128, 16_383, 16_384, 2_097_151, 2_097_152];
 
 const BITS: [u8; 4] = [0, 1, 8, 255];
 
-const TICKS: [Option<Duration>; 5] = [
+const TICKS: [Option<Duration>; 6] = [
     None,
     Some(Duration::from_secs(1)),
     Some(Duration::from_nanos(1)),
     Some(Duration::from_secs(60)),
+    // 2^64 nanoseconds and one: lifetimes are searched for.
+    Some(Duration::new(18_446_744_073, 709_551_617)),
     Some(Duration::from_secs(1 << 63)),
 ];
 

@@ -100,6 +100,10 @@ fn part(group: &mut Group, arena: &[u8], at: usize, len: usize) {
 // Each export that answers in words, lent 0 to 10 of them: the answer stands in them only if all
 // of it fits, and the number says the same whatever was lent.
 pub fn words(group: &mut Group, _random: u64) {
+    lent(group, "as_nanos", 0, &[1, 290_448_384], &|out| {
+        port::parts::test_as_nanos(18_446_744_074, 0, out);
+        0
+    });
     let second = Some((1, 500_000_000));
     lent(group, "remaining_ttl", 2, &[15, 0], &|out| {
         port::parts::remaining_words(second, 20, 10, out)

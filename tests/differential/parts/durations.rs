@@ -1,5 +1,6 @@
-// Deadlines and the time that is left. A duration whose nanoseconds hold a whole second or more
-// is none of the Rust's: there, and everywhere beside the Rust, the rule in 128 bits decides.
+// Nanoseconds in two words, deadlines and the time that is left. A duration whose nanoseconds hold a
+// whole second or more is none of the Rust's: there, and everywhere beside the Rust, the rule in 128
+// bits decides.
 use crate::port::parts::{self as port, Left, Span};
 use crate::report::Group;
 use crate::rng::{Rng, edges};
@@ -16,9 +17,17 @@ const SECS: [u64; 7] = [0, 1, 60, (1 << 32) - 1, 1 << 32, 1 << 63, u64::MAX];
 
 const NANOS: [u32; 5] = [0, 1, 999_999_999, 1_000_000_000, u32::MAX];
 
+// The first number of nanoseconds that takes two words, and its neighbours.
+const TWO_WORDS: [Span; 3] = [
+    (18_446_744_073, 709_551_615),
+    (18_446_744_073, 709_551_616),
+    (18_446_744_073, 709_551_617),
+];
+
 fn products() -> Vec<Span> {
     SECS.iter()
         .flat_map(|&secs| NANOS.iter().map(move |&nanos| (secs, nanos)))
+        .chain(TWO_WORDS)
         .collect()
 }
 
@@ -99,7 +108,80 @@ fn lifetimes(tick: Span) -> Vec<Span> {
     all
 }
 
+pub fn nanoseconds(group: &mut Group, random: u64) {
+    // Worked out by hand.
+    for (length, wanted) in [
+        ((0, 0), [0, 0]),
+        ((1, 0), [0, 1_000_000_000]),
+        (TWO_WORDS[0], [0, u64::MAX]),
+        (TWO_WORDS[1], [1, 0]),
+        (TWO_WORDS[2], [1, 1]),
+        ((18_446_744_074, 0), [1, 290_448_384]),
+        ((u64::MAX, 999_999_999), [999_999_999, u64::MAX]),
+        ((u64::MAX, u32::MAX), [1_000_000_000, 3_294_967_295]),
+    ] {
+        let input = || format!("{length:?}");
+        group.rule("as_nanos", port::as_nanos(length), wanted, input);
+    }
+    for length in ticks() {
+        in_words(group, length);
+    }
+    let edges = edges();
+    let mut rng = Rng::new(60);
+    for _ in 0..random {
+        in_words(group, random_span(&mut rng, &edges));
+        in_words(group, near_words(&mut rng));
+    }
+}
+
+fn in_words(group: &mut Group, length: Span) {
+    let found = port::as_nanos(length);
+    let words = |nanos: u128| [(nanos >> 64) as u64, nanos as u64];
+    let input = || format!("{length:?}");
+    group.rule("as_nanos", found, words(nanos(length)), input);
+    if let Some(duration) = duration(length) {
+        group.rust("as_nanos", found, words(duration.as_nanos()), input);
+    }
+}
+
+// Close to where the lower word begins anew; upper words of each length in bits are as likely.
+fn near_words(rng: &mut Rng) -> Span {
+    let bits = rng.below(31);
+    let whole = u128::from((1 + rng.below(1 << bits)).min(1_000_000_000)) << 64;
+    let spread = rng.any_size();
+    let near = match rng.below(2) {
+        0 => whole + u128::from(rng.below(spread.max(1))),
+        _ => whole - u128::from(rng.below(spread.max(1))),
+    };
+    match span(near) {
+        Some(length) if rng.one_in(4) => top_heavy(length),
+        Some(length) => length,
+        None => (u64::MAX, u32::MAX - rng.below(1 << 32) as u32),
+    }
+}
+
+// Deadlines for a tick of 2^64 nanoseconds, worked out by hand.
+fn long_ticks(group: &mut Group) {
+    let tick = Some(TWO_WORDS[1]);
+    for (lifetime, base, wanted) in [
+        ((0, 0), 0, Ok(0)),
+        ((0, 1), 0, Ok(1)),
+        (TWO_WORDS[0], 0, Ok(1)),
+        (TWO_WORDS[1], 0, Ok(1)),
+        (TWO_WORDS[2], 0, Ok(2)),
+        ((1_208_888_926_126_481, 755_602_944), 0, Ok(65_534)),
+        ((1_208_888_926_126_481, 755_602_945), 0, Err(6)),
+        ((1_208_888_926_126_481, 755_602_944), 1, Err(6)),
+    ] {
+        let found = port::encode_expiry(tick, Some(lifetime), base);
+        let input = || format!("tick {tick:?}, lifetime {lifetime:?}, now {base}");
+        group.rule("encode_expiry", found, wanted, input);
+        deadline(group, tick, Some(lifetime), base);
+    }
+}
+
 pub fn deadlines(group: &mut Group, random: u64) {
+    long_ticks(group);
     let bases = [
         0,
         1,
@@ -126,7 +208,10 @@ pub fn deadlines(group: &mut Group, random: u64) {
     let edges = edges();
     let mut rng = Rng::new(5);
     for _ in 0..random {
-        let tick = random_span(&mut rng, &edges);
+        let tick = match rng.below(8) {
+            0 => near_words(&mut rng),
+            _ => random_span(&mut rng, &edges),
+        };
         let lifetime = random_lifetime(&mut rng, tick, &edges);
         let on = (!rng.one_in(50)).then_some(tick);
         let finite = (!rng.one_in(50)).then_some(lifetime);

@@ -24,6 +24,8 @@ unsafe extern "C" {
     pub safe fn test_varint_bytes(value: usize) -> usize;
 }
 
+export!(fn test_as_nanos(secs: u64, nanos: u32, out: &mut [u64],) -> ());
+
 export!(fn test_remaining_ttl(
     on: bool,
     tick_secs: u64,
@@ -74,6 +76,13 @@ pub enum Left {
     Finite(u64, u64),
     // No answer that the export may give.
     Strange(u64),
+}
+
+// The upper and the lower word.
+pub fn as_nanos((secs, nanos): Span) -> [u64; 2] {
+    let mut out = [0; 2];
+    test_as_nanos(secs, nanos, &mut out);
+    out
 }
 
 pub fn encode_expiry(

@@ -1,56 +1,39 @@
--- `covers` meets its contract: what the nanoseconds carry or lack is settled first, and the seconds are compared by a quotient. Assumes nothing.
-use mathlib.Core.Path.{sym}
+-- `covers` meets its contract: the product has two words again, and the upper ones decide unless they are the same. Assumes nothing.
+use mathlib.Core.Path.{sym, ap, _∙_}
+use Prim.Native.Nat.{ℕ, _+_, _*_}
 use native.Mathlib.Omega.{arith}
-use native.Mathlib.Nat.{mod-lt}
-use borrow.Author.Tests.{le-leb, lt-leb}
-use Rattle.hash_parts.proofs.Deadlines.{part-fits, covers-carry, covers-rest, covers-not, covers-more}
+use lib.Dec.{leb, ltb}
+use Rattle.hash_parts.specs.Duration.{nanosIn}
+use Rattle.hash_parts.proofs.Deadlines.{upper-fits, words-differ, words-same}
 use borrow.Author.Needs.{needs}
 use Rattle.hash_parts.proofs.duration.covers.Statement.{statement}
 use Rattle.hash_parts.proofs.duration.covers.Tie as tie
 
-mul-part : tie.Need-mul-part
-mul-part c = omega (arith, part-fits (c .before .args .tick .nanos) (c .before .args .ticks) 65534 (omega arith) (c .before .pre .1))
+mul-high : tie.Need-mul-high
+mul-high c =
+    let a = c .before .args in
+    omega (arith, upper-fits (a .tick .high) (a .tick .low) (a .ticks) (c .before .pre .1) (omega arith) (c .before .pre .0))
+
+add-high : tie.Need-add-high
+add-high c =
+    let a = c .before .before .args in
+    omega (arith, c .upper-product .ensures, upper-fits (a .tick .high) (a .tick .low) (a .ticks) (c .before .before .pre .1) (omega arith) (c .before .before .pre .0))
 
 returns : tie.Need-returns
+unfolding nanosIn
 returns c =
-    let a = c .before .before .before .before .args in
-    let p = c .before .before .before .before .pre in
-    sym (le-leb _ _ (covers-carry (a .tick .secs) (a .tick .nanos) (a .ticks) (a .lifetime .secs) (a .lifetime .nanos) (p .0) (c .before .if1 .taken) (c .if2 .taken)))
+    let a = c .before .before .before .before .before .args in
+    let e = ap (λ (x : ℕ). a .tick .high * a .ticks + x) (c .before .before .before .upper-product .ensures) in
+    ap (ltb (a .lifetime .high)) e
+    ∙ words-differ (a .tick .high) (a .tick .low) (a .ticks) (a .lifetime .high) (a .lifetime .low) (omega arith) (λ f. c .before .if1 .taken (f ∙ sym e))
 
 returns-2 : tie.Need-returns-2
+unfolding nanosIn
 returns-2 c =
-    let a = c .before .before .before .before .before .args in
-    let p = c .before .before .before .before .before .pre in
-    covers-rest (a .tick .secs) (a .tick .nanos) (a .ticks) (a .lifetime .secs) (a .lifetime .nanos) (p .0) (c .before .before .if1 .taken) (c .before .if2 .left)
-
-returns-3 : tie.Need-returns-3
-returns-3 c =
-    let a = c .before .before .before .before .before .args in
-    let p = c .before .before .before .before .before .pre in
-    sym (lt-leb _ _ (covers-not (a .tick .secs) (a .tick .nanos) (a .ticks) (a .lifetime .secs) (a .lifetime .nanos) (p .0) (c .before .before .if1 .left) (c .if3 .taken)))
-
-add-result : tie.Need-add-result
-add-result c = omega (arith, mod-lt (c .before .before .before .before .before .args .lifetime .secs) (c .before .before .before .before .before .pre .0))
-
-returns-4 : tie.Need-returns-4
-returns-4 c =
     let a = c .before .before .before .before .before .before .args in
-    let p = c .before .before .before .before .before .before .pre in
-    covers-more (a .tick .secs) (a .tick .nanos) (a .ticks) (a .lifetime .secs) (a .lifetime .nanos) (p .0) (c .before .before .before .if1 .left) (c .before .if3 .left)
+    let e = ap (λ (x : ℕ). a .tick .high * a .ticks + x) (c .before .before .before .before .upper-product .ensures) in
+    ap (leb (a .lifetime .low)) (c .before .wrapping-mul .ensures)
+    ∙ words-same (a .tick .high) (a .tick .low) (a .ticks) (a .lifetime .high) (a .lifetime .low) (c .before .before .if1 .left ∙ e)
 
 pub covers-spec : {M : Type 1} → statement M
-covers-spec =
-    tie.close
-    (tie.spec
-    (λ c. search needs)
-    mul-part
-    (λ c. search needs)
-    returns
-    (λ c. search needs) (λ c. search needs) (λ c. search needs)
-    returns-2
-    (λ c. search needs)
-    returns-3
-    (λ c. search needs) (λ c. search needs) (λ c. search needs)
-    add-result
-    (λ c. search needs) (λ c. search needs)
-    returns-4)
+covers-spec = tie.close (tie.spec mul-high (λ c κs. search needs) add-high returns (λ c κs. search needs) returns-2)

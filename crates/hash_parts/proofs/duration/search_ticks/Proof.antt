@@ -1,51 +1,44 @@
 -- `search_ticks` meets its contract: short ticks are too few, and enough ticks cover the lifetime or are past the limit. Assumes nothing.
-use mathlib.Core.Path.{_≡_, sym, _∙_}
+use mathlib.Core.Path.{sym, _∙_}
 use Prim.Native.Nat.{_+_, _*_, _-_, _≤_, _<_}
 use native.Mathlib.Omega.{arith}
 use native.Mathlib.Nat.{mul-zero}
-use borrow.Author.Tests.{leb-true, leb-false, eqb-true, eqb-false}
-use Rattle.hash_parts.specs.Duration.{nanosOf}
-use Rattle.hash_parts.proofs.Deadlines.{ceil-zero, search-ends}
+use borrow.Author.Tests.{leb-true, leb-false}
+use Rattle.hash_parts.specs.Duration.{nanosIn}
+use Rattle.hash_parts.proofs.Deadlines.{search-ends}
 use Rattle.hash_parts.proofs.duration.search_ticks.Statement.{statement}
 use Rattle.hash_parts.proofs.duration.search_ticks.Tie as tie
 
 abbrev Inv-loop : tie.InvT-loop
 Inv-loop lifetime tick limit short₀ enough₀ short enough =
-    (nanosOf tick * short < nanosOf lifetime) × (enough ≤ limit → nanosOf lifetime ≤ nanosOf tick * enough) × (short < enough) × (enough ≤ limit + 1)
+    (nanosIn tick * short < nanosIn lifetime) × (enough ≤ limit → nanosIn lifetime ≤ nanosIn tick * enough) × (short < enough) × (enough ≤ limit + 1)
 
 abbrev μ-loop : tie.MeasureT-loop
 μ-loop lifetime tick limit short₀ enough₀ short enough = enough - short
 
-returns : tie.Need-returns Inv-loop μ-loop
-returns c =
-    let a = c .before .before .args in
-    let z : nanosOf (a .lifetime) ≡ 0 = eqb-true _ _ (sym (c .before .is-zero .ensures) ∙ c .if1 .taken) in
-    rw z (ceil-zero (nanosOf (a .tick)) (a .limit) (c .before .before .pre .0))
-
 loop-holds : tie.Need-loop-holds Inv-loop μ-loop
 loop-holds c =
-    let a = c .before .before .args in
-    let n : nanosOf (a .lifetime) ≡ 0 → ⊥ = eqb-false _ _ (sym (c .before .is-zero .ensures) ∙ c .if1 .left) in
-    (rw (mul-zero (nanosOf (a .tick))) (omega arith), λ (h : a .limit + 1 ≤ a .limit). absurd (omega arith), omega arith, omega arith)
+    let a = c .args in
+    (rw (mul-zero (nanosIn (a .tick))) (c .pre .0), λ (h : a .limit + 1 ≤ a .limit). absurd (omega arith), omega arith, omega arith)
 
 covers-requires : tie.Need-covers-requires Inv-loop μ-loop
-covers-requires c κs = omega (arith, c .before .before .before .before .pre)
+covers-requires c κs = omega (arith, c .before .before .pre)
 
 loop-again : tie.Need-loop-again Inv-loop μ-loop
 loop-again c =
     let i = c .before .before .before .loop .inv in
-    (i .0, λ h. leb-true _ _ (sym (c .before .covers .ensures) ∙ c .if2 .taken), omega arith, omega arith)
+    (i .0, λ h. leb-true _ _ (sym (c .before .covers .ensures) ∙ c .if1 .taken), omega arith, omega arith)
 
 loop-again-2 : tie.Need-loop-again-2 Inv-loop μ-loop
 loop-again-2 c =
     let i = c .before .before .before .loop .inv in
-    (leb-false _ _ (sym (c .before .covers .ensures) ∙ c .if2 .left), i .1, omega arith, i .3)
+    (leb-false _ _ (sym (c .before .covers .ensures) ∙ c .if1 .left), i .1, omega arith, i .3)
 
-returns-2 : tie.Need-returns-2 Inv-loop μ-loop
-returns-2 c =
-    let a = c .before .before .before .before .args in
+returns : tie.Need-returns Inv-loop μ-loop
+returns c =
+    let a = c .before .before .args in
     let w = c .before .loop in
-    search-ends (nanosOf (a .lifetime)) (nanosOf (a .tick)) (w .short) (w .enough) (a .limit) (c .before .before .before .before .pre .0) (w .inv .0) (w .inv .1) (w .inv .2) (omega arith) (w .inv .3)
+    search-ends (nanosIn (a .lifetime)) (nanosIn (a .tick)) (w .short) (w .enough) (a .limit) (c .before .before .pre .1) (w .inv .0) (w .inv .1) (w .inv .2) (omega arith) (w .inv .3)
 
 pub search-ticks-spec : {M : Type 1} → statement M
 search-ticks-spec =
@@ -53,8 +46,6 @@ search-ticks-spec =
     (tie.spec
     Inv-loop
     μ-loop
-    (λ c κs. tt)
-    returns
     (λ c. omega arith)
     loop-holds
     (λ c. omega arith) (λ c. omega arith)
@@ -63,4 +54,4 @@ search-ticks-spec =
     loop-again
     (λ c. omega arith)
     loop-again-2
-    returns-2)
+    returns)

@@ -1,7 +1,6 @@
 -- `upper_product` meets its contract: the columns of the halves are the product. Assumes nothing.
 use mathlib.Core.Path.{sym}
 use native.Mathlib.Omega.{arith}
-use Rattle.hash_parts.specs.Hash.{firstBucket}
 use Rattle.hash_parts.proofs.Products.{halves, upper-half}
 use Rattle.hash_parts.proofs.hash.upper_product.Statement.{statement}
 use Rattle.hash_parts.proofs.hash.upper_product.Tie as tie
@@ -31,7 +30,6 @@ add-result-2 : tie.Need-add-result-2
 add-result-2 c = let h = halves (c .fits .a .fits) (c .fits .b .fits) in omega arith
 
 returns : tie.Need-returns
-unfolding firstBucket
 returns c = sym (upper-half (c .args .a) (c .args .b))
 
 pub upper-product-spec : {M : Type 1} → statement M
