@@ -18,7 +18,7 @@ use sets::builder::{FinishAnswer, OpenAnswer, PushAnswer, SegmentCacheBuilder};
 use sets::cache::{FrozenSegmentCache, GetAnswer};
 
 // What the lookup of a list answers; a value's bytes are what `value_slice` hands out for the span.
-#[derive(Drop)]
+#[derive(Clone, Copy)]
 pub(crate) enum ListAnswer {
     Value(Span),
     Nothing,

@@ -2,6 +2,8 @@
 // result is the refusal's number, 0 for accepted. What a call hands back goes to lent words, which
 // a refusal leaves as they were. The calls that are made often stand in crates of their own
 // (capi_get and so on), which use the words and answers here.
+#![tactic(auto)]
+
 pub mod answers;
 pub mod build_calls;
 pub mod rebuild_calls;

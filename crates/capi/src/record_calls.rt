@@ -13,7 +13,7 @@ use sets::builder::SegmentCacheBuilder;
 
 const READ_WORDS: usize = 9;
 
-#[derive(Drop)]
+#[derive(Clone, Copy)]
 pub(crate) enum FittingSetting {
     Is(SegmentCacheConfig),
     Refused(u64),

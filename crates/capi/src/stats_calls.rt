@@ -9,7 +9,7 @@ use crate::words::{
 use sets::cache::StatsAnswer;
 use sets::stats::SegmentCacheStats;
 
-#[derive(Drop)]
+#[derive(Clone, Copy)]
 enum StatsNumber {
     RetainedBytes,
     OverheadBytes,

@@ -35,37 +35,37 @@ const SETTING_WORDS: usize = 6;
 
 const MAX_NANOS: u64 = 0xffff_ffff;
 
-#[derive(Drop)]
+#[derive(Clone, Copy)]
 pub(crate) enum LoadedSetting {
     Is(SegmentCacheConfig),
     Malformed,
 }
 
-#[derive(Drop)]
+#[derive(Clone, Copy)]
 pub enum LoadedBuilder {
     Is(SegmentCacheBuilder),
     Malformed,
 }
 
-#[derive(Drop)]
+#[derive(Clone, Copy)]
 pub enum LoadedSet {
     Is(FrozenSegmentCache),
     Malformed,
 }
 
-#[derive(Drop)]
+#[derive(Clone, Copy)]
 pub enum LoadedRebuild {
     Is(SharedSegmentCacheBuilder),
     Malformed,
 }
 
-#[derive(Drop)]
+#[derive(Clone, Copy)]
 pub enum LoadedLifetime {
     Is(Lifetime),
     Malformed,
 }
 
-#[derive(Drop)]
+#[derive(Clone, Copy)]
 pub(crate) enum LoadedStats {
     Is(SegmentCacheStats),
     Malformed,

@@ -1,4 +1,6 @@
 // What is told of a whole set, for C: its chart room sheet.
+#![tactic(auto)]
+
 ghost use Rattle.std.specs.Prelude.{◌≡◌};
 ghost use Rattle.capi.specs.Calls.{told};
 ghost use Rattle.charts.specs.Sheet.{sheet_reply};

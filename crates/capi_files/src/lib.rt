@@ -1,4 +1,6 @@
 // Sets as files, for C: how many bytes a set takes, writing it, what a file's areas take, loading it.
+#![tactic(auto)]
+
 ghost use Rattle.std.specs.Prelude.{◌≡◌};
 ghost use Rattle.capi.specs.Calls.{told};
 ghost use Rattle.files.specs.Load.{load_reply, needs_reply};

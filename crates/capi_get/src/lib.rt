@@ -1,5 +1,7 @@
 // One call for C in a library of its own, where nothing else calls what it calls: so the compiler makes one
 // piece of code of it.
+#![tactic(auto)]
+
 ghost use Rattle.std.specs.Prelude.{◌≡◌};
 ghost use Rattle.capi.specs.Calls.{exported_get, index_told};
 

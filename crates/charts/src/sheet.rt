@@ -22,14 +22,14 @@ const PAGE_BYTES: usize = PAGE_LINES * LINE_BYTES;
 // The columns of key and value show so many bytes.
 const FIELD_BYTES: usize = 12;
 
-#[derive(Drop)]
+#[derive(Clone, Copy)]
 pub enum SheetAnswer {
     // How many pages the sheet has.
     Pages(usize),
     Refused(SegmentCacheBuildError),
 }
 
-#[derive(Drop)]
+#[derive(Clone, Copy)]
 pub(crate) enum RowCount {
     Rows(usize),
     // A key or value is too long for its columns.

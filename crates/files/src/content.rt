@@ -48,7 +48,7 @@ pub(crate) const BUCKET_BYTES: usize = 64;
 pub(crate) const MAX_ARENA_BYTES: usize = 1_073_741_824;
 
 // What the questions of a file come to: the set that it holds, as it will be once loaded.
-#[derive(Drop)]
+#[derive(Clone, Copy)]
 pub(crate) enum FilePlan {
     Set(FrozenSegmentCache),
     Refused(SegmentCacheBuildError),

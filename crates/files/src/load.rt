@@ -20,7 +20,7 @@ use index::word::BUCKET_SLOTS;
 use sets::cache::FrozenSegmentCache;
 
 // How long the areas must be that a file is loaded into: words of 64 bits, and bytes.
-#[derive(Drop)]
+#[derive(Clone, Copy)]
 pub struct FileNeeds {
     pub index: usize,
     pub filter: usize,
@@ -29,13 +29,13 @@ pub struct FileNeeds {
     pub arena: usize,
 }
 
-#[derive(Drop)]
+#[derive(Clone, Copy)]
 pub enum FileNeedsAnswer {
     Needs(FileNeeds),
     Refused(SegmentCacheBuildError),
 }
 
-#[derive(Drop)]
+#[derive(Clone, Copy)]
 pub enum LoadFileAnswer {
     Loaded(FrozenSegmentCache),
     Refused(SegmentCacheBuildError),

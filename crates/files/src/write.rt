@@ -23,13 +23,13 @@ use sets::rebuild_questions::source_holds;
 // Five headers and kind 1.
 const FIXED_BYTES: usize = 74;
 
-#[derive(Drop)]
+#[derive(Clone, Copy)]
 pub enum FileSizeAnswer {
     Bytes(usize),
     Refused(SegmentCacheBuildError),
 }
 
-#[derive(Drop)]
+#[derive(Clone, Copy)]
 pub enum WriteFileAnswer {
     // How many bytes the file has.
     Written(usize),

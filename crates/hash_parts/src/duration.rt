@@ -14,7 +14,7 @@ const MAX_EXPIRY_TICK: u64 = 65_534;
 
 const NANOS_PER_SEC: u64 = 1_000_000_000;
 
-#[derive(Drop)]
+#[derive(Clone, Copy)]
 pub struct Duration {
     pub secs: u64,
     pub nanos: u32,
@@ -48,26 +48,26 @@ impl Duration {
 }
 
 // A number of nanoseconds in two words, high × 2^64 + low: the Rust's u128.
-#[derive(Drop)]
+#[derive(Clone, Copy)]
 pub struct Nanoseconds {
     pub high: u64,
     pub low: u64,
 }
 
 // How long a record lives: the Rust's Option<Duration>.
-#[derive(Drop)]
+#[derive(Clone, Copy)]
 pub enum Lifetime {
     Never,
     For(Duration),
 }
 
-#[derive(Drop)]
+#[derive(Clone, Copy)]
 pub enum EncodedExpiry {
     At(u16),
     Refused(SegmentCacheBuildError),
 }
 
-#[derive(Drop)]
+#[derive(Clone, Copy)]
 pub enum SegmentRemainingTtl {
     Never,
     Finite(Duration),

@@ -2,7 +2,7 @@
 ghost use Rattle.std.specs.Prelude.{◌≡◌};
 ghost use Rattle.hash_parts.specs.Error.{error_number};
 
-#[derive(Drop)]
+#[derive(Clone, Copy)]
 pub enum SegmentCacheBuildError {
     // Target bucket occupancy is not from one to seven.
     InvalidBucketOccupancy,

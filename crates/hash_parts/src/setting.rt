@@ -7,7 +7,7 @@ use crate::duration::Duration;
 const DEFAULT_TARGET_OCCUPIED_SLOTS: u8 = 7;
 
 // Whether records keep a deadline, and the length of the ticks that it counts.
-#[derive(Drop)]
+#[derive(Clone, Copy)]
 pub enum SegmentExpiry {
     // Records keep no deadline.
     None,
@@ -26,7 +26,7 @@ impl SegmentExpiry {
     }
 }
 
-#[derive(Drop)]
+#[derive(Clone, Copy)]
 pub struct SegmentCacheConfig {
     pub expiry: SegmentExpiry,
     pub target_occupied_slots: u8,

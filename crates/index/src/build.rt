@@ -7,7 +7,7 @@ use hash_parts::setting::SegmentExpiry;
 use records::record::{RecordAnswer, record_at, same_bytes, value_slice};
 
 // What looking for a slot finds.
-#[derive(Drop)]
+#[derive(Clone, Copy)]
 pub enum BuildSlot {
     // The first empty slot of the walk.
     Empty(usize),

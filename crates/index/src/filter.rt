@@ -9,7 +9,7 @@ use crate::word::BUCKET_SLOTS;
 const NEGATIVE_FILTER_PREFIX_BUCKETS: usize = 2;
 
 // A word of the filter, and the bits of a hash in it.
-#[derive(Drop)]
+#[derive(Clone, Copy)]
 pub struct FilterLocation {
     pub word: usize,
     pub mask: u64,

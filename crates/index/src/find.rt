@@ -26,20 +26,20 @@ const PACKED_CONTROL_TAG_BITS: u64 = 0x7f7f_7f7f_7f7f_7f7f;
 const BYTE_LOW_BITS: u64 = 0x0101_0101_0101_0101;
 
 // A record that was found, and the slot that names it.
-#[derive(Drop)]
+#[derive(Clone, Copy)]
 pub struct FoundRecord {
     pub slot: usize,
     pub entry: RecordRef,
 }
 
-#[derive(Drop)]
+#[derive(Clone, Copy)]
 pub enum FindAnswer {
     Found(FoundRecord),
     Nothing,
 }
 
 // What a slot or a bucket says: a hit, the end of the walk with nothing, or on.
-#[derive(Drop)]
+#[derive(Clone, Copy)]
 pub(crate) enum FindStep {
     Hit(FoundRecord),
     Stop,

@@ -16,7 +16,7 @@ pub const MAX_RECORD_SEGMENTS: usize = 256;
 // Above every location.
 const NO_START: u64 = LOCATIONS;
 
-#[derive(Drop)]
+#[derive(Clone, Copy)]
 pub enum SplitAnswer {
     Segments(usize),
     Refused(SegmentCacheBuildError),

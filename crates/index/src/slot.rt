@@ -2,7 +2,7 @@
 ghost use Rattle.std.specs.Prelude.{◌≡◌};
 ghost use Rattle.index.specs.Slot.{word_slot};
 
-#[derive(Drop)]
+#[derive(Clone, Copy)]
 pub enum IndexSlot {
     Empty,
     // What the layout keeps of the tag, and the stored location: the location plus 1, or 0.

@@ -8,7 +8,7 @@ use records::record::{RecordAnswer, RecordRef, Span, record_at};
 
 // What a reader must know of a set: whether records keep a deadline, how many bytes of the arena
 // are filled, and how many segments there are.
-#[derive(Drop)]
+#[derive(Clone, Copy)]
 pub struct SegmentView {
     pub expiry: SegmentExpiry,
     pub filled: usize,

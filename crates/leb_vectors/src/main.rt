@@ -1,6 +1,8 @@
 // Published unsigned LEB128 examples, written and read back: the DWARF standard's table (2, 127,
 // 128, 129, 12857), the usual example 624485, both sides of 2^32, and the ends of the ranges of nine
 // and ten bytes.
+#![tactic(auto)]
+
 use records::varint::{Varint, WriteAnswer};
 
 // A number, its bytes, and the number and the byte count that reading them gives.

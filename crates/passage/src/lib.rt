@@ -1,4 +1,6 @@
 // The program passage: each line of its input is answered by a line of output, over areas of its own.
+#![tactic(auto)]
+
 mod answer;
 pub mod program;
 mod stage;

@@ -13,21 +13,21 @@ const MAX_REPLY_BYTES: usize = 8_200;
 
 // What goes on from line to line: the set, what is unread of the block, and how many bytes of
 // output wait to be written.
-#[derive(Drop)]
+#[derive(Clone, Copy)]
 struct State {
     stage: Stage,
     input: Input,
     waiting: usize,
 }
 
-#[derive(Drop)]
+#[derive(Clone, Copy)]
 enum Turn {
     More(State),
     Done,
 }
 
 // What an attempt to read more comes to.
-#[derive(Drop)]
+#[derive(Clone, Copy)]
 enum Refill {
     Read(Input),
     // The bytes of a last line.
@@ -35,7 +35,7 @@ enum Refill {
 }
 
 // What answering a line leaves.
-#[derive(Drop)]
+#[derive(Clone, Copy)]
 struct Response {
     stage: Stage,
     waiting: usize,

@@ -12,7 +12,7 @@ use sets::cache::{FrozenSegmentCache, GetAnswer};
 
 // An open is in turn until one was good, put and close while a builder is open, get once the set is
 // finished.
-#[derive(Drop)]
+#[derive(Clone, Copy)]
 pub(crate) enum Stage {
     Fresh,
     Building(SegmentCacheBuilder),
@@ -20,13 +20,13 @@ pub(crate) enum Stage {
 }
 
 // What a command prints: a line, or the line of a value that stands in the arena.
-#[derive(Drop)]
+#[derive(Clone, Copy)]
 pub(crate) enum Answer {
     Line(Reply),
     Value(Span),
 }
 
-#[derive(Drop)]
+#[derive(Clone, Copy)]
 pub(crate) struct Step {
     pub stage: Stage,
     pub answer: Answer,

@@ -1,4 +1,6 @@
 // The program passage on lines of other forms, a line over the limit, and a last line without line feed.
+#![tactic(auto)]
+
 fn main() {
     passage::program::run();
 }

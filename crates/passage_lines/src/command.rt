@@ -16,7 +16,7 @@ use records::record::{Span, same_bytes};
 pub(crate) const MAX_LINE_BYTES: usize = 8_192;
 
 // The spans are the parts of the line that spell key and value, of length 0 for `-`.
-#[derive(Drop)]
+#[derive(Clone, Copy)]
 pub enum Command {
     Open {
         records: usize,

@@ -13,31 +13,31 @@ use hash_parts::duration::Lifetime;
 use hash_parts::setting::SegmentExpiry;
 use records::record::Span;
 
-#[derive(Drop)]
+#[derive(Clone, Copy)]
 pub(crate) enum NumberField {
     Value(u64, usize),
     Bad,
 }
 
-#[derive(Drop)]
+#[derive(Clone, Copy)]
 pub(crate) enum BytesField {
     Spelled(Span, usize),
     Bad,
 }
 
-#[derive(Drop)]
+#[derive(Clone, Copy)]
 pub(crate) enum LayoutField {
     Packed(bool, usize),
     Bad,
 }
 
-#[derive(Drop)]
+#[derive(Clone, Copy)]
 pub(crate) enum TickField {
     Of(SegmentExpiry, usize),
     Bad,
 }
 
-#[derive(Drop)]
+#[derive(Clone, Copy)]
 pub(crate) enum LifetimeField {
     Of(Lifetime, usize),
     Bad,

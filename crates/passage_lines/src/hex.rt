@@ -8,7 +8,7 @@ use crate::text::{Number, digit};
 use records::record::same_bytes;
 
 // How many bytes were written.
-#[derive(Drop)]
+#[derive(Clone, Copy)]
 pub enum DecodeAnswer {
     Bytes(usize),
     Refused,

@@ -8,7 +8,7 @@ use crate::command::MAX_LINE_BYTES;
 
 // What of a block is unread: the bytes from at to end. Where skipping, they go on with a line that
 // was too long.
-#[derive(Drop)]
+#[derive(Clone, Copy)]
 pub struct Input {
     pub at: usize,
     pub end: usize,
@@ -22,7 +22,7 @@ const NOTHING: Input = Input {
 };
 
 // What stands next in a block, and what is unread after it.
-#[derive(Drop)]
+#[derive(Clone, Copy)]
 pub enum NextLine {
     // A whole line, without its line feed.
     Line {

@@ -8,7 +8,7 @@ use hash_parts::error::SegmentCacheBuildError;
 use texts::output::{put_decimal, put_hex, put_text};
 
 // The words of the commands.
-#[derive(Drop)]
+#[derive(Clone, Copy)]
 pub enum Word {
     Open,
     Put,
@@ -16,7 +16,7 @@ pub enum Word {
     Get,
 }
 
-#[derive(Drop)]
+#[derive(Clone, Copy)]
 pub enum Reply {
     // A line of another form, or out of turn.
     Bad,

@@ -6,32 +6,32 @@ use hash_parts::duration::{Duration, Lifetime};
 use hash_parts::setting::SegmentExpiry;
 use records::record::same_bytes;
 
-#[derive(Drop)]
+#[derive(Clone, Copy)]
 pub(crate) enum Number {
     Value(u64),
     Bad,
 }
 
-#[derive(Drop)]
+#[derive(Clone, Copy)]
 pub(crate) enum DurationText {
     Of(Duration),
     Bad,
 }
 
 // Whether the layout is packed.
-#[derive(Drop)]
+#[derive(Clone, Copy)]
 pub(crate) enum LayoutText {
     Packed(bool),
     Bad,
 }
 
-#[derive(Drop)]
+#[derive(Clone, Copy)]
 pub(crate) enum TickLength {
     Of(SegmentExpiry),
     Bad,
 }
 
-#[derive(Drop)]
+#[derive(Clone, Copy)]
 pub(crate) enum LifetimeText {
     Of(Lifetime),
     Bad,

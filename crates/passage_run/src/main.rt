@@ -1,4 +1,6 @@
 // The program passage on document 01's example.
+#![tactic(auto)]
+
 fn main() {
     passage::program::run();
 }

@@ -12,7 +12,7 @@ use hash_parts::error::SegmentCacheBuildError;
 use hash_parts::setting::SegmentExpiry;
 
 // A part of a slice of bytes.
-#[derive(Drop)]
+#[derive(Clone, Copy)]
 pub struct Span {
     pub at: usize,
     pub len: usize,
@@ -21,7 +21,7 @@ pub struct Span {
 // A record that was read: where it begins, how many bytes stand before its key, where key and
 // value stand, where it ends and the next one may begin, and its deadline. The end is the position
 // just after the value, counted as the location is.
-#[derive(Drop)]
+#[derive(Clone, Copy)]
 pub struct RecordRef {
     pub location: usize,
     pub key_offset: usize,
@@ -31,13 +31,13 @@ pub struct RecordRef {
     pub expires_at: u16,
 }
 
-#[derive(Drop)]
+#[derive(Clone, Copy)]
 pub enum RecordAnswer {
     Read(RecordRef),
     Unreadable,
 }
 
-#[derive(Drop)]
+#[derive(Clone, Copy)]
 pub enum SizeAnswer {
     Bytes(usize),
     Refused(SegmentCacheBuildError),

@@ -7,14 +7,14 @@ ghost use Rattle.records.specs.Varint.{read_varint};
 use hash_parts::error::SegmentCacheBuildError;
 
 // What reading a number finds: the number, and the position after it.
-#[derive(Drop)]
+#[derive(Clone, Copy)]
 pub enum Varint {
     Value(usize, usize),
     Unreadable,
 }
 
 // What writing to the front of an area answers: how many bytes were written.
-#[derive(Drop)]
+#[derive(Clone, Copy)]
 pub enum WriteAnswer {
     Written(usize),
     Refused(SegmentCacheBuildError),

@@ -1,6 +1,8 @@
 // Refusals at the boundaries of each number: 9, 11 and 12, which the program passage cannot reach, and others
 // beside them. The cases are lines of standard input: each names what is changed in words that pass, and how.
 // A line of the output has the name, and the number of each call's answer: 0 where the call is accepted.
+#![tactic(auto)]
+
 use crate::calls::ask;
 use crate::place::Words;
 use crate::text::{changed, find};

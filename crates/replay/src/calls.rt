@@ -94,7 +94,7 @@ fn is_front(name: &[u8], padded: [u8; 16]) -> bool {
 pub(crate) type Arena = [u8; 131_072];
 
 // What the program has for a set, and for the build or the rebuild that makes it.
-#[derive(Drop)]
+#[derive(Clone, Copy)]
 pub(crate) struct Areas {
     builder: [u64; 13],
     rebuild: [u64; 22],

@@ -5,7 +5,7 @@ use hash_parts::hash::wrapping_mul;
 use passage_lines::hex::{DecodeAnswer, decode_hex};
 use records::record::same_bytes;
 
-#[derive(Drop)]
+#[derive(Clone, Copy)]
 pub(crate) struct Line {
     pub(crate) kind: usize,
     // Where the key ends at the front of an area, and the value behind it.

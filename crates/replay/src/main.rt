@@ -1,5 +1,7 @@
 // Replays the Rust's answers: each line of standard input is a call and what the Rust answered. Counts
 // the calls, and the answers of the port that differ. The port is asked by the calls that it exports.
+#![tactic(auto)]
+
 use crate::calls::{EMPTY, make_call};
 use crate::line::{MOST_BYTES, read_line};
 use crate::tally::START;

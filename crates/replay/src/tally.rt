@@ -4,7 +4,7 @@ use crate::line::{ANSWER, Line, Numbers, TOLD, Told};
 
 const SHOWN_DIFFERENCES: u64 = 10;
 
-#[derive(Drop)]
+#[derive(Clone, Copy)]
 pub(crate) struct Tally {
     differences: u64,
     counts: [u64; 16],

@@ -11,7 +11,7 @@ use index::segments::MAX_RECORD_SEGMENTS;
 use index::word::BUCKET_SLOTS;
 
 // Words of 64 bits.
-#[derive(Drop)]
+#[derive(Clone, Copy)]
 pub struct AreaWords {
     pub index: usize,
     pub filter: usize,
@@ -21,7 +21,7 @@ pub struct AreaWords {
     pub scratch: usize,
 }
 
-#[derive(Drop)]
+#[derive(Clone, Copy)]
 pub enum AreaWordsAnswer {
     Words(AreaWords),
     Refused(SegmentCacheBuildError),

@@ -19,7 +19,7 @@ use index::segments::{SplitAnswer, split_record_segments};
 use index::word::{BUCKET_SLOTS, encode_index_word};
 use records::record::{SizeAnswer, append_record};
 
-#[derive(Drop)]
+#[derive(Clone, Copy)]
 pub struct SegmentCacheBuilder {
     pub config: SegmentCacheConfig,
     pub expected_entries: usize,
@@ -32,13 +32,13 @@ pub struct SegmentCacheBuilder {
     pub logical_value_bytes: usize,
 }
 
-#[derive(Drop)]
+#[derive(Clone, Copy)]
 pub enum OpenAnswer {
     Opened(SegmentCacheBuilder),
     Refused(SegmentCacheBuildError),
 }
 
-#[derive(Drop)]
+#[derive(Clone, Copy)]
 pub enum PushAnswer {
     Pushed {
         builder: SegmentCacheBuilder,
@@ -51,7 +51,7 @@ pub enum PushAnswer {
     },
 }
 
-#[derive(Drop)]
+#[derive(Clone, Copy)]
 pub enum FinishAnswer {
     Finished(FrozenSegmentCache),
     Refused {
@@ -61,7 +61,7 @@ pub enum FinishAnswer {
 }
 
 // Where a push will put its record, and with which deadline.
-#[derive(Drop)]
+#[derive(Clone, Copy)]
 pub(crate) enum PushPlan {
     Place(usize, u16),
     Refused(SegmentCacheBuildError),

@@ -17,7 +17,7 @@ use index::view::SegmentView;
 use index::word::BUCKET_SLOTS;
 use records::record::Span;
 
-#[derive(Drop)]
+#[derive(Clone, Copy)]
 pub struct FrozenSegmentCache {
     pub config: SegmentCacheConfig,
     pub entries: usize,
@@ -35,7 +35,7 @@ pub struct FrozenSegmentCache {
 
 // A record as probe and walk tell it. Key and value are parts of the arena; location and end are
 // segment × 2^32 + offset.
-#[derive(Drop)]
+#[derive(Clone, Copy)]
 pub struct SegmentBaseRecord {
     pub slot: usize,
     pub location: usize,
@@ -46,35 +46,35 @@ pub struct SegmentBaseRecord {
     pub remaining_ttl: SegmentRemainingTtl,
 }
 
-#[derive(Drop)]
+#[derive(Clone, Copy)]
 pub enum GetAnswer {
     Value(Span),
     Nothing,
     Refused(SegmentCacheBuildError),
 }
 
-#[derive(Drop)]
+#[derive(Clone, Copy)]
 pub enum TakeAnswer {
     // Whether the mark was set; false too where no record was found.
     Accessed(bool),
     Refused(SegmentCacheBuildError),
 }
 
-#[derive(Drop)]
+#[derive(Clone, Copy)]
 pub enum ProbeAnswer {
     Found(SegmentBaseRecord),
     Nothing,
     Refused(SegmentCacheBuildError),
 }
 
-#[derive(Drop)]
+#[derive(Clone, Copy)]
 pub enum WalkAnswer {
     Entry(SegmentBaseRecord),
     End,
     Refused(SegmentCacheBuildError),
 }
 
-#[derive(Drop)]
+#[derive(Clone, Copy)]
 pub enum StatsAnswer {
     Stats(SegmentCacheStats),
     Refused(SegmentCacheBuildError),

@@ -11,7 +11,7 @@ const WORD_BITS: usize = 64;
 const WORDS: usize = 4;
 
 // Bit g % 64 of word g / 64 says whether segment g is kept.
-#[derive(Drop)]
+#[derive(Clone, Copy)]
 pub struct KeptSegments {
     pub w0: u64,
     pub w1: u64,

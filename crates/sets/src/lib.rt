@@ -1,6 +1,8 @@
 // Sets of records: a builder that is opened, filled and finished, the finished set that answers, and
 // its rebuild.
 // The fourth of four crates.
+#![tactic(auto)]
+
 pub mod areas;
 mod build_questions;
 pub mod builder;

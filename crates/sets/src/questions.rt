@@ -33,7 +33,7 @@ pub(crate) fn deadline_refusal(deadline: EncodedExpiry) -> SegmentCacheBuildErro
 }
 
 // What a call's questions come to.
-#[derive(Drop)]
+#[derive(Clone, Copy)]
 pub(crate) enum Check {
     Passed,
     Refused(SegmentCacheBuildError),

@@ -27,13 +27,13 @@ use records::record::append_record;
 use std::num::wrapping_add_usize;
 
 // Where a record stands in the source, and how many bytes precede its key.
-#[derive(Drop)]
+#[derive(Clone, Copy)]
 pub struct SegmentRecordLocation {
     pub location: usize,
     pub header_bytes: usize,
 }
 
-#[derive(Drop)]
+#[derive(Clone, Copy)]
 pub struct SharedSegmentCacheBuilder {
     pub config: SegmentCacheConfig,
     pub expected_entries: usize,
@@ -54,7 +54,7 @@ pub struct SharedSegmentCacheBuilder {
 }
 
 // The rebuilt set, and what it took.
-#[derive(Drop)]
+#[derive(Clone, Copy)]
 pub struct SharedSegmentCacheBuild {
     pub cache: FrozenSegmentCache,
     pub reused_entries: usize,
@@ -63,7 +63,7 @@ pub struct SharedSegmentCacheBuild {
     pub newly_allocated_bytes: usize,
 }
 
-#[derive(Drop)]
+#[derive(Clone, Copy)]
 pub enum RebuildOpenAnswer {
     Opened(SharedSegmentCacheBuilder),
     Refused {
@@ -72,7 +72,7 @@ pub enum RebuildOpenAnswer {
     },
 }
 
-#[derive(Drop)]
+#[derive(Clone, Copy)]
 pub enum RebuildPushAnswer {
     Pushed {
         builder: SharedSegmentCacheBuilder,
@@ -85,7 +85,7 @@ pub enum RebuildPushAnswer {
     },
 }
 
-#[derive(Drop)]
+#[derive(Clone, Copy)]
 pub enum RebuildFinishAnswer {
     Finished(SharedSegmentCacheBuild),
     Refused {

@@ -30,7 +30,7 @@ use records::record::{RecordAnswer, RecordRef, same_bytes, value_slice};
 pub(crate) const SEGMENT_BYTES: usize = index::word::SEGMENT_BYTES as usize;
 
 // Where a reused push will put its word.
-#[derive(Drop)]
+#[derive(Clone, Copy)]
 pub(crate) enum SlotPlan {
     Slot(usize),
     Refused(SegmentCacheBuildError),

@@ -4,7 +4,7 @@ ghost use Rattle.sets.specs.Stats.{load_of};
 
 use std::num::wrapping_add_usize;
 
-#[derive(Drop)]
+#[derive(Clone, Copy)]
 pub struct SegmentCacheStats {
     // Records.
     pub entries: usize,

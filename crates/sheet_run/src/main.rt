@@ -1,4 +1,6 @@
 // The sheet of document 01's example.
+#![tactic(auto)]
+
 fn main() {
     sheet_command::program::run();
 }

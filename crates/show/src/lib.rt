@@ -1,4 +1,6 @@
 // Lines of the trial programs.
+#![tactic(auto)]
+
 use libc::STDOUT_FILENO;
 
 // A name and a number in decimal.

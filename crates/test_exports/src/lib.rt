@@ -1,5 +1,7 @@
 // The port's lower calls for the differential test, as C functions on numbers and slices. An
 // answer that does not fit one number goes to lent words, and only if all of it fits there.
+#![tactic(auto)]
+
 mod index_calls;
 
 ghost use Rattle.std.specs.Prelude.{◌≡◌, ◌*◌, ◌%◌, ◌^◌, length};

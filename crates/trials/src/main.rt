@@ -1,4 +1,6 @@
 // Document 01's trials, run: each line says what was asked and what came out.
+#![tactic(auto)]
+
 mod calls;
 mod example;
 mod file;

@@ -1,0 +1,13 @@
+-- `make_copy` meets its contract. Assumes nothing.
+use Rattle.book.specs.Made.{areas_of}
+use Rattle.book.proofs.Making.{make_copy}
+use borrow.Author.Rules.{rules}
+use Rattle.book.proofs.calls.make_copy.Goals as goal
+
+pub returns : goal.returns
+returns c =
+    let a = c.args in
+    let areas = areas_of a.index.now a.filter.now a.starts.now a.lengths.now in
+    let m = c.push_copied in
+    let left = m.new.value.1.1.1.1 in
+    (m.ensures, make_copy a.builder areas a.arena.now a.hash a.key.now a.value.now a.ttl m.result left.0 left.1.0 left.1.1.1.1.0 m.ensures)

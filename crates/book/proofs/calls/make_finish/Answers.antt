@@ -1,0 +1,13 @@
+-- `make_finish` meets its contract. Assumes nothing.
+use Rattle.book.specs.Made.{areas_of}
+use Rattle.book.proofs.Making.{make_finish}
+use borrow.Author.Rules.{rules}
+use Rattle.book.proofs.calls.make_finish.Goals as goal
+
+pub returns : goal.returns
+returns c =
+    let a = c.args in
+    let areas = areas_of a.index.now a.filter.now a.starts.now a.lengths.now in
+    let m = c.finish in
+    let left = m.new.starts.1 in
+    (m.ensures, make_finish a.builder areas a.arena.now a.target a.scratch.now m.result left.0 left.1.0 left.1.1.0 left.1.1.1.0 m.ensures)

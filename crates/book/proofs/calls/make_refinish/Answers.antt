@@ -1,0 +1,12 @@
+-- `make_refinish` meets its contract. Assumes nothing.
+use Rattle.book.specs.Made.{areas_of}
+use Rattle.book.proofs.Making.{make_refinish}
+use borrow.Author.Rules.{rules}
+use Rattle.book.proofs.calls.make_refinish.Goals as goal
+
+pub returns : goal.returns
+returns c =
+    let a = c.args in
+    let areas = areas_of a.index.now a.filter.now a.starts.now a.lengths.now in
+    let m = c.finish in
+    (m.ensures, make_refinish a.builder areas a.arena.now a.scratch.now m.result m.new.starts.0 m.new.starts.1.0 m.new.starts.1.1.0 m.new.starts.1.1.1.0 m.ensures)

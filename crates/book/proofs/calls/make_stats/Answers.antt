@@ -1,0 +1,12 @@
+-- `make_stats` meets its contract. Assumes nothing.
+use Rattle.book.specs.Made.{areas_of, set_with}
+use Rattle.book.proofs.Making.{make_stats}
+use borrow.Author.Rules.{rules}
+use Rattle.book.proofs.calls.make_stats.Goals as goal
+
+pub returns : goal.returns
+returns c =
+    let a = c.args in
+    let areas = areas_of a.index.now a.filter.now a.starts.now a.lengths.now in
+    let m = c.stats in
+    (m.ensures, make_stats (set_with a.cache areas) a.arena.now m.result m.ensures)

@@ -1,0 +1,12 @@
+-- `make_walk` meets its contract. Assumes nothing.
+use Rattle.book.specs.Made.{areas_of, set_with}
+use Rattle.book.proofs.Making.{make_walk}
+use borrow.Author.Rules.{rules}
+use Rattle.book.proofs.calls.make_walk.Goals as goal
+
+pub returns : goal.returns
+returns c =
+    let a = c.args in
+    let areas = areas_of a.index.now a.filter.now a.starts.now a.lengths.now in
+    let m = c.next_physical_entry_at_tick in
+    (m.ensures, make_walk (set_with a.cache areas) a.arena.now a.from a.now_tick m.result m.ensures.0)

@@ -1,0 +1,16 @@
+-- `push_twice` meets its contract. Assumes nothing.
+use mathlib.Core.List.{[], ◌∷◌}
+use Rattle.book.specs.Calls.{push, finish, lookup}
+use Rattle.book.specs.Made.{areas_of}
+use Rattle.book_lists.proofs.GoingOn.{push_goes_on}
+use borrow.Author.Rules.{rules}
+use Rattle.book_lists.proofs.build_list.push_twice.Goals as goal
+
+pub returns : goal.returns
+returns c =
+    let a = c.args in
+    let m = c.make_push-pushed in
+    let asked = lookup 0 a.asked_key.now a.asked_hash a.now_tick ∷ [] in
+    let calls = push a.second_key.now a.second_value.now a.second_hash a.second_ttl ∷ finish a.target a.scratch.now ∷ asked in
+    let areas = areas_of m.new.value.1.1.1.1.0 m.new.value.1.1.1.1.1.0 a.starts.now a.lengths.now in
+    rw c.push_once.ensures (push_goes_on calls [] [] m.new.value.1.1.1.1.1.1.1.1.0 areas m.result c.builder_after.ensures (m.ensures.1 [] []))

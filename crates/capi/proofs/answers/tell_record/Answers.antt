@@ -1,0 +1,14 @@
+-- `tell_record` meets its contract by what it calls. Assumes nothing.
+use Rattle.capi.specs.Calls.{told}
+use mathlib.Core.Path.{ap}
+use borrow.Author.Rules.{rules}
+use Rattle.capi.proofs.answers.tell_record.Goals as goal
+
+pub returns-in-Found : goal.returns-in-Found
+returns-in-Found c = rw c.in-Found.is (ap (told 0) c.store_record.ensures)
+
+pub returns-in-Nothing : goal.returns-in-Nothing
+returns-in-Nothing c = rw c.in-Nothing.is (ap (told 0) c.copy_words.ensures)
+
+pub returns-in-Refused : goal.returns-in-Refused
+returns-in-Refused c = rw (c.in-Refused.is, c.number.ensures)

@@ -1,0 +1,27 @@
+-- `write_sheet` meets its contract: the lines of the rows, and blank ones behind them. Assumes nothing.
+use mathlib.Core.List.{List, []}
+use mathlib.Core.Path.{◌≡◌, sym, ap, ◌∙◌}
+use Prim.Native.Nat.{ℕ, ◌*◌, ◌-◌, ◌≤◌}
+use native.Mathlib.Omega.{arith}
+use lib.ListN.{length, length-drop, length-take}
+use Rattle.index.specs.View.{record_in}
+use Rattle.charts.specs.Line.{Row, lines, pages_for, sheet}
+use Rattle.charts.specs.Sheet.{rows_in}
+use Rattle.charts.proofs.Pages.{sheet_home}
+use borrow.Author.Rules.{rules}
+use Rattle.charts.proofs.sheet.write_sheet.Goals as goal
+use Rattle.charts.proofs.sheet.write_sheet.Goals.{Start}
+
+abbrev rows : Start → List Row
+rows s =
+    let a = s.args in
+    rows_in (record_in a.view a.arena.now a.starts.now a.lengths.now) a.packed a.buckets a.index.now a.arena.now
+
+pub write_rows-rows-requires : goal.write_rows-rows-requires
+write_rows-rows-requires c =
+    (c.requires.0, (c.requires.1.0, omega (arith, c.requires.1.1)))
+
+pub returns : goal.returns
+returns c =
+    let e = c.write_rows-rows.ensures in
+    sheet_home (rows (goal.at.returns c).Start) c.args.page.now _ _ c.write_rows-rows.result c.args.pages e.1 e.0.0 e.0.1 c.requires.1.1.0 c.put_blanks.ensures

@@ -1,0 +1,23 @@
+-- What each turn of the loop keeps.
+use mathlib.Core.Path.{◌≡◌, refl, sym, ap, ◌∙◌}
+use mathlib.Core.List.{List, [], ◌∷◌, ◌++◌, map}
+use Prim.Native.Nat.{ℕ, ◌+◌, ◌-◌, ◌*◌, ◌≤◌, ◌<◌}
+use native.Mathlib.Numerals.{add-one}
+use native.Mathlib.Omega.{arith}
+use lib.ListN.{length, get_or, take, drop, drop_of_length-le, length-map}
+use lib.Seq.{drop-cons}
+use Rattle.hash_parts.specs.ZeroBytes.{bytes_of}
+use Rattle.hash_parts.proofs.Bytes.{length_bytes}
+use Rattle.records.proofs.Area.{Writing, complete, fits, next, room}
+use Rattle.index.specs.Packed.{word_bytes}
+use Rattle.files.specs.Copies.{masked_by}
+use Rattle.files.proofs.Copying.{begin_at, over_at}
+use Rattle.files.proofs.Low.{word_bytes_length}
+use Rattle.files.proofs.copies.put_words.Given as goal
+
+abbrev pub invariant-loop-i : goal.invariant-loop-i
+invariant-loop-i l =
+    (l.i ≤ length l.words) × (l.end ≡ l.at + 8 * l.i) × Writing (take l.at l.initial.out ++ bytes l.mask l.words) (bytes l.mask (drop l.i l.words)) l.initial.out l.out l.end
+
+abbrev pub decreases-loop-i : goal.decreases-loop-i
+decreases-loop-i l = length l.words - l.i

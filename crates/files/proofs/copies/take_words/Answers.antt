@@ -1,0 +1,88 @@
+-- `take_words` meets its contract: the words read and those that are left to read are the words of the bytes. Assumes nothing.
+use mathlib.Core.Path.{◌≡◌, refl, sym, ap, ap₂, ◌∙◌}
+use mathlib.Core.List.{List, [], ◌∷◌, ◌++◌, map, append-nil}
+use Prim.Native.Nat.{ℕ, suc, ◌+◌, ◌-◌, ◌*◌, ◌^◌, ◌≤◌, ◌<◌}
+use native.Mathlib.Nat.{le_refl, mod-eq_of_lt}
+use native.Mathlib.Omega.{arith}
+use lib.Bits.{and_mask}
+use lib.ListN.{length, get_or, take, drop, drop_of_length-le, length-map}
+use lib.Seq.{drop-drop}
+use Rattle.hash_parts.specs.ZeroBytes.{number_of}
+use Rattle.records.specs.Area.{over, part}
+use Rattle.records.proofs.Area.{Writing, begin, complete, next_byte, room}
+use Rattle.index.specs.Packed.{words_of}
+use Rattle.files.specs.Copies.{masked_by}
+use Rattle.files.proofs.Passes.{words_of_length}
+use Rattle.files.proofs.copies.take_words.Goals as goal
+
+-- so many words from a word on
+abbrev from : List ℕ → ℕ → ℕ → List ℕ
+from bytes n i = words_of (n - i) (drop (8 * i) bytes)
+
+-- the next, and the others
+one_word : (bytes : List ℕ) (n i : ℕ) → i < n → from bytes n i ≡ number_of (part (8 * i) 8 bytes) ∷ from bytes n (i + 1)
+unfolding words_of
+one_word bytes n i h =
+    let e : n - i ≡ suc (n - (i + 1)) = omega arith in
+    let d : 8 * i + 8 ≡ 8 * (i + 1) = omega arith in
+    rw e (ap (λ (l : List ℕ). number_of (part (8 * i) 8 bytes) ∷ words_of (n - (i + 1)) l) (drop-drop 8 (8 * i) bytes ∙ ap (λ (k : ℕ). drop k bytes) d))
+
+-- words of 64 bits
+abbrev Fitting : List ℕ → Type 0
+Fitting l = map (masked_by (2 ^ 64 - 1)) l ≡ l
+
+fitting_more : (w : ℕ) (l : List ℕ) → w < 2 ^ 64 → Fitting l → Fitting (w ∷ l)
+fitting_more w l h e = ap₂ (λ (x : ℕ) (y : List ℕ). x ∷ y) (and_mask w 64 ∙ mod-eq_of_lt h) e
+
+pub loop-i-init : goal.loop-i-init
+loop-i-init c =
+    let a = c.args in
+    let n = length a.words.now in
+    let w = words_of n a.bytes.now in
+    let e : n - 0 ≡ n = omega arith in
+    let short : length (map (masked_by a.mask) w) ≤ n = omega (arith, length-map w (masked_by a.mask), words_of_length n a.bytes.now) in
+    (omega arith, rw e (begin (map (masked_by a.mask) w) a.words.now short), λ f. rw e at f)
+
+pub bounds-words-i : goal.bounds-words-i
+bounds-words-i c = omega (arith, room c.loop-i.invariant.1)
+
+pub number_at-requires : goal.number_at-requires
+number_at-requires c = (omega (arith, room c.loop-i.invariant.1), omega arith)
+
+pub offset_bounds-words-i : goal.offset_bounds-words-i
+offset_bounds-words-i c = omega (arith, room c.loop-i.invariant.1)
+
+pub loop-i-smaller : goal.loop-i-smaller
+loop-i-smaller c = omega (arith, room c.loop-i.invariant.1)
+
+pub loop-i-preserved : goal.loop-i-preserved
+loop-i-preserved c =
+    let l = c.loop-i in
+    let a = c.args in
+    let n = length a.words.now in
+    let read = c.number_at in
+    let w = read.result in
+    let rest = from a.bytes.now n (l.i + 1) in
+    let one : from a.bytes.now n l.i ≡ w ∷ rest =
+    one_word a.bytes.now n l.i (omega (arith, room l.invariant.1)) ∙ ap (λ (x : ℕ). x ∷ rest) (sym read.ensures.0) in (
+      omega (arith, room l.invariant.1),
+      next_byte (masked_by a.mask w) (map (masked_by a.mask) rest) l.invariant.1 (ap (map (masked_by a.mask)) one),
+      λ f. l.invariant.2 (rw one (fitting_more w rest (omega (arith, read.ensures.1)) f)),
+    )
+
+pub shape_of-words : goal.shape_of-words
+shape_of-words c = (room c.loop-i.invariant.1).1
+
+pub returns : goal.returns
+unfolding words_of
+returns c =
+    let l = c.loop-i in
+    let a = c.args in
+    let n = length a.words.now in
+    let whole = map (masked_by a.mask) (words_of n a.bytes.now) in
+    let z : n - l.i ≡ 0 = omega (arith, room l.invariant.1) in
+    let none : from a.bytes.now n l.i ≡ [] = ap (λ (k : ℕ). words_of k (drop (8 * l.i) a.bytes.now)) z in
+    let long : length whole ≡ n = length-map (words_of n a.bytes.now) (masked_by a.mask) ∙ words_of_length n a.bytes.now in
+    let none_left : drop (length whole) a.words.now ≡ [] = rw long (drop_of_length-le a.words.now (le_refl n)) in
+    let all : over whole a.words.now ≡ whole = ap (λ (t : List ℕ). whole ++ t) none_left ∙ append-nil whole in
+    ((complete l.invariant.1 (ap (map (masked_by a.mask)) none)).1 ∙ all, l.invariant.2 (rw none refl))

@@ -1,0 +1,25 @@
+-- What each turn of the loop keeps.
+use mathlib.Core.Path.{◌≡◌, refl, sym, ap, ap₂, ◌∙◌}
+use mathlib.Core.List.{List, [], ◌∷◌, ◌++◌, map, append-nil}
+use Prim.Native.Nat.{ℕ, suc, ◌+◌, ◌-◌, ◌*◌, ◌^◌, ◌≤◌, ◌<◌}
+use native.Mathlib.Nat.{le_refl, mod-eq_of_lt}
+use native.Mathlib.Omega.{arith}
+use lib.Bits.{and_mask}
+use lib.ListN.{length, get_or, take, drop, drop_of_length-le, length-map}
+use lib.Seq.{drop-drop}
+use Rattle.hash_parts.specs.ZeroBytes.{number_of}
+use Rattle.records.specs.Area.{over, part}
+use Rattle.records.proofs.Area.{Writing, begin, complete, next_byte, room}
+use Rattle.index.specs.Packed.{words_of}
+use Rattle.files.specs.Copies.{masked_by}
+use Rattle.files.proofs.Passes.{words_of_length}
+use Rattle.files.proofs.copies.take_words.Given as goal
+
+abbrev pub invariant-loop-i : goal.invariant-loop-i
+invariant-loop-i l =
+    (l.i ≤ length l.initial.words)
+    × Writing (map (masked_by l.mask) (words_of (length l.initial.words) l.bytes)) (map (masked_by l.mask) (from l.bytes (length l.initial.words) l.i)) l.initial.words l.words l.i
+    × (Fitting (from l.bytes (length l.initial.words) l.i) → Fitting (words_of (length l.initial.words) l.bytes))
+
+abbrev pub decreases-loop-i : goal.decreases-loop-i
+decreases-loop-i l = length l.initial.words - l.i

@@ -1,0 +1,173 @@
+-- `put_file` meets its contract: after each block the area has the file so far. Assumes nothing.
+use mathlib.Core.Path.{◌≡◌, refl, sym, ap, ◌∙◌}
+use mathlib.Core.Bool.{true}
+use mathlib.Core.List.{List, [], ◌++◌, append-nil}
+use Prim.Native.Nat.{ℕ, ◌+◌, ◌*◌, ◌≤◌, ◌<◌}
+use native.Mathlib.Omega.{arith}
+use lib.ListN.{length, get_or, take}
+use Rattle.records.proofs.Area.{Writing, begin, complete, fits, next, room}
+use Rattle.index.specs.Packed.{word_bytes}
+use Rattle.sets.specs.Rebuild.{segments_inside, sum_of}
+use Rattle.sets.specs.declared.cache.FrozenSegmentCache.{FrozenSegmentCache}
+use Rattle.sets.proofs.RebuildAsked.{segments_pass}
+use Rattle.files.specs.Blocks.{block}
+use Rattle.files.specs.Contents.{unmarked_index}
+use Rattle.files.specs.Write.{count_bytes, file_of, segment_bytes}
+use Rattle.files.proofs.Asked.{WriteAsked, write_asked}
+use Rattle.files.proofs.Lengths as long
+use Rattle.files.proofs.Pieces.{block_length}
+use Rattle.files.proofs.write.put_file.Goals as goal
+use Rattle.files.proofs.write.put_file.Goals.{After-put_counts-after_counts, After-put_front-after_filter, After-put_front-after_lengths, After-put_index-after_index, After-put_segments, Start}
+
+-- the file's blocks, what is left to write after each, and how long they are
+module _ (s : Start) where
+  abbrev set : FrozenSegmentCache
+  set = s.args.set
+
+  abbrev index : List ℕ
+  index = s.args.index.now
+
+  abbrev filter : List ℕ
+  filter = s.args.filter.now
+
+  abbrev starts : List ℕ
+  starts = s.args.starts.now
+
+  abbrev lengths : List ℕ
+  lengths = s.args.lengths.now
+
+  abbrev arena : List ℕ
+  arena = s.args.arena.now
+
+  abbrev file : List ℕ
+  file = s.args.file.now
+
+  asked : WriteAsked set index filter starts lengths arena file
+  asked =
+      write_asked set index filter starts lengths arena
+      file s.pre
+
+  abbrev one : List ℕ
+  one = block 1 (count_bytes set)
+
+  abbrev two : List ℕ
+  two = block 2 (word_bytes (take set.segments lengths))
+
+  abbrev unmarked : List ℕ
+  unmarked = unmarked_index set.config.packed_bucket_index set.buckets (take (8 * set.buckets) index)
+
+  abbrev three : List ℕ
+  three = block 3 (word_bytes unmarked)
+
+  abbrev four : List ℕ
+  four = block 4 (word_bytes (take set.filter_words filter))
+
+  abbrev five : List ℕ
+  five = block 5 (segment_bytes set.segments starts lengths arena)
+
+  abbrev left1 : List ℕ
+  left1 = two ++ (three ++ (four ++ five))
+
+  one_long : length one ≡ 50
+  one_long =
+      block_length 1 (count_bytes set)
+      ∙ ap (λ (n : ℕ). 6 + n) (long.one_long set index filter starts lengths arena file asked)
+
+  two_long : length two ≡ 6 + 8 * set.segments
+  two_long =
+      block_length 2 (word_bytes (take set.segments lengths))
+      ∙ ap (λ (n : ℕ). 6 + n) (long.two_long set index filter starts lengths arena file asked)
+
+  three_long : length three ≡ 6 + 64 * set.buckets
+  three_long =
+      block_length 3 (word_bytes unmarked)
+      ∙ ap (λ (n : ℕ). 6 + n) (long.three_long set index filter starts lengths arena file asked)
+
+  four_long : length four ≡ 6 + 8 * set.filter_words
+  four_long =
+      block_length 4 (word_bytes (take set.filter_words filter))
+      ∙ ap (λ (n : ℕ). 6 + n) (long.four_long set index filter starts lengths arena file asked)
+
+  five_long : length five ≡ 6 + sum_of set.segments lengths
+  five_long =
+      block_length 5 (segment_bytes set.segments starts lengths arena)
+      ∙ ap (λ (n : ℕ). 6 + n) (long.five_long set index filter starts lengths arena file asked)
+
+  inside : segments_inside set.segments (length arena) starts lengths ≡ true
+  inside =
+      segments_pass (length arena) starts lengths set.segments
+      (λ (g : ℕ) (h : g < set.segments). omega (arith, asked.inside g h, asked.filled_held))
+
+  abbrev Left : List ℕ → List ℕ → ℕ → Type 0
+  Left left out at =
+      Writing (file_of set index filter starts lengths arena) left
+      file out at
+
+  at0 : Left (one ++ left1) file 0
+  unfolding file_of
+  at0 =
+      begin (one ++ left1) file
+      (omega (arith, long.file_long set index filter starts lengths arena file asked, asked.room))
+
+-- the start, from after each block
+abbrev from1 : After-put_counts-after_counts → Start
+from1 c = c.before.before.before.before.before.before.before.before
+
+abbrev from2 : After-put_front-after_lengths → Start
+from2 c = from1 c.before.before.before.before
+
+abbrev from3 : After-put_index-after_index → Start
+from3 c = from2 c.before.before.before.before
+
+abbrev from4 : After-put_front-after_filter → Start
+from4 c = from3 c.before.before.before.before
+
+at1 : (c : After-put_counts-after_counts) → Left c.before.before.before.before.before.before.before.before (left1 c.before.before.before.before.before.before.before.before) c.put_counts-after_counts.new.file c.put_counts-after_counts.result
+at1 c =
+    next (one c.before.before.before.before.before.before.before.before) (left1 c.before.before.before.before.before.before.before.before) _ _ (at0 c.before.before.before.before.before.before.before.before) refl (omega (arith, c.put_counts-after_counts.ensures.0, one_long c.before.before.before.before.before.before.before.before)) c.put_counts-after_counts.ensures.1
+
+at2 : (c : After-put_front-after_lengths) → Left c.before.before.before.before.before.before.before.before.before.before.before.before (three c.before.before.before.before.before.before.before.before.before.before.before.before ++ (four c.before.before.before.before.before.before.before.before.before.before.before.before ++ five c.before.before.before.before.before.before.before.before.before.before.before.before)) c.put_front-after_lengths.new.file c.put_front-after_lengths.result
+at2 c =
+    next (two c.before.before.before.before.before.before.before.before.before.before.before.before) (three c.before.before.before.before.before.before.before.before.before.before.before.before ++ (four c.before.before.before.before.before.before.before.before.before.before.before.before ++ five c.before.before.before.before.before.before.before.before.before.before.before.before)) _ _ (at1 c.before.before.before.before) refl (omega (arith, c.put_front-after_lengths.ensures.0, two_long c.before.before.before.before.before.before.before.before.before.before.before.before)) c.put_front-after_lengths.ensures.1
+
+at3 : (c : After-put_index-after_index) → Left c.before.before.before.before.before.before.before.before.before.before.before.before.before.before.before.before (four c.before.before.before.before.before.before.before.before.before.before.before.before.before.before.before.before ++ five c.before.before.before.before.before.before.before.before.before.before.before.before.before.before.before.before) c.put_index-after_index.new.file c.put_index-after_index.result
+at3 c =
+    next (three c.before.before.before.before.before.before.before.before.before.before.before.before.before.before.before.before) (four c.before.before.before.before.before.before.before.before.before.before.before.before.before.before.before.before ++ five c.before.before.before.before.before.before.before.before.before.before.before.before.before.before.before.before) _ _ (at2 c.before.before.before.before) refl (omega (arith, c.put_index-after_index.ensures.0, three_long c.before.before.before.before.before.before.before.before.before.before.before.before.before.before.before.before)) c.put_index-after_index.ensures.1
+
+at4 : (c : After-put_front-after_filter) → Left c.before.before.before.before.before.before.before.before.before.before.before.before.before.before.before.before.before.before.before.before (five c.before.before.before.before.before.before.before.before.before.before.before.before.before.before.before.before.before.before.before.before) c.put_front-after_filter.new.file c.put_front-after_filter.result
+at4 c =
+    next (four c.before.before.before.before.before.before.before.before.before.before.before.before.before.before.before.before.before.before.before.before) (five c.before.before.before.before.before.before.before.before.before.before.before.before.before.before.before.before.before.before.before.before) _ _ (at3 c.before.before.before.before) refl (omega (arith, c.put_front-after_filter.ensures.0, four_long c.before.before.before.before.before.before.before.before.before.before.before.before.before.before.before.before.before.before.before.before)) c.put_front-after_filter.ensures.1
+
+pub put_counts-after_counts-requires : goal.put_counts-after_counts-requires
+put_counts-after_counts-requires c = omega (arith, fits (one (goal.at.put_counts-after_counts-requires c).Start) (left1 (goal.at.put_counts-after_counts-requires c).Start) (at0 (goal.at.put_counts-after_counts-requires c).Start) refl, one_long (goal.at.put_counts-after_counts-requires c).Start)
+
+pub put_front-after_lengths-requires : goal.put_front-after_lengths-requires
+put_front-after_lengths-requires c =
+    (omega (arith, fits (two (goal.at.put_front-after_lengths-requires c).Start) (three (goal.at.put_front-after_lengths-requires c).Start ++ (four (goal.at.put_front-after_lengths-requires c).Start ++ five (goal.at.put_front-after_lengths-requires c).Start)) (at1 (goal.at.put_front-after_lengths-requires c).After-put_counts-after_counts) refl, two_long (goal.at.put_front-after_lengths-requires c).Start), omega (arith, (asked (goal.at.put_front-after_lengths-requires c).Start).few_segments, (asked (goal.at.put_front-after_lengths-requires c).Start).lengths_hold))
+
+pub put_index-after_index-requires : goal.put_index-after_index-requires
+put_index-after_index-requires c =
+    (omega (arith, fits (three (goal.at.put_index-after_index-requires c).Start) (four (goal.at.put_index-after_index-requires c).Start ++ five (goal.at.put_index-after_index-requires c).Start) (at2 (goal.at.put_index-after_index-requires c).After-put_front-after_lengths) refl, three_long (goal.at.put_index-after_index-requires c).Start), (asked (goal.at.put_index-after_index-requires c).Start).index_holds)
+
+pub put_front-after_filter-requires : goal.put_front-after_filter-requires
+put_front-after_filter-requires c =
+    (omega (arith, fits (four (goal.at.put_front-after_filter-requires c).Start) (five (goal.at.put_front-after_filter-requires c).Start) (at3 (goal.at.put_front-after_filter-requires c).After-put_index-after_index) refl, four_long (goal.at.put_front-after_filter-requires c).Start), (asked (goal.at.put_front-after_filter-requires c).Start).filter_holds)
+
+pub put_segments-requires : goal.put_segments-requires
+put_segments-requires c = (
+  omega (arith, (asked (goal.at.put_segments-requires c).Start).few_segments, (asked (goal.at.put_segments-requires c).Start).starts_hold),
+  omega (arith, (asked (goal.at.put_segments-requires c).Start).few_segments, (asked (goal.at.put_segments-requires c).Start).lengths_hold),
+  inside (goal.at.put_segments-requires c).Start,
+  omega (arith, fits (five (goal.at.put_segments-requires c).Start) [] (at4 (goal.at.put_segments-requires c).After-put_front-after_filter) (sym (append-nil (five (goal.at.put_segments-requires c).Start))), five_long (goal.at.put_segments-requires c).Start),
+)
+
+-- all five
+at5 : (c : After-put_segments) → Left c.before.before.before.before.before.before.before.before.before.before.before.before.before.before.before.before.before.before.before.before.before.before.before.before [] c.put_segments.new.file c.put_segments.result
+at5 c =
+    next (five c.before.before.before.before.before.before.before.before.before.before.before.before.before.before.before.before.before.before.before.before.before.before.before.before) [] _ _ (at4 c.before.before.before.before) (sym (append-nil (five c.before.before.before.before.before.before.before.before.before.before.before.before.before.before.before.before.before.before.before.before.before.before.before.before))) (omega (arith, c.put_segments.ensures.0, five_long c.before.before.before.before.before.before.before.before.before.before.before.before.before.before.before.before.before.before.before.before.before.before.before.before)) c.put_segments.ensures.1
+
+pub shape_of-file : goal.shape_of-file
+shape_of-file c = (room (at5 (goal.at.shape_of-file c).After-put_segments)).1
+
+pub returns : goal.returns
+returns c = (complete (at5 (goal.at.returns c).After-put_segments) refl).1

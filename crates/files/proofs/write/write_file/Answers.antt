@@ -1,0 +1,59 @@
+-- `write_file` meets its contract: its questions, and the file where all are answered yes. Assumes nothing.
+use mathlib.Core.Path.{◌≡◌, refl, sym, ap, ◌∙◌}
+use mathlib.Core.Bool.{true, cond}
+use Prim.Native.Nat.{ℕ, ◌<◌, ◌≤◌}
+use native.Mathlib.Omega.{arith}
+use borrow.Author.Rules.{rules}
+use borrow.Author.Tests.{le-leb, lt-leb}
+use lib.Dec.{leb}
+use lib.ListN.{length}
+use Rattle.sets.specs.Answers.{Reply, accept, refuse}
+use Rattle.sets.specs.Lookup.{areas_hold_lookup}
+use Rattle.sets.specs.Questions.{first_no}
+use Rattle.sets.proofs.Said.{said_no, said_yes}
+use Rattle.files.specs.Write.{FileWritten, after_write, ask_write, file_size, size_answer, size_reply}
+use Rattle.files.proofs.Sizes.{asked_refused, asked_size}
+use Rattle.files.proofs.write.write_file.Goals as goal
+use Rattle.files.proofs.write.write_file.Goals.{Else-not-lookup_areas_hold, In-Bytes}
+
+-- the set and its areas hold
+held : (c : Else-not-lookup_areas_hold) → let a = c.args in
+    areas_hold_lookup a.set (length a.index.now) (length a.filter.now) (length a.starts.now) (length a.lengths.now) (length a.arena.now) ≡ true
+held c = said_yes c.lookup_areas_hold.ensures c.if-not-lookup_areas_hold.false
+
+pub returns-then-not-lookup_areas_hold : goal.returns-then-not-lookup_areas_hold
+unfolding after_write ask_write
+returns-then-not-lookup_areas_hold c = rw (said_no c.lookup_areas_hold.ensures c.if-not-lookup_areas_hold.true)
+
+pub returns-in_default : goal.returns-in_default
+unfolding after_write
+returns-in_default c =
+    let a = c.args in
+    let size = c.file_bytes.ensures in
+    let told = sym size ∙ ap size_reply c.in_default.is in
+    rw (asked_refused a.set (length a.index.now) (length a.filter.now) (length a.arena.now) (length a.file.now) a.starts.now a.lengths.now (held
+    (goal.at.returns-in_default c).Else-not-lookup_areas_hold) _ told)
+
+-- the size, and the question that is left
+sized : (c : In-Bytes) → let a = c.args in let n = c.in-Bytes.bytes in
+    (n ≡ file_size a.set a.lengths.now)
+    × (first_no (ask_write a.set (length a.index.now) (length a.filter.now) a.starts.now a.lengths.now (length a.arena.now) (length a.file.now))
+    ≡ cond (leb n (length a.file.now)) 0 10)
+sized c =
+    let a = c.args in
+    asked_size a.set (length a.index.now) (length a.filter.now) (length a.arena.now) (length a.file.now) a.starts.now a.lengths.now (held
+    c.before.before.before.before)
+    c.in-Bytes.bytes (sym c.file_bytes.ensures ∙ ap size_reply c.in-Bytes.is)
+
+pub returns-then-file-bytes : goal.returns-then-file-bytes
+unfolding after_write
+returns-then-file-bytes c = rw ((sized (goal.at.returns-then-file-bytes c).In-Bytes).1, lt-leb _ _ c.if-file-bytes.true)
+
+pub put_file-requires : goal.put_file-requires
+put_file-requires c = (sized (goal.at.put_file-requires c).In-Bytes).1 ∙ rw (le-leb _ _ c.if-file-bytes.false)
+
+pub returns : goal.returns
+unfolding after_write
+returns c =
+    let told = sized (goal.at.returns c).In-Bytes in
+    rw (told.1, le-leb _ _ c.if-file-bytes.false, told.0, c.put_file.ensures) refl

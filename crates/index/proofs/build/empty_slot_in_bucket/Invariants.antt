@@ -1,0 +1,13 @@
+-- What each turn of the loop keeps.
+use Rattle.std.proofs.Common.{◌≡◌, ◌+◌, ◌*◌, sym, refl, ◌∙◌, mul_comm, arith}
+use Rattle.index.specs.Build.{never}
+use Rattle.index.specs.declared.build.BuildSlot.TheVariants.{Full}
+use Rattle.index.proofs.Slots.{slots_answer, slot_vacant, slot_passed, slot_end}
+use Rattle.index.proofs.build.empty_slot_in_bucket.Given as goal
+
+abbrev pub invariant-loop-left : goal.invariant-loop-left
+invariant-loop-left l =
+    (l.slot + l.left ≡ 8 * l.bucket + 8) × (slots_answer never l.index l.left l.slot Full ≡ slots_answer never l.index 8 (8 * l.bucket) Full)
+
+abbrev pub decreases-loop-left : goal.decreases-loop-left
+decreases-loop-left l = l.left

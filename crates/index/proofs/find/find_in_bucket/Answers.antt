@@ -1,0 +1,99 @@
+-- `find_in_bucket` meets its contract: the candidates left say what the bucket's slots say. Assumes nothing.
+use Rattle.std.proofs.Common.{◌≡◌, ℕ, ◌+◌, ◌*◌, ◌<◌, cond, sym, ◌∙◌, ⊎_elim, arith, rules}
+use Rattle.hash_parts.specs.ZeroBytes.{lowest_set}
+use Rattle.records.specs.declared.record.RecordAnswer.{RecordAnswer}
+use Rattle.index.specs.Find.{in_bucket}
+use Rattle.index.specs.View.{record_in}
+use Rattle.index.specs.declared.find.FindStep.{FindStep}
+use Rattle.index.specs.declared.find.FindStep.TheVariants.{Stop, Next}
+use Rattle.index.proofs.Sweeps.{Visiting, says, searched, slots, visiting_begins, visiting_below, visiting_less, visiting_hit, visiting_on, visiting_ends, bucket_step, bucket_ends}
+use Rattle.index.proofs.find.find_in_bucket.Goals as goal
+use Rattle.index.proofs.find.find_in_bucket.Goals.{After-find_in_slot-step, After-has_empty, At-loop-candidates, Start}
+
+-- ---- what is known in the loop
+abbrev start : At-loop-candidates → Start
+start l = l.before.before.before.before.before.before.before.before
+
+abbrev reads : Start → ℕ → RecordAnswer
+reads s =
+    let a = s.args in
+    record_in a.view a.arena.now a.starts.now a.lengths.now
+
+-- what each slot of the bucket says, and what all of them do
+abbrev slot_says : Start → ℕ → FindStep
+slot_says s =
+    let a = s.args in
+    says (reads s) a.arena.now a.key.now a.packed a.tag a.buckets a.index.now a.bucket
+
+abbrev bucket_says : Start → FindStep
+bucket_says s =
+    let a = s.args in
+    searched (reads s) a.arena.now a.key.now a.packed a.tag a.buckets a.index.now a.bucket
+
+-- what the slot of the lowest mark says
+said : (c : After-find_in_slot-step) → let l = c.before.before.before.before in c.find_in_slot-step.result ≡ slot_says (start l) (lowest_set l.loop-candidates.candidates)
+said c =
+    let l = c.before.before.before.before in
+    let a = (start l).args in
+    let s : a.bucket * 8 + c.before.before.lowest_marked_byte-offset.result ≡ 8 * a.bucket + c.before.before.lowest_marked_byte-offset.result = omega arith in
+    rw (← c.before.before.lowest_marked_byte-offset.ensures.0, ← s, ← c.before.bucket_slot.ensures, ← l.before.before.kept_tag-kept.ensures) c.find_in_slot-step.ensures
+
+pub loop-candidates-init : goal.loop-candidates-init
+loop-candidates-init c =
+    let a = c.args in
+    visiting_begins (reads (goal.at.loop-candidates-init c).Start) a.arena.now a.key.now a.packed a.tag a.buckets a.index.now a.bucket _ (omega arith) c.candidate_marks-candidates.ensures
+
+pub bucket_slot-requires : goal.bucket_slot-requires
+bucket_slot-requires c =
+    let s = start (goal.at.bucket_slot-requires c).At-loop-candidates in
+    let some : 0 < c.loop-candidates.candidates = omega arith in
+    (s.pre.0, s.pre.1, omega (arith, c.lowest_marked_byte-offset.ensures.0, visiting_below (bucket_says s) (slot_says s) c.loop-candidates.invariant some))
+
+pub returns-in_default : goal.returns-in_default
+returns-in_default c =
+    let s = start (goal.at.returns-in_default c).At-loop-candidates in
+    let a = s.args in
+    let some : 0 < c.loop-candidates.candidates = omega arith in
+    let r = c.find_in_slot-step.result in
+    let e = said (goal.at.returns-in_default c).After-find_in_slot-step in
+    let n : r ≡ Next → ⊥ = λ (f : r ≡ Next). ⊎_elim (λ p. omega arith) (λ p. omega arith) (rw f at c.match.keys2) in
+    let hit : bucket_says s ≡ r = rw e (visiting_hit (bucket_says s) (slot_says s) c.loop-candidates.invariant some (λ f. n (e ∙ f))) in
+    bucket_step (reads s) a.arena.now a.key.now a.packed a.tag a.buckets a.index.now a.bucket r hit n
+
+pub loop-candidates-smaller : goal.loop-candidates-smaller
+loop-candidates-smaller c =
+    let some : 0 < c.loop-candidates.candidates = omega arith in
+    omega (arith, c.without_lowest_mark-candidates.ensures, visiting_less (bucket_says (start (goal.at.loop-candidates-smaller c).At-loop-candidates)) (slot_says (start (goal.at.loop-candidates-smaller c).At-loop-candidates)) c.loop-candidates.invariant some)
+
+pub loop-candidates-preserved : goal.loop-candidates-preserved
+loop-candidates-preserved c =
+    let some : 0 < c.loop-candidates.candidates = omega arith in
+    rw c.without_lowest_mark-candidates.ensures
+    (visiting_on (bucket_says (start (goal.at.loop-candidates-preserved c).At-loop-candidates)) (slot_says (start (goal.at.loop-candidates-preserved c).At-loop-candidates)) c.loop-candidates.invariant some (sym (said (goal.at.loop-candidates-preserved c).After-find_in_slot-step) ∙ c.in-Next.is))
+
+-- where no mark is left, an empty slot ends the walk
+ended : (c : After-has_empty) → let a = (start c.before.before).args in
+    cond c.has_empty.result Stop Next ≡ in_bucket a.packed (slots (reads (start c.before.before)) a.arena.now a.key.now a.packed a.tag a.buckets a.index.now a.bucket)
+ended c =
+    let s = start c.before.before in
+    let a = s.args in
+    bucket_ends (reads s) a.arena.now a.key.now a.packed a.tag a.buckets a.index.now a.bucket c.has_empty.result
+    c.has_empty.ensures (visiting_ends (bucket_says s) (slot_says s) c.before.before.loop-candidates.invariant c.before.loop-candidates-test.false)
+
+pub returns-then-has_empty : goal.returns-then-has_empty
+returns-then-has_empty c = rw c.if-has_empty.true at (ended (goal.at.returns-then-has_empty c).After-has_empty)
+
+pub returns : goal.returns
+returns c = rw c.if-has_empty.false at (ended (goal.at.returns c).After-has_empty)
+
+pub kept_tag-kept-requires : goal.kept_tag-kept-requires
+kept_tag-kept-requires c = tt
+
+pub lowest_marked_byte-offset-requires : goal.lowest_marked_byte-offset-requires
+lowest_marked_byte-offset-requires c = tt
+
+pub find_in_slot-step-requires : goal.find_in_slot-step-requires
+find_in_slot-step-requires c = tt
+
+pub without_lowest_mark-candidates-requires : goal.without_lowest_mark-candidates-requires
+without_lowest_mark-candidates-requires c = tt

@@ -1,0 +1,14 @@
+-- What each turn of the loop keeps.
+use Rattle.std.proofs.Common.{◌+◌, ◌-◌, ◌*◌, ◌≤◌, [], length, take, ap, ◌∙◌, arith}
+use Rattle.index.specs.Segments.{starts_of}
+use Rattle.index.proofs.Starts.{starts_from, starts_from_law, from_none, from_next, from_last}
+use Rattle.index.proofs.Filling.{Filling, filling_none, filling_length, filling_next, filling_end, filling_over, over_padded_cleared, over_padded_length}
+use Rattle.index.proofs.segments.write_starts.Given as goal
+
+abbrev pub invariant-loop-next : goal.invariant-loop-next
+invariant-loop-next l =
+    (l.count ≤ 256)
+    × Filling (starts_of (take (8 * l.buckets) l.index) l.filled l.target) (starts_from (256 - l.count) (take (8 * l.buckets) l.index) l.filled l.target l.next) l.initial.starts l.starts l.count
+
+abbrev pub decreases-loop-next : goal.decreases-loop-next
+decreases-loop-next l = 256 - l.count

@@ -1,0 +1,42 @@
+-- `parse_get` meets its contract: each field is read as the form asks. Assumes nothing.
+use mathlib.Core.Path.{◌≡◌, sym, ap, ◌∙◌}
+use mathlib.Core.List.{List}
+use Prim.Native.Nat.{ℕ}
+use Rattle.passage_lines.specs.Command.{done, next, get_form}
+use Rattle.passage_lines.specs.declared.command.Command.{Command}
+use Rattle.passage_lines.specs.declared.command.Command.TheVariants.{Get}
+use Rattle.passage_lines.specs.Fields.{Field, bytes, decimal, fields_at, got_bytes, got_number, hash}
+use Rattle.passage_lines.proofs.Forms.{next_none, next_some, done_none, done_more}
+use borrow.Author.Rules.{rules}
+use Rattle.passage_lines.proofs.command.parse_get.Goals as goal
+use Rattle.passage_lines.proofs.command.parse_get.Goals.{In-Spelled, In-Value, In-Value-number_field}
+
+-- what is left of the form once a field is read, for the fields from a position on
+abbrev Left : In-Value → ℕ → (List Field → Command) → Type 0
+Left h at form = let s = h.args in get_form (fields_at s.line.now s.at) ≡ form (fields_at s.line.now at)
+
+hash_left : (h : In-Value) → Left h h.in-Value.key_at (next bytes λ key. next (decimal 64) λ tick. done (Get h.in-Value.hash key tick))
+unfolding get_form
+hash_left h = next_some hash _ _ (sym h.number_field.ensures ∙ ap got_number h.in-Value.is) _
+
+key_left : (k : In-Spelled) → Left k.before.before.before.before.before k.in-Spelled.tick_at (next (decimal 64) λ tick. done (Get k.in-Value.hash k.in-Spelled.key tick))
+key_left k = hash_left k.before.before.before.before.before ∙ next_some bytes _ _ (sym k.bytes_field.ensures ∙ ap got_bytes k.in-Spelled.is) _
+
+tick_left : (t : In-Value-number_field) → Left t.before.before.before.before.before.before.before.before.before t.in-Value-number_field.end (done (Get t.in-Value.hash t.in-Spelled.key t.in-Value-number_field.tick))
+tick_left t = key_left t.before.before.before.before.before ∙ next_some (decimal 64) _ _ (sym t.number_field-2.ensures ∙ ap got_number t.in-Value-number_field.is) _
+
+pub returns-in_default : goal.returns-in_default
+unfolding get_form
+returns-in_default c = rw (next_none hash _ _ (sym c.number_field.ensures ∙ ap got_number c.in_default.is))
+
+pub returns-in_default-bytes_field : goal.returns-in_default-bytes_field
+returns-in_default-bytes_field c = rw (hash_left (goal.at.returns-in_default-bytes_field c).In-Value, next_none bytes _ _ (sym c.bytes_field.ensures ∙ ap got_bytes c.in_default-bytes_field.is))
+
+pub returns-in_default-number_field : goal.returns-in_default-number_field
+returns-in_default-number_field c = rw (key_left (goal.at.returns-in_default-number_field c).In-Spelled, next_none (decimal 64) _ _ (sym c.number_field-2.ensures ∙ ap got_number c.in_default-number_field.is))
+
+pub returns-then-end-line : goal.returns-then-end-line
+returns-then-end-line c = rw (tick_left (goal.at.returns-then-end-line c).In-Value-number_field, done_more _ _ _ c.if-end-line.true)
+
+pub returns : goal.returns
+returns c = rw (tick_left (goal.at.returns c).In-Value-number_field, done_none _ _ _ c.if-end-line.false)

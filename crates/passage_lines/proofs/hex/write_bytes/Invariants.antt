@@ -1,0 +1,17 @@
+-- What each turn of the loop keeps.
+use mathlib.Core.Path.{◌≡◌, ap}
+use mathlib.Core.Bool.{true}
+use mathlib.Core.List.{◌∷◌}
+use Prim.Native.Nat.{◌+◌, ◌*◌, ◌-◌, ◌^◌, ◌≤◌, ◌<◌}
+use native.Mathlib.Omega.{arith}
+use lib.ListN.{length, drop}
+use Rattle.records.proofs.Area.{Writing, begin, room, next_byte, complete}
+use Rattle.passage_lines.specs.Hex.{hex_bytes, is_hex}
+use Rattle.passage_lines.proofs.Digits.{two_left, high_digit, low_digit, rest_hex, bytes_next, bytes_end, bytes_length}
+use Rattle.passage_lines.proofs.hex.write_bytes.Given as goal
+
+abbrev pub invariant-loop-i : goal.invariant-loop-i
+invariant-loop-i l = Writing (hex_bytes l.text) (hex_bytes (drop l.i l.text)) l.initial.out l.out l.at × (is_hex (drop l.i l.text) ≡ true)
+
+abbrev pub decreases-loop-i : goal.decreases-loop-i
+decreases-loop-i l = length l.text - l.i

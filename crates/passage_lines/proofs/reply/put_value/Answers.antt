@@ -1,0 +1,27 @@
+-- `put_value` meets its contract: the rest of the area that it lends comes home. Assumes nothing.
+use borrow.Author.Rules.{rules}
+use native.Mathlib.Omega.{arith}
+use lib.ListN.{length-take, length-drop}
+use Rattle.texts.proofs.Spelling.{appended_in, appended_out}
+use Rattle.passage_lines.proofs.Replies.{value_length}
+use Rattle.passage_lines.proofs.reply.put_value.Goals as goal
+
+pub returns-then-out-at : goal.returns-then-out-at
+returns-then-out-at c = appended_out _ _ _ (omega arith)
+
+pub returns-then-out-at-lt8 : goal.returns-then-out-at-lt8
+returns-then-out-at-lt8 c = appended_out _ _ _ (omega (arith, value_length c.args.value.now))
+
+pub returns-then-out-at-2 : goal.returns-then-out-at-2
+returns-then-out-at-2 c = appended_out _ _ _ (omega (arith, value_length c.args.value.now))
+
+pub write_value-requires : goal.write_value-requires
+write_value-requires c = simp (length-take, length-drop) (omega (arith, value_length c.args.value.now))
+
+pub overflow_add-result : goal.overflow_add-result
+overflow_add-result c = omega (arith, value_length c.args.value.now, c.write_value.ensures.0)
+
+pub returns : goal.returns
+returns c = let l = value_length c.args.value.now in
+    let w = c.write_value.ensures in
+    appended_in _ _ _ _ _ (omega arith) (omega (arith, w.0)) w.1

@@ -1,0 +1,50 @@
+-- `append_record` meets its contract: the size that it asks for is the number of the record's bytes. Assumes nothing.
+use mathlib.Core.Path.{◌≡◌, refl, sym, ap, ◌∙◌}
+use mathlib.Core.List.{List}
+use Prim.Native.Nat.{ℕ, ◌^◌, ◌≤◌}
+use borrow.Author.Rules.{rules}
+use native.Mathlib.Omega.{arith}
+use lib.ListN.{length}
+use Rattle.records.specs.Record.{record_bytes, record_size, size_outcome}
+use Rattle.records.proofs.Area.{written_in_law, written_out}
+use Rattle.records.proofs.Parts.{size_is, size_accepted, size_refused}
+use Rattle.records.proofs.record.append_record.Goals as goal
+use Rattle.records.proofs.record.append_record.Goals.{In-Bytes, Start}
+
+-- the record's bytes
+abbrev bytes : Start → List ℕ
+bytes s = record_bytes s.args.expiry s.args.key.now s.args.value.now s.args.expires_at
+
+bytes_size : (s : Start) → length (bytes s) ≡ record_size s.args.expiry (length s.args.key.now) (length s.args.value.now)
+bytes_size s = size_is s.args.expiry s.args.key.now s.args.value.now s.args.expires_at
+
+-- the start, from where the size is known
+abbrev from : In-Bytes → Start
+from c = c.before.before.before.before.before.before.before
+
+sized : (c : In-Bytes) → c.in-Bytes.size ≡ length (bytes c.before.before.before.before.before.before.before
+sized c =
+    let a = c.args in
+    size_accepted a.expiry (length a.key.now) (length a.value.now) c.in-Bytes.size
+    (sym (ap size_outcome c.in-Bytes.is) ∙ c.encoded_record_bytes.ensures)
+    ∙ sym (bytes_size c.before.before.before.before.before.before.before
+
+pub returns-in_default : goal.returns-in_default
+returns-in_default c =
+    let a = c.args in
+    let big : 2 ^ 64 ≤ record_size a.expiry (length a.key.now) (length a.value.now) =
+    size_refused a.expiry (length a.key.now) (length a.value.now) c.in_default.field-0
+    (sym (ap size_outcome c.in_default.is) ∙ c.encoded_record_bytes.ensures) in
+    rw (written_out (bytes (goal.at.returns-in_default c).Start) a.rest.now (omega (arith, bytes_size (goal.at.returns-in_default c).Start))) (refl, refl)
+
+pub returns-then-rest-size : goal.returns-then-rest-size
+returns-then-rest-size c =
+    rw (written_out (bytes (goal.at.returns-then-rest-size c).Start c.args.rest.now (omega (arith, sized (goal.at.returns-then-rest-size c).In-Bytes))) (refl, refl)
+
+pub put_record-requires : goal.put_record-requires
+put_record-requires c = omega (arith, sized (goal.at.put_record-requires c).In-Bytes)
+
+pub returns : goal.returns
+returns c =
+    let p = c.put_record in
+    rw (written_in_law (bytes (goal.at.returns c).Start c.args.rest.now (omega (arith, sized (goal.at.returns c).In-Bytes))) (sized (goal.at.returns c).In-Bytes, p.ensures)

@@ -1,0 +1,87 @@
+-- `put_record` meets its contract: after each piece the area has the record's bytes so far. Assumes nothing.
+use mathlib.Core.Path.{refl, sym}
+use mathlib.Core.List.{List, [], ◌++◌, append-nil}
+use Prim.Native.Nat.{ℕ}
+use borrow.Author.Rules.{rules}
+use lib.ListN.{length}
+use Rattle.records.specs.Record.{deadline_bytes, record_bytes}
+use Rattle.records.specs.Uleb128.{uleb128}
+use Rattle.records.proofs.Area.{Writing, begin, fits, next, complete}
+use Rattle.records.proofs.record.put_record.Goals as goal
+use Rattle.records.proofs.record.put_record.Goals.{After-put_bytes-key_end, After-put_deadline-header, After-put_length-key_prefix, After-put_length-value_prefix, Start}
+
+-- the record's pieces, and what is left to write after each
+module _ (s : Start) where
+  abbrev key : List ℕ
+  key = s.args.key.now
+
+  abbrev value : List ℕ
+  value = s.args.value.now
+
+  abbrev key_prefix : List ℕ
+  key_prefix = uleb128 (length key)
+
+  abbrev value_prefix : List ℕ
+  value_prefix = uleb128 (length value)
+
+  abbrev deadline : List ℕ
+  deadline = deadline_bytes s.args.expiry s.args.expires_at
+
+  abbrev left2 : List ℕ
+  left2 = deadline ++ (key ++ value)
+
+  abbrev left1 : List ℕ
+  left1 = value_prefix ++ left2
+
+  abbrev Left : List ℕ → List ℕ → ℕ → Type 0
+  Left left out at = Writing (record_bytes s.args.expiry key value s.args.expires_at) left s.args.rest.now out at
+
+-- the start, from after each piece
+abbrev from1 : After-put_length-key_prefix → Start
+from1 c = c.before.before.before.before.before
+
+abbrev from2 : After-put_length-value_prefix → Start
+from2 c = from1 c.before.before.before.before
+
+abbrev from3 : After-put_deadline-header → Start
+from3 c = from2 c.before.before.before.before
+
+abbrev from4 : After-put_bytes-key_end → Start
+from4 c = from3 c.before.before.before.before
+
+at0 : (s : Start) → Left s (key_prefix s ++ left1 s) s.args.rest.now 0
+unfolding record_bytes
+at0 s = begin (key_prefix s ++ left1 s) s.args.rest.now s.requires
+
+at1 : (c : After-put_length-key_prefix) → Left c.before.before.before.before.before (left1 c.before.before.before.before.before) c.put_length-key_prefix.new.out c.put_length-key_prefix.result
+at1 c = next (key_prefix c.before.before.before.before.before) (left1 c.before.before.before.before.before) _ _ (at0 c.before.before.before.before.before) refl c.put_length-key_prefix.ensures.0 c.put_length-key_prefix.ensures.1
+
+at2 : (c : After-put_length-value_prefix) → Left c.before.before.before.before.before.before.before.before.before (left2 c.before.before.before.before.before.before.before.before.before) c.put_length-value_prefix.new.out c.put_length-value_prefix.result
+at2 c = next (value_prefix c.before.before.before.before.before.before.before.before.before) (left2 c.before.before.before.before.before.before.before.before.before) _ _ (at1 c.before.before.before.before) refl c.put_length-value_prefix.ensures.0 c.put_length-value_prefix.ensures.1
+
+at3 : (c : After-put_deadline-header) → Left c.before.before.before.before.before.before.before.before.before.before.before.before.before (key c.before.before.before.before.before.before.before.before.before.before.before.before.before ++ value c.before.before.before.before.before.before.before.before.before.before.before.before.before) c.put_deadline-header.new.out c.put_deadline-header.result
+at3 c = next (deadline c.before.before.before.before.before.before.before.before.before.before.before.before.before) (key c.before.before.before.before.before.before.before.before.before.before.before.before.before ++ value c.before.before.before.before.before.before.before.before.before.before.before.before.before) _ _ (at2 c.before.before.before.before) refl c.put_deadline-header.ensures.0 c.put_deadline-header.ensures.1
+
+at4 : (c : After-put_bytes-key_end) → Left c.before.before.before.before.before.before.before.before.before.before.before.before.before.before.before.before.before (value c.before.before.before.before.before.before.before.before.before.before.before.before.before.before.before.before.before) c.put_bytes-key_end.new.out c.put_bytes-key_end.result
+at4 c = next (key c.before.before.before.before.before.before.before.before.before.before.before.before.before.before.before.before.before) (value c.before.before.before.before.before.before.before.before.before.before.before.before.before.before.before.before.before) _ _ (at3 c.before.before.before.before) refl c.put_bytes-key_end.ensures.0 c.put_bytes-key_end.ensures.1
+
+pub put_length-key_prefix-requires : goal.put_length-key_prefix-requires
+put_length-key_prefix-requires c = fits (key_prefix (goal.at.put_length-key_prefix-requires c).Start) (left1 (goal.at.put_length-key_prefix-requires c).Start) (at0 (goal.at.put_length-key_prefix-requires c).Start) refl
+
+pub put_length-value_prefix-requires : goal.put_length-value_prefix-requires
+put_length-value_prefix-requires c = fits (value_prefix (goal.at.put_length-value_prefix-requires c).Start) (left2 (goal.at.put_length-value_prefix-requires c).Start) (at1 (goal.at.put_length-value_prefix-requires c).After-put_length-key_prefix) refl
+
+pub put_deadline-header-requires : goal.put_deadline-header-requires
+put_deadline-header-requires c = fits (deadline (goal.at.put_deadline-header-requires c).Start) (key (goal.at.put_deadline-header-requires c).Start ++ value (goal.at.put_deadline-header-requires c).Start) (at2 (goal.at.put_deadline-header-requires c).After-put_length-value_prefix) refl
+
+pub put_bytes-key_end-requires : goal.put_bytes-key_end-requires
+put_bytes-key_end-requires c = fits (key (goal.at.put_bytes-key_end-requires c).Start) (value (goal.at.put_bytes-key_end-requires c).Start) (at3 (goal.at.put_bytes-key_end-requires c).After-put_deadline-header) refl
+
+pub put_bytes-requires : goal.put_bytes-requires
+put_bytes-requires c = let v = value (goal.at.put_bytes-requires c).Start in fits v [] (at4 (goal.at.put_bytes-requires c).After-put_bytes-key_end) (sym (append-nil v))
+
+pub returns : goal.returns
+returns c =
+    let v = value (goal.at.returns c).Start in
+    let p = c.put_bytes in
+    (complete (next v [] _ _ (at4 (goal.at.returns c).After-put_bytes-key_end) (sym (append-nil v)) p.ensures.0 p.ensures.1) refl).1

@@ -1,0 +1,56 @@
+-- `area_words` meets its contract. Assumes nothing.
+use Rattle.std.proofs.Common.{ℕ, leb, sym, ◌∙◌, rules, le-leb, leb-true}
+use borrow.Author.Tests.{lt-leb}
+use Rattle.sets.specs.Areas.{area_words_for, ask_counts, words_needed}
+use Rattle.sets.specs.Questions.{occupancy_fits}
+use Rattle.sets.proofs.Said.{Past, said_no, said_yes}
+use Rattle.sets.proofs.Decides.{plan}
+use Rattle.sets.proofs.Counts.{both}
+use Rattle.sets.proofs.areas.area_words.Goals as goal
+use Rattle.sets.proofs.areas.area_words.Goals.{Else-not-nanoseconds_fit, Else-not-occupancy_fits, Else-not-tick_runs, Start}
+
+-- the first n questions are answered yes
+abbrev Yes : ℕ → Start → Type 0
+Yes n s = let a = s.args in Past (plan (words_needed a.config a.entry_count)) n (ask_counts a.config a.entry_count)
+
+abbrev from : Else-not-occupancy_fits → Start
+from c = c.before.before.before.before
+
+yes1 : (c : Else-not-nanoseconds_fit) → Yes 1 c.before.before
+unfolding ask_counts
+yes1 c = rw (said_yes c.nanoseconds_fit.ensures c.if-not-nanoseconds_fit.false)
+
+yes2 : (c : Else-not-occupancy_fits) → Yes 2 c.before.before.before.before
+unfolding ask_counts
+yes2 c = yes1 c.before.before ∙ rw (said_yes c.occupancy_fits.ensures c.if-not-occupancy_fits.false)
+
+yes3 : (c : Else-not-tick_runs) → Yes 3 c.before.before.before.before.before.before
+unfolding ask_counts
+yes3 c = yes2 c.before.before ∙ rw (said_yes c.tick_runs.ensures c.if-not-tick_runs.false)
+
+pub returns-then-not-nanoseconds_fit : goal.returns-then-not-nanoseconds_fit
+unfolding area_words_for ask_counts
+returns-then-not-nanoseconds_fit c = rw (said_no c.nanoseconds_fit.ensures c.if-not-nanoseconds_fit.true)
+
+pub returns-then-not-occupancy_fits : goal.returns-then-not-occupancy_fits
+unfolding area_words_for ask_counts
+returns-then-not-occupancy_fits c = sym (yes1 (goal.at.returns-then-not-occupancy_fits c).Else-not-nanoseconds_fit ∙ rw (said_no c.occupancy_fits.ensures c.if-not-occupancy_fits.true))
+
+pub returns-then-not-tick_runs : goal.returns-then-not-tick_runs
+unfolding area_words_for ask_counts
+returns-then-not-tick_runs c = sym (yes2 (goal.at.returns-then-not-tick_runs c).Else-not-occupancy_fits ∙ rw (said_no c.tick_runs.ensures c.if-not-tick_runs.true))
+
+pub returns-then-entry_count-gt-MAX_RECORDS : goal.returns-then-entry_count-gt-MAX_RECORDS
+unfolding area_words_for ask_counts
+returns-then-entry_count-gt-MAX_RECORDS c = sym (yes3 (goal.at.returns-then-entry_count-gt-MAX_RECORDS c).Else-not-tick_runs ∙ rw (lt-leb _ _ c.if-entry_count-gt-MAX_RECORDS.true))
+
+pub words_needed-requires : goal.words_needed-requires
+unfolding occupancy_fits
+words_needed-requires c =
+    let fits = said_yes c.occupancy_fits.ensures c.if-not-occupancy_fits.false in
+    (c.if-entry_count-gt-MAX_RECORDS.false, leb-true _ _ (both (leb 1 c.args.config.target_occupied_slots) _ fits).1)
+
+pub returns : goal.returns
+unfolding area_words_for ask_counts
+returns c =
+    sym (yes3 (goal.at.returns c).Else-not-tick_runs ∙ rw (le-leb _ _ c.if-entry_count-gt-MAX_RECORDS.false, ← c.words_needed.ensures))

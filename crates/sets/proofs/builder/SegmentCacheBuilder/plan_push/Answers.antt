@@ -1,0 +1,95 @@
+-- `plan_push` meets its contract: after each question that is answered yes those after it are left. Assumes nothing.
+use Rattle.std.proofs.Common.{◌≡◌, ℕ, ◌≤◌, true, length, sym, ap, ◌∙◌, length-take-le, rules, le-ltb, lt-ltb, le-leb}
+use borrow.Author.Tests.{lt-leb}
+use Rattle.index.specs.Build.{slot_outcome}
+use Rattle.sets.specs.Build.{areas_hold_builder, ask_push, deadline_for, push_slot}
+use Rattle.sets.specs.BuildPlans.{ask_record, plan_push, plan_record, planned}
+use Rattle.sets.proofs.Counts.{builder_areas_asked}
+use Rattle.sets.proofs.Decides.{plan}
+use Rattle.sets.proofs.Said.{Past, said_no, said_yes}
+use Rattle.sets.proofs.builder.SegmentCacheBuilder.plan_push.Goals as goal
+use Rattle.sets.proofs.builder.SegmentCacheBuilder.plan_push.Goals.{After-find_build_slot, After-plan_record, Else-filter_len-self, Else-not-areas_hold, Else-not-lifetime_fits, Else-self, Start}
+
+-- the first n questions are answered yes
+abbrev Yes : ℕ → Start → Type 0
+Yes n s =
+    let a = s.args in
+    Past (plan {A = ℕ × ℕ} ((push_slot a.self a.hash a.key.now a.index.now a.arena.now).value, (deadline_for a.self.config a.ttl).value)) n
+    (ask_push a.self a.hash a.key.now a.value_bytes a.ttl a.index.now a.filter_len a.arena.now)
+
+-- from after the fourth question to after the first, and from there to the start
+abbrev first : Else-self → Else-not-areas_hold
+first c = c.before.before.before.before.before.before
+
+abbrev from : Else-not-areas_hold → Start
+from c = c.before.before.before.before.before
+
+held : (c : Else-not-areas_hold) → let a = c.args in areas_hold_builder a.self (length a.index.now) (length a.arena.now) ≡ true
+held c = said_yes c.areas_hold.ensures c.if-not-areas_hold.false
+
+filled : (c : Else-self) → let a = (from c.args in a.self.filled ≤ length a.arena.now
+filled c = (builder_areas_asked _ _ _ (held c.before.before.before.before.before.before).filled_held
+
+yes1 : (c : Else-not-areas_hold) → Yes 1 c.before.before.before.before.before
+unfolding ask_push
+yes1 c = rw (held c)
+
+yes2 : (c : Else-filter_len-self) → Yes 2 c.before.before.before.before.before.before.before
+unfolding ask_push
+yes2 c = yes1 c.before.before ∙ rw (le-leb _ _ c.if-filter_len-self.false)
+
+yes3 : (c : Else-not-lifetime_fits) → Yes 3 c.before.before.before.before.before.before.before.before.before
+unfolding ask_push
+yes3 c = yes2 c.before.before ∙ rw (said_yes c.lifetime_fits.ensures c.if-not-lifetime_fits.false)
+
+yes4 : (c : Else-self) → Yes 4 (from c.before.before.before.before.before.before
+unfolding ask_push
+yes4 c = yes3 c.before.before ∙ rw (lt-ltb _ _ c.if-self.false)
+
+-- the slot that was found, and what the rest of the plan comes to
+found : (c : After-find_build_slot) → let a = (from c.args in
+    push_slot a.self a.hash a.key.now a.index.now a.arena.now ≡ slot_outcome c.find_build_slot.result
+found c = sym c.find_build_slot.ensures
+
+rest : (c : After-plan_record) → let a = (from c.args in
+    plan_record a.self c.in-Empty.slot (length a.key.now) a.value_bytes a.ttl (length a.arena.now) ≡ planned c.plan_record.result
+rest c = sym c.plan_record.ensures
+
+pub returns-then-not-areas_hold : goal.returns-then-not-areas_hold
+unfolding plan_push ask_push plan_record ask_record
+returns-then-not-areas_hold c = rw (said_no c.areas_hold.ensures c.if-not-areas_hold.true)
+
+pub returns-then-filter_len-self : goal.returns-then-filter_len-self
+unfolding plan_push ask_push plan_record ask_record
+returns-then-filter_len-self c = sym (yes1 (goal.at.returns-then-filter_len-self c).Else-not-areas_hold ∙ rw (lt-leb _ _ c.if-filter_len-self.true))
+
+pub returns-then-not-lifetime_fits : goal.returns-then-not-lifetime_fits
+unfolding plan_push ask_push plan_record ask_record
+returns-then-not-lifetime_fits c = sym (yes2 (goal.at.returns-then-not-lifetime_fits c).Else-filter_len-self ∙ rw (said_no c.lifetime_fits.ensures c.if-not-lifetime_fits.true))
+
+pub returns-then-self : goal.returns-then-self
+unfolding plan_push ask_push plan_record ask_record
+returns-then-self c =
+    let self = c.args.self in
+    sym (yes3 (goal.at.returns-then-self c).Else-not-lifetime_fits ∙ rw (le-ltb self.inserted_entries self.expected_entries c.if-self.true))
+
+pub slice_bounds-find_build_slot-end : goal.slice_bounds-find_build_slot-end
+slice_bounds-find_build_slot-end c = sym (length-take-le _ _ (filled (goal.at.slice_bounds-find_build_slot-end c).Else-not-lifetime_fits))
+
+pub plan_record-requires : goal.plan_record-requires
+plan_record-requires c = filled (goal.at.plan_record-requires c).Else-not-lifetime_fits
+
+pub returns-in-Duplicate : goal.returns-in-Duplicate
+unfolding plan_push ask_push plan_record ask_record
+returns-in-Duplicate c =
+    sym (yes4 (goal.at.returns-in-Duplicate c).Else-not-lifetime_fits ∙ rw (found (goal.at.returns-in-Duplicate c).After-find_build_slot ∙ ap slot_outcome c.in-Duplicate.is))
+
+pub returns-in-Full : goal.returns-in-Full
+unfolding plan_push ask_push plan_record ask_record
+returns-in-Full c =
+    sym (yes4 (goal.at.returns-in-Full c).Else-not-lifetime_fits ∙ rw (found (goal.at.returns-in-Full c).After-find_build_slot ∙ ap slot_outcome c.in-Full.is))
+
+pub returns-in-Empty : goal.returns-in-Empty
+unfolding plan_push ask_push plan_record ask_record
+returns-in-Empty c =
+    sym (yes4 (goal.at.returns-in-Empty c).Else-not-lifetime_fits ∙ rw (found (goal.at.returns-in-Empty c).After-find_build_slot ∙ ap slot_outcome c.in-Empty.is) (rest c))

@@ -1,0 +1,65 @@
+-- `fits` meets its contract. Assumes nothing.
+use Rattle.std.proofs.Common.{◌≡◌, ◌≤◌, true, [], ◌∷◌, sym, ◌∙◌, rules, le-leb}
+use borrow.Author.Tests.{lt-leb}
+use Rattle.sets.specs.Lookup.{set_fits}
+use Rattle.sets.specs.Questions.{all, bytes_fit, counts_fit}
+use Rattle.sets.specs.declared.cache.FrozenSegmentCache.{FrozenSegmentCache}
+use Rattle.sets.proofs.Said.{said_no, said_yes}
+use Rattle.sets.proofs.Counts.{counts_records}
+use Rattle.sets.proofs.cache.FrozenSegmentCache.fits.Goals as goal
+use Rattle.sets.proofs.cache.FrozenSegmentCache.fits.Goals.{Else-not-bytes_fit, Else-not-counts_fit, Else-self-gt-MAX_RECORD_SEGMENTS}
+
+abbrev first : Else-self-gt-MAX_RECORD_SEGMENTS → Else-not-counts_fit
+first c = c.before.before.before.before
+
+abbrev self : Else-not-counts_fit → FrozenSegmentCache
+self c = c.args.self
+
+counted : (c : Else-not-counts_fit) → let s = self c in counts_fit s.config s.entries s.buckets s.filter_words ≡ true
+counted c = said_yes c.counts_fit.ensures c.if-not-counts_fit.false
+
+few : (c : Else-self-gt-MAX_RECORD_SEGMENTS) → (self c.entries ≤ 1_048_576
+few c = counts_records _ _ _ _ (counted c.before.before.before.before
+
+-- what is left to ask after the third question, and after the fourth
+yes3 : (c : Else-self-gt-MAX_RECORD_SEGMENTS) → let s = self c.before.before.before.before in
+    set_fits s
+    ≡ all (bytes_fit s.entries s.logical_key_bytes ∷ bytes_fit s.entries s.logical_value_bytes ∷ bytes_fit s.entries s.record_header_bytes ∷ [])
+unfolding set_fits
+yes3 c = rw (counted c.before.before.before.before, le-leb _ _ c.if-self-lt1.false, le-leb _ _ c.if-self-gt-MAX_RECORD_SEGMENTS.false)
+
+yes4 : (c : Else-not-bytes_fit) → let s = self c.before.before.before.before.before.before in
+    set_fits s ≡ all (bytes_fit s.entries s.logical_value_bytes ∷ bytes_fit s.entries s.record_header_bytes ∷ [])
+yes4 c = yes3 c.before.before ∙ rw (said_yes c.bytes_fit.ensures c.if-not-bytes_fit.false)
+
+pub returns-then-not-counts_fit : goal.returns-then-not-counts_fit
+unfolding set_fits
+returns-then-not-counts_fit c = rw (said_no c.counts_fit.ensures c.if-not-counts_fit.true)
+
+pub returns-then-self-lt1 : goal.returns-then-self-lt1
+unfolding set_fits
+returns-then-self-lt1 c = rw (counted (goal.at.returns-then-self-lt1 c).Else-not-counts_fit, lt-leb _ _ c.if-self-lt1.true)
+
+pub returns-then-self-gt-MAX_RECORD_SEGMENTS : goal.returns-then-self-gt-MAX_RECORD_SEGMENTS
+unfolding set_fits
+returns-then-self-gt-MAX_RECORD_SEGMENTS c =
+    rw (counted (goal.at.returns-then-self-gt-MAX_RECORD_SEGMENTS c).Else-not-counts_fit, le-leb _ _ c.if-self-lt1.false, lt-leb _ _ c.if-self-gt-MAX_RECORD_SEGMENTS.true)
+
+pub bytes_fit-requires : goal.bytes_fit-requires
+bytes_fit-requires c = few c
+
+pub returns-then-not-bytes_fit : goal.returns-then-not-bytes_fit
+returns-then-not-bytes_fit c = sym (yes3 (goal.at.returns-then-not-bytes_fit c).Else-self-gt-MAX_RECORD_SEGMENTS ∙ rw (said_no c.bytes_fit.ensures c.if-not-bytes_fit.true))
+
+pub bytes_fit-requires-2 : goal.bytes_fit-requires-2
+bytes_fit-requires-2 c = few (goal.at.bytes_fit-requires-2 c).Else-self-gt-MAX_RECORD_SEGMENTS
+
+pub returns-then-not-bytes_fit-2 : goal.returns-then-not-bytes_fit-2
+returns-then-not-bytes_fit-2 c = sym (yes4 (goal.at.returns-then-not-bytes_fit-2 c).Else-not-bytes_fit ∙ rw (said_no c.bytes_fit-2.ensures c.if-not-bytes_fit-2.true))
+
+pub bytes_fit-requires-3 : goal.bytes_fit-requires-3
+bytes_fit-requires-3 c = few (goal.at.bytes_fit-requires-3 c).Else-self-gt-MAX_RECORD_SEGMENTS
+
+pub returns : goal.returns
+returns c =
+    c.bytes_fit-3.ensures ∙ sym (yes4 (goal.at.returns c).Else-not-bytes_fit ∙ rw (said_yes c.bytes_fit-2.ensures c.if-not-bytes_fit-2.false))

@@ -1,0 +1,13 @@
+-- What each turn of the loop keeps.
+use Rattle.std.proofs.Common.{◌≡◌, ℕ, ◌+◌, ◌-◌, ◌<◌, List, [], ◌∷◌, length, get_or, drop, subst, arith}
+use Rattle.records.proofs.Area.{Writing, begin, fits, room, next_byte, complete}
+use Rattle.sets.specs.Kept.{chosen}
+use Rattle.sets.proofs.KeptBits.{chosen_length}
+use Rattle.sets.proofs.KeptWords.{chosen_dropped, chosen_end, chosen_kept}
+use Rattle.sets.proofs.kept.copy_kept.Given as goal
+
+abbrev pub invariant-loop-next : goal.invariant-loop-next
+invariant-loop-next l = Writing (chosen l.flags l.words) (chosen (drop l.next l.flags) (drop l.next l.words)) l.initial.area l.area l.kept
+
+abbrev pub decreases-loop-next : goal.decreases-loop-next
+decreases-loop-next l = length l.flags - l.next

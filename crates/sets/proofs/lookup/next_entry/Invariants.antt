@@ -1,0 +1,15 @@
+-- What each turn of the loop keeps.
+use Rattle.std.proofs.Common.{◌≡◌, ℕ, ◌-◌, ◌*◌, sym, refl, ◌∙◌, arith, rules}
+use Rattle.records.specs.declared.record.RecordAnswer.{RecordAnswer}
+use Rattle.index.specs.View.{record_in}
+use Rattle.sets.specs.Lookup.{entry_at, first_entry, next_entry}
+use Rattle.sets.proofs.WalkSteps.{entry_hit, entry_miss, entry_none}
+use Rattle.sets.proofs.lookup.next_entry.Given as goal
+
+abbrev pub invariant-loop-slot : goal.invariant-loop-slot
+invariant-loop-slot l =
+    first_entry (entry_at (record_in l.view l.arena l.starts l.lengths) l.packed l.buckets l.index) l.slot (8 * l.buckets - l.slot)
+    ≡ next_entry (record_in l.view l.arena l.starts l.lengths) l.packed l.buckets l.index l.from
+
+abbrev pub decreases-loop-slot : goal.decreases-loop-slot
+decreases-loop-slot l = l.slots - l.slot

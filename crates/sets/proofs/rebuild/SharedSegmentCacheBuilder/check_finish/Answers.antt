@@ -1,0 +1,35 @@
+-- `check_finish` meets its contract: after each question that is answered yes those after it are left. Assumes nothing.
+use Rattle.std.proofs.Common.{ℕ, sym, ◌∙◌, rules, eq-eqb, ne_eqb}
+use Rattle.sets.specs.Rebuild.{ask_rebuild_finish}
+use Rattle.sets.specs.Questions.{first_no}
+use Rattle.sets.proofs.Said.{Past, said_no, said_yes}
+use Rattle.sets.proofs.rebuild.SharedSegmentCacheBuilder.check_finish.Goals as goal
+use Rattle.sets.proofs.rebuild.SharedSegmentCacheBuilder.check_finish.Goals.{After-scratch_holds-arg-1, Else-not-areas_hold, Else-self, Start}
+
+-- the first n questions are answered yes
+abbrev Yes : ℕ → Start → Type 0
+Yes n s = let a = s.args in Past first_no n (ask_rebuild_finish a.self a.index_len a.starts.now a.lengths.now a.scratch_len a.arena_len)
+
+yes1 : (c : Else-not-areas_hold) → Yes 1 c.before.before.before.before
+unfolding ask_rebuild_finish
+yes1 c = rw (said_yes c.areas_hold.ensures c.if-not-areas_hold.false)
+
+yes2 : (c : Else-self) → Yes 2 c.before.before.before.before.before.before
+unfolding ask_rebuild_finish
+yes2 c = yes1 c.before.before ∙ rw (eq-eqb _ _ c.if-self.false)
+
+pub returns-then-not-areas_hold : goal.returns-then-not-areas_hold
+unfolding ask_rebuild_finish
+returns-then-not-areas_hold c = rw (said_no c.areas_hold.ensures c.if-not-areas_hold.true)
+
+pub returns-then-self : goal.returns-then-self
+unfolding ask_rebuild_finish
+returns-then-self c = sym (yes1 (goal.at.returns-then-self c).Else-not-areas_hold ∙ rw (ne_eqb _ _ c.if-self.true))
+
+pub returns-then-not-scratch_holds : goal.returns-then-not-scratch_holds
+unfolding ask_rebuild_finish
+returns-then-not-scratch_holds c = sym (yes2 (goal.at.returns-then-not-scratch_holds c).After-scratch_holds-arg-1 ∙ rw (said_no c.scratch_holds.ensures c.if-not-scratch_holds.true))
+
+pub returns : goal.returns
+unfolding ask_rebuild_finish
+returns c = sym (yes2 (goal.at.returns c).After-scratch_holds-arg-1 ∙ rw (said_yes c.scratch_holds.ensures c.if-not-scratch_holds.false))

@@ -1,0 +1,57 @@
+-- `plan_room` meets its contract: after each question that is answered yes those after it are left. Assumes nothing.
+use Rattle.std.proofs.Common.{◌≡◌, ℕ, ◌+◌, ◌-◌, leb, sym, ap, ◌∙◌, rules, le-ltb, lt-ltb}
+use Rattle.index.specs.Build.{empty_slot, slot_outcome}
+use Rattle.sets.specs.RebuildPlans.{ask_room, plan_room}
+use Rattle.sets.specs.Rebuild.{copied_size, rebuild_filled}
+use Rattle.sets.proofs.Appends.{room}
+use Rattle.sets.proofs.Decides.{plan}
+use Rattle.sets.proofs.Said.{Past, said_no, said_yes}
+use Rattle.sets.proofs.rebuild.SharedSegmentCacheBuilder.plan_room.Goals as goal
+use Rattle.sets.proofs.rebuild.SharedSegmentCacheBuilder.plan_room.Goals.{Else-not-record_fits, Else-retained-ge-MAX_RECORD_SEGMENTS, Start}
+
+-- the room, as the plan asks for it and as the definition does
+asks : (s : Start) → let a = s.args in
+    leb (rebuild_filled a.self + copied_size a.self a.key_bytes a.value_bytes) a.arena_len
+    ≡ leb (copied_size a.self a.key_bytes a.value_bytes) (a.arena_len - rebuild_filled a.self)
+asks s = let a = s.args in room (rebuild_filled a.self) (copied_size a.self a.key_bytes a.value_bytes) a.arena_len s.requires
+
+-- the first n questions are answered yes
+abbrev Yes : ℕ → Start → Type 0
+Yes n s =
+    let a = s.args in
+    Past (plan {A = ℕ × ℕ} ((empty_slot a.index.now a.self.bucket_count a.hash).value, a.expires_at)) n
+    (ask_room a.self a.hash a.key_bytes a.value_bytes a.index.now a.arena_len)
+
+abbrev from : Else-not-record_fits → Start
+from c = c.before.before.before.before.before
+
+yes1 : (c : Else-not-record_fits) → Yes 1 c.before.before.before.before.before
+unfolding ask_room
+yes1 c = rw (asks c.before.before.before.before.before ∙ said_yes c.record_fits.ensures c.if-not-record_fits.false)
+
+yes2 : (c : Else-retained-ge-MAX_RECORD_SEGMENTS) → Yes 2 c.before.before.before.before.before.before.before.before
+unfolding ask_room
+yes2 c = yes1 c.before.before.before ∙ rw (← c.retained.ensures, lt-ltb _ _ c.if-retained-ge-MAX_RECORD_SEGMENTS.false)
+
+pub returns-then-not-record_fits : goal.returns-then-not-record_fits
+unfolding plan_room ask_room
+returns-then-not-record_fits c = rw (asks (goal.at.returns-then-not-record_fits c).Start ∙ said_no c.record_fits.ensures c.if-not-record_fits.true)
+
+pub returns-then-retained-ge-MAX_RECORD_SEGMENTS : goal.returns-then-retained-ge-MAX_RECORD_SEGMENTS
+unfolding plan_room ask_room
+returns-then-retained-ge-MAX_RECORD_SEGMENTS c = sym (yes1 (goal.at.returns-then-retained-ge-MAX_RECORD_SEGMENTS c).Else-not-record_fits ∙ rw (← c.retained.ensures, le-ltb _ _ c.if-retained-ge-MAX_RECORD_SEGMENTS.true))
+
+pub returns-in-Duplicate : goal.returns-in-Duplicate
+unfolding plan_room ask_room
+returns-in-Duplicate c =
+    sym (yes2 (goal.at.returns-in-Duplicate c).Else-retained-ge-MAX_RECORD_SEGMENTS ∙ rw (sym c.find_empty_build_slot.ensures ∙ ap slot_outcome c.in-Duplicate.is))
+
+pub returns-in-Full : goal.returns-in-Full
+unfolding plan_room ask_room
+returns-in-Full c =
+    sym (yes2 (goal.at.returns-in-Full c).Else-retained-ge-MAX_RECORD_SEGMENTS ∙ rw (sym c.find_empty_build_slot.ensures ∙ ap slot_outcome c.in-Full.is))
+
+pub returns-in-Empty : goal.returns-in-Empty
+unfolding plan_room ask_room
+returns-in-Empty c =
+    sym (yes2 (goal.at.returns-in-Empty c).Else-retained-ge-MAX_RECORD_SEGMENTS ∙ rw (sym c.find_empty_build_slot.ensures ∙ ap slot_outcome c.in-Empty.is))
