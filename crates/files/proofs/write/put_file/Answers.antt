@@ -122,21 +122,25 @@ from3 c = from2 c.before.before.before.before
 abbrev from4 : After-put_front-after_filter → Start
 from4 c = from3 c.before.before.before.before
 
-at1 : (c : After-put_counts-after_counts) → Left c.before.before.before.before.before.before.before.before (left1 c.before.before.before.before.before.before.before.before) c.put_counts-after_counts.new.file c.put_counts-after_counts.result
+at1 : (c : After-put_counts-after_counts) → let s = from1 c in Left s (left1 s) c.put_counts-after_counts.new.file c.put_counts-after_counts.result
 at1 c =
-    next (one c.before.before.before.before.before.before.before.before) (left1 c.before.before.before.before.before.before.before.before) _ _ (at0 c.before.before.before.before.before.before.before.before) refl (omega (arith, c.put_counts-after_counts.ensures.0, one_long c.before.before.before.before.before.before.before.before)) c.put_counts-after_counts.ensures.1
+    let s = from1 c in
+    next (one s) (left1 s) _ _ (at0 s) refl (omega (arith, c.put_counts-after_counts.ensures.0, one_long s)) c.put_counts-after_counts.ensures.1
 
-at2 : (c : After-put_front-after_lengths) → Left c.before.before.before.before.before.before.before.before.before.before.before.before (three c.before.before.before.before.before.before.before.before.before.before.before.before ++ (four c.before.before.before.before.before.before.before.before.before.before.before.before ++ five c.before.before.before.before.before.before.before.before.before.before.before.before)) c.put_front-after_lengths.new.file c.put_front-after_lengths.result
+at2 : (c : After-put_front-after_lengths) → let s = from2 c in Left s (three s ++ (four s ++ five s)) c.put_front-after_lengths.new.file c.put_front-after_lengths.result
 at2 c =
-    next (two c.before.before.before.before.before.before.before.before.before.before.before.before) (three c.before.before.before.before.before.before.before.before.before.before.before.before ++ (four c.before.before.before.before.before.before.before.before.before.before.before.before ++ five c.before.before.before.before.before.before.before.before.before.before.before.before)) _ _ (at1 c.before.before.before.before) refl (omega (arith, c.put_front-after_lengths.ensures.0, two_long c.before.before.before.before.before.before.before.before.before.before.before.before)) c.put_front-after_lengths.ensures.1
+    let s = from2 c in
+    next (two s) (three s ++ (four s ++ five s)) _ _ (at1 c.before.before.before.before) refl (omega (arith, c.put_front-after_lengths.ensures.0, two_long s)) c.put_front-after_lengths.ensures.1
 
-at3 : (c : After-put_index-after_index) → Left c.before.before.before.before.before.before.before.before.before.before.before.before.before.before.before.before (four c.before.before.before.before.before.before.before.before.before.before.before.before.before.before.before.before ++ five c.before.before.before.before.before.before.before.before.before.before.before.before.before.before.before.before) c.put_index-after_index.new.file c.put_index-after_index.result
+at3 : (c : After-put_index-after_index) → let s = from3 c in Left s (four s ++ five s) c.put_index-after_index.new.file c.put_index-after_index.result
 at3 c =
-    next (three c.before.before.before.before.before.before.before.before.before.before.before.before.before.before.before.before) (four c.before.before.before.before.before.before.before.before.before.before.before.before.before.before.before.before ++ five c.before.before.before.before.before.before.before.before.before.before.before.before.before.before.before.before) _ _ (at2 c.before.before.before.before) refl (omega (arith, c.put_index-after_index.ensures.0, three_long c.before.before.before.before.before.before.before.before.before.before.before.before.before.before.before.before)) c.put_index-after_index.ensures.1
+    let s = from3 c in
+    next (three s) (four s ++ five s) _ _ (at2 c.before.before.before.before) refl (omega (arith, c.put_index-after_index.ensures.0, three_long s)) c.put_index-after_index.ensures.1
 
-at4 : (c : After-put_front-after_filter) → Left c.before.before.before.before.before.before.before.before.before.before.before.before.before.before.before.before.before.before.before.before (five c.before.before.before.before.before.before.before.before.before.before.before.before.before.before.before.before.before.before.before.before) c.put_front-after_filter.new.file c.put_front-after_filter.result
+at4 : (c : After-put_front-after_filter) → let s = from4 c in Left s (five s) c.put_front-after_filter.new.file c.put_front-after_filter.result
 at4 c =
-    next (four c.before.before.before.before.before.before.before.before.before.before.before.before.before.before.before.before.before.before.before.before) (five c.before.before.before.before.before.before.before.before.before.before.before.before.before.before.before.before.before.before.before.before) _ _ (at3 c.before.before.before.before) refl (omega (arith, c.put_front-after_filter.ensures.0, four_long c.before.before.before.before.before.before.before.before.before.before.before.before.before.before.before.before.before.before.before.before)) c.put_front-after_filter.ensures.1
+    let s = from4 c in
+    next (four s) (five s) _ _ (at3 c.before.before.before.before) refl (omega (arith, c.put_front-after_filter.ensures.0, four_long s)) c.put_front-after_filter.ensures.1
 
 pub put_counts-after_counts-requires : goal.put_counts-after_counts-requires
 put_counts-after_counts-requires c = omega (arith, fits (one (goal.at.put_counts-after_counts-requires c).Start) (left1 (goal.at.put_counts-after_counts-requires c).Start) (at0 (goal.at.put_counts-after_counts-requires c).Start) refl, one_long (goal.at.put_counts-after_counts-requires c).Start)
@@ -162,9 +166,10 @@ put_segments-requires c = (
 )
 
 -- all five
-at5 : (c : After-put_segments) → Left c.before.before.before.before.before.before.before.before.before.before.before.before.before.before.before.before.before.before.before.before.before.before.before.before [] c.put_segments.new.file c.put_segments.result
+at5 : (c : After-put_segments) → let s = from4 c.before.before.before.before in Left s [] c.put_segments.new.file c.put_segments.result
 at5 c =
-    next (five c.before.before.before.before.before.before.before.before.before.before.before.before.before.before.before.before.before.before.before.before.before.before.before.before) [] _ _ (at4 c.before.before.before.before) (sym (append-nil (five c.before.before.before.before.before.before.before.before.before.before.before.before.before.before.before.before.before.before.before.before.before.before.before.before))) (omega (arith, c.put_segments.ensures.0, five_long c.before.before.before.before.before.before.before.before.before.before.before.before.before.before.before.before.before.before.before.before.before.before.before.before)) c.put_segments.ensures.1
+    let s = from4 c.before.before.before.before in
+    next (five s) [] _ _ (at4 c.before.before.before.before) (sym (append-nil (five s))) (omega (arith, c.put_segments.ensures.0, five_long s)) c.put_segments.ensures.1
 
 pub shape_of-file : goal.shape_of-file
 shape_of-file c = (room (at5 (goal.at.shape_of-file c).After-put_segments)).1

@@ -20,14 +20,14 @@ bytes_size s = size_is s.args.expiry s.args.key.now s.args.value.now s.args.expi
 
 -- the start, from where the size is known
 abbrev from : In-Bytes → Start
-from c = c.before.before.before.before.before.before.before
+from c = c.before.before.before.before.before.before
 
-sized : (c : In-Bytes) → c.in-Bytes.size ≡ length (bytes c.before.before.before.before.before.before.before
+sized : (c : In-Bytes) → c.in-Bytes.size ≡ length (bytes (from c))
 sized c =
     let a = c.args in
     size_accepted a.expiry (length a.key.now) (length a.value.now) c.in-Bytes.size
     (sym (ap size_outcome c.in-Bytes.is) ∙ c.encoded_record_bytes.ensures)
-    ∙ sym (bytes_size c.before.before.before.before.before.before.before
+    ∙ sym (bytes_size (from c))
 
 pub returns-in_default : goal.returns-in_default
 returns-in_default c =
@@ -39,7 +39,7 @@ returns-in_default c =
 
 pub returns-then-rest-size : goal.returns-then-rest-size
 returns-then-rest-size c =
-    rw (written_out (bytes (goal.at.returns-then-rest-size c).Start c.args.rest.now (omega (arith, sized (goal.at.returns-then-rest-size c).In-Bytes))) (refl, refl)
+    rw (written_out (bytes (goal.at.returns-then-rest-size c).Start) c.args.rest.now (omega (arith, sized (goal.at.returns-then-rest-size c).In-Bytes))) (refl, refl)
 
 pub put_record-requires : goal.put_record-requires
 put_record-requires c = omega (arith, sized (goal.at.put_record-requires c).In-Bytes)
@@ -47,4 +47,4 @@ put_record-requires c = omega (arith, sized (goal.at.put_record-requires c).In-B
 pub returns : goal.returns
 returns c =
     let p = c.put_record in
-    rw (written_in_law (bytes (goal.at.returns c).Start c.args.rest.now (omega (arith, sized (goal.at.returns c).In-Bytes))) (sized (goal.at.returns c).In-Bytes, p.ensures)
+    rw (written_in_law (bytes (goal.at.returns c).Start) c.args.rest.now (omega (arith, sized (goal.at.returns c).In-Bytes))) (sized (goal.at.returns c).In-Bytes, p.ensures)

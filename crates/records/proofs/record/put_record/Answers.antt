@@ -38,32 +38,39 @@ module _ (s : Start) where
 
 -- the start, from after each piece
 abbrev from1 : After-put_length-key_prefix → Start
-from1 c = c.before.before.before.before.before
+from1 c = c.before.before.before.before.before.before
 
 abbrev from2 : After-put_length-value_prefix → Start
-from2 c = from1 c.before.before.before.before
+from2 c = c.before.before.before.before.before.before.before.before.before.before
 
 abbrev from3 : After-put_deadline-header → Start
-from3 c = from2 c.before.before.before.before
+from3 c = c.before.before.before.before.before.before.before.before.before.before.before.before.before.before
 
 abbrev from4 : After-put_bytes-key_end → Start
-from4 c = from3 c.before.before.before.before
+from4 c = c.before.before.before.before.before.before.before.before.before.before.before.before.before.before.before.before.before.before
 
 at0 : (s : Start) → Left s (key_prefix s ++ left1 s) s.args.rest.now 0
 unfolding record_bytes
 at0 s = begin (key_prefix s ++ left1 s) s.args.rest.now s.requires
 
-at1 : (c : After-put_length-key_prefix) → Left c.before.before.before.before.before (left1 c.before.before.before.before.before) c.put_length-key_prefix.new.out c.put_length-key_prefix.result
-at1 c = next (key_prefix c.before.before.before.before.before) (left1 c.before.before.before.before.before) _ _ (at0 c.before.before.before.before.before) refl c.put_length-key_prefix.ensures.0 c.put_length-key_prefix.ensures.1
+-- after each piece, given what held after the one before it
+at1 : (c : After-put_length-key_prefix) → let s = from1 c in Left s (left1 s) c.put_length-key_prefix.new.out c.put_length-key_prefix.result
+at1 c = let s = from1 c in next (key_prefix s) (left1 s) _ _ (at0 s) refl c.put_length-key_prefix.ensures.0 c.put_length-key_prefix.ensures.1
 
-at2 : (c : After-put_length-value_prefix) → Left c.before.before.before.before.before.before.before.before.before (left2 c.before.before.before.before.before.before.before.before.before) c.put_length-value_prefix.new.out c.put_length-value_prefix.result
-at2 c = next (value_prefix c.before.before.before.before.before.before.before.before.before) (left2 c.before.before.before.before.before.before.before.before.before) _ _ (at1 c.before.before.before.before) refl c.put_length-value_prefix.ensures.0 c.put_length-value_prefix.ensures.1
+at2 : (c : After-put_length-value_prefix) → let s = from2 c in
+    Left s (left1 s) c.put_length-key_prefix.new.out c.put_length-key_prefix.result
+    → Left s (left2 s) c.put_length-value_prefix.new.out c.put_length-value_prefix.result
+at2 c h = let s = from2 c in next (value_prefix s) (left2 s) _ _ h refl c.put_length-value_prefix.ensures.0 c.put_length-value_prefix.ensures.1
 
-at3 : (c : After-put_deadline-header) → Left c.before.before.before.before.before.before.before.before.before.before.before.before.before (key c.before.before.before.before.before.before.before.before.before.before.before.before.before ++ value c.before.before.before.before.before.before.before.before.before.before.before.before.before) c.put_deadline-header.new.out c.put_deadline-header.result
-at3 c = next (deadline c.before.before.before.before.before.before.before.before.before.before.before.before.before) (key c.before.before.before.before.before.before.before.before.before.before.before.before.before ++ value c.before.before.before.before.before.before.before.before.before.before.before.before.before) _ _ (at2 c.before.before.before.before) refl c.put_deadline-header.ensures.0 c.put_deadline-header.ensures.1
+at3 : (c : After-put_deadline-header) → let s = from3 c in
+    Left s (left2 s) c.put_length-value_prefix.new.out c.put_length-value_prefix.result
+    → Left s (key s ++ value s) c.put_deadline-header.new.out c.put_deadline-header.result
+at3 c h = let s = from3 c in next (deadline s) (key s ++ value s) _ _ h refl c.put_deadline-header.ensures.0 c.put_deadline-header.ensures.1
 
-at4 : (c : After-put_bytes-key_end) → Left c.before.before.before.before.before.before.before.before.before.before.before.before.before.before.before.before.before (value c.before.before.before.before.before.before.before.before.before.before.before.before.before.before.before.before.before) c.put_bytes-key_end.new.out c.put_bytes-key_end.result
-at4 c = next (key c.before.before.before.before.before.before.before.before.before.before.before.before.before.before.before.before.before) (value c.before.before.before.before.before.before.before.before.before.before.before.before.before.before.before.before.before) _ _ (at3 c.before.before.before.before) refl c.put_bytes-key_end.ensures.0 c.put_bytes-key_end.ensures.1
+at4 : (c : After-put_bytes-key_end) → let s = from4 c in
+    Left s (key s ++ value s) c.put_deadline-header.new.out c.put_deadline-header.result
+    → Left s (value s) c.put_bytes-key_end.new.out c.put_bytes-key_end.result
+at4 c h = let s = from4 c in next (key s) (value s) _ _ h refl c.put_bytes-key_end.ensures.0 c.put_bytes-key_end.ensures.1
 
 pub put_length-key_prefix-requires : goal.put_length-key_prefix-requires
 put_length-key_prefix-requires c = fits (key_prefix (goal.at.put_length-key_prefix-requires c).Start) (left1 (goal.at.put_length-key_prefix-requires c).Start) (at0 (goal.at.put_length-key_prefix-requires c).Start) refl
@@ -72,16 +79,16 @@ pub put_length-value_prefix-requires : goal.put_length-value_prefix-requires
 put_length-value_prefix-requires c = fits (value_prefix (goal.at.put_length-value_prefix-requires c).Start) (left2 (goal.at.put_length-value_prefix-requires c).Start) (at1 (goal.at.put_length-value_prefix-requires c).After-put_length-key_prefix) refl
 
 pub put_deadline-header-requires : goal.put_deadline-header-requires
-put_deadline-header-requires c = fits (deadline (goal.at.put_deadline-header-requires c).Start) (key (goal.at.put_deadline-header-requires c).Start ++ value (goal.at.put_deadline-header-requires c).Start) (at2 (goal.at.put_deadline-header-requires c).After-put_length-value_prefix) refl
+put_deadline-header-requires c = fits (deadline (goal.at.put_deadline-header-requires c).Start) (key (goal.at.put_deadline-header-requires c).Start ++ value (goal.at.put_deadline-header-requires c).Start) (at2 (goal.at.put_deadline-header-requires c).After-put_length-value_prefix (at1 (goal.at.put_deadline-header-requires c).After-put_length-key_prefix)) refl
 
 pub put_bytes-key_end-requires : goal.put_bytes-key_end-requires
-put_bytes-key_end-requires c = fits (key (goal.at.put_bytes-key_end-requires c).Start) (value (goal.at.put_bytes-key_end-requires c).Start) (at3 (goal.at.put_bytes-key_end-requires c).After-put_deadline-header) refl
+put_bytes-key_end-requires c = fits (key (goal.at.put_bytes-key_end-requires c).Start) (value (goal.at.put_bytes-key_end-requires c).Start) (at3 (goal.at.put_bytes-key_end-requires c).After-put_deadline-header (at2 (goal.at.put_bytes-key_end-requires c).After-put_length-value_prefix (at1 (goal.at.put_bytes-key_end-requires c).After-put_length-key_prefix))) refl
 
 pub put_bytes-requires : goal.put_bytes-requires
-put_bytes-requires c = let v = value (goal.at.put_bytes-requires c).Start in fits v [] (at4 (goal.at.put_bytes-requires c).After-put_bytes-key_end) (sym (append-nil v))
+put_bytes-requires c = let v = value (goal.at.put_bytes-requires c).Start in fits v [] (at4 (goal.at.put_bytes-requires c).After-put_bytes-key_end (at3 (goal.at.put_bytes-requires c).After-put_deadline-header (at2 (goal.at.put_bytes-requires c).After-put_length-value_prefix (at1 (goal.at.put_bytes-requires c).After-put_length-key_prefix)))) (sym (append-nil v))
 
 pub returns : goal.returns
 returns c =
     let v = value (goal.at.returns c).Start in
     let p = c.put_bytes in
-    (complete (next v [] _ _ (at4 (goal.at.returns c).After-put_bytes-key_end) (sym (append-nil v)) p.ensures.0 p.ensures.1) refl).1
+    (complete (next v [] _ _ (at4 (goal.at.returns c).After-put_bytes-key_end (at3 (goal.at.returns c).After-put_deadline-header (at2 (goal.at.returns c).After-put_length-value_prefix (at1 (goal.at.returns c).After-put_length-key_prefix)))) (sym (append-nil v)) p.ensures.0 p.ensures.1) refl).1

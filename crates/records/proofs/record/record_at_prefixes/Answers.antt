@@ -15,11 +15,8 @@ key_read : (c : In-Value)
     → let a = c.args in read_varint a.records.now a.location ≡ Value c.in-Value.key_len c.in-Value.key_prefix
 key_read c = sym c.read_varint.ensures ∙ c.in-Value.is
 
-abbrev key_of : In-Value-read_varint → In-Value
-key_of c = c.before.before.before.before.before
-
 value_read : (c : In-Value-read_varint)
-    → let a = (key_of c).args in
+    → let a = c.args in
     read_varint a.records.now c.in-Value.key_prefix ≡ Value c.in-Value-read_varint.value_len c.in-Value-read_varint.cursor
 value_read c = sym c.read_varint-2.ensures ∙ c.in-Value-read_varint.is
 

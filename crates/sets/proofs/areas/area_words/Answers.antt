@@ -20,11 +20,11 @@ yes1 : (c : Else-not-nanoseconds_fit) → Yes 1 c.before.before
 unfolding ask_counts
 yes1 c = rw (said_yes c.nanoseconds_fit.ensures c.if-not-nanoseconds_fit.false)
 
-yes2 : (c : Else-not-occupancy_fits) → Yes 2 c.before.before.before.before
+yes2 : (c : Else-not-occupancy_fits) → Yes 2 (from c)
 unfolding ask_counts
 yes2 c = yes1 c.before.before ∙ rw (said_yes c.occupancy_fits.ensures c.if-not-occupancy_fits.false)
 
-yes3 : (c : Else-not-tick_runs) → Yes 3 c.before.before.before.before.before.before
+yes3 : (c : Else-not-tick_runs) → Yes 3 (from c.before.before)
 unfolding ask_counts
 yes3 c = yes2 c.before.before ∙ rw (said_yes c.tick_runs.ensures c.if-not-tick_runs.false)
 

@@ -23,19 +23,19 @@ yes2 : (c : Else-not-occupancy_fits) → Yes 2 c.before.before.before.before
 unfolding ask_open
 yes2 c = yes1 c.before.before ∙ rw (said_yes c.occupancy_fits.ensures c.if-not-occupancy_fits.false)
 
-yes3 : (c : Else-not-tick_runs) → Yes 3 c.before.before.before.before.before.before
+yes3 : (c : Else-not-tick_runs) → Yes 3 (from c)
 unfolding ask_open
 yes3 c = yes2 c.before.before ∙ rw (said_yes c.tick_runs.ensures c.if-not-tick_runs.false)
 
-yes4 : (c : Else-entry_count-gt-MAX_RECORDS) → Yes 4 c.before.before.before.before.before.before.before
+yes4 : (c : Else-entry_count-gt-MAX_RECORDS) → Yes 4 (from c.before)
 unfolding ask_open
 yes4 c = yes3 c.before ∙ rw (le-leb _ _ c.if-entry_count-gt-MAX_RECORDS.false)
 
-yes5 : (c : Else-not-open_areas_hold) → Yes 5 c.before.before.before.before.before.before.before.before.before
+yes5 : (c : Else-not-open_areas_hold) → Yes 5 (from c.before.before.before)
 unfolding ask_open
 yes5 c = yes4 c.before.before ∙ rw (said_yes c.open_areas_hold.ensures c.if-not-open_areas_hold.false)
 
-yes6 : (c : Else-not-segment_areas_hold) → Yes 6 c.before.before.before.before.before.before.before.before.before.before.before
+yes6 : (c : Else-not-segment_areas_hold) → Yes 6 (from c.before.before.before.before.before)
 unfolding ask_open
 yes6 c = yes5 c.before.before ∙ rw (said_yes c.segment_areas_hold.ensures c.if-not-segment_areas_hold.false)
 

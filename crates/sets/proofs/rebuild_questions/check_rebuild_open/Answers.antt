@@ -33,23 +33,23 @@ segments : (c : After-segment_for) → let a = c.args in
     c.kept_count-retained.result + c.segment_for.result ≡ kept_count a.used_source_segments.now + segment_for a.copied_record_capacity
 segments c = omega (arith, c.kept_count-retained.ensures, c.segment_for.ensures)
 
-yes1 : (c : Else-not-source_holds) → Yes 1 c.before.before.before.before.before
+yes1 : (c : Else-not-source_holds) → Yes 1 (from1 c)
 unfolding ask_rebuild_open
 yes1 c = rw (held c)
 
-yes2 : (c : Else-used_source_segments-source) → Yes 2 c.before.before.before.before.before.before.before
+yes2 : (c : Else-used_source_segments-source) → Yes 2 (from1 c.before.before)
 unfolding ask_rebuild_open
 yes2 c = yes1 c.before.before ∙ rw (eq-eqb _ _ c.if-used_source_segments-source.false)
 
-yes3 : (c : Else-entry_count-gt-MAX_RECORDS) → Yes 3 c.before.before.before.before.before.before.before.before
+yes3 : (c : Else-entry_count-gt-MAX_RECORDS) → Yes 3 (from3 c)
 unfolding ask_rebuild_open
 yes3 c = yes2 c.before ∙ rw (le-leb _ _ c.if-entry_count-gt-MAX_RECORDS.false)
 
-yes4 : (c : Else-retained-segment_for-gt-MAX_RECORD_SEGMENTS) → Yes 4 c.before.before.before.before.before.before.before.before.before.before.before
+yes4 : (c : Else-retained-segment_for-gt-MAX_RECORD_SEGMENTS) → Yes 4 (from3 c.before.before.before)
 unfolding ask_rebuild_open
 yes4 c = yes3 c.before.before.before ∙ rw (← segments c.before, le-leb _ _ c.if-retained-segment_for-gt-MAX_RECORD_SEGMENTS.false)
 
-yes5 : (c : Else-not-open_areas_hold) → Yes 5 c.before.before.before.before.before.before.before.before.before.before.before.before.before.before
+yes5 : (c : Else-not-open_areas_hold) → Yes 5 (from3 c.before.before.before.before.before)
 unfolding ask_rebuild_open
 yes5 c = yes4 c.before.before ∙ rw (said_yes c.open_areas_hold.ensures c.if-not-open_areas_hold.false)
 

@@ -23,15 +23,15 @@ yes2 : (c : Else-not-segment_areas_hold) → Yes 2 c.before.before.before.before
 unfolding ask_finish
 yes2 c = yes1 c.before.before ∙ rw (said_yes c.segment_areas_hold.ensures c.if-not-segment_areas_hold.false)
 
-yes3 : (c : Else-self) → Yes 3 c.before.before.before.before.before.before.before
+yes3 : (c : Else-self) → Yes 3 (from c)
 unfolding ask_finish
 yes3 c = yes2 c.before.before ∙ rw (eq-eqb _ _ c.if-self.false)
 
-yes4 : (c : Else-not-target_fits) → Yes 4 c.before.before.before.before.before.before.before.before.before
+yes4 : (c : Else-not-target_fits) → Yes 4 (from c.before.before)
 unfolding ask_finish
 yes4 c = yes3 c.before.before ∙ rw (said_yes c.target_fits.ensures c.if-not-target_fits.false)
 
-yes5 : (c : Else-not-scratch_holds) → Yes 5 c.before.before.before.before.before.before.before.before.before.before.before.before
+yes5 : (c : Else-not-scratch_holds) → Yes 5 (from c.before.before.before.before)
 unfolding ask_finish
 yes5 c = yes4 c.before.before ∙ rw (said_yes c.scratch_holds.ensures c.if-not-scratch_holds.false)
 

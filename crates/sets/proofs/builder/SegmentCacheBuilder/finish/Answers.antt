@@ -22,10 +22,10 @@ asks s =
     let a = s.args in
     checked a.self a.target a.index.now a.starts.now a.lengths.now a.scratch.now a.arena.now
 
-answered : (c : After-check_finish) → check_number c.check_finish.result ≡ asks c.before.before.before.before.before.before
+answered : (c : After-check_finish) → check_number c.check_finish.result ≡ asks (from c)
 answered c = c.check_finish.ensures
 
-yes : (c : In_default) → asks c.before.before.before.before.before.before.before.before ≡ 0
+yes : (c : In_default) → asks (from c.before.before) ≡ 0
 yes c = sym (answered c.before.before) ∙ ap check_number c.in_default.is
 
 -- what the split left

@@ -27,31 +27,31 @@ from c = c.before.before.before.before.before
 held : (c : Else-not-areas_hold) → let a = c.args in areas_hold_builder a.self (length a.index.now) (length a.arena.now) ≡ true
 held c = said_yes c.areas_hold.ensures c.if-not-areas_hold.false
 
-filled : (c : Else-self) → let a = (from c.args in a.self.filled ≤ length a.arena.now
-filled c = (builder_areas_asked _ _ _ (held c.before.before.before.before.before.before).filled_held
+filled : (c : Else-self) → let a = (from (first c)).args in a.self.filled ≤ length a.arena.now
+filled c = (builder_areas_asked _ _ _ (held (first c))).filled_held
 
-yes1 : (c : Else-not-areas_hold) → Yes 1 c.before.before.before.before.before
+yes1 : (c : Else-not-areas_hold) → Yes 1 (from c)
 unfolding ask_push
 yes1 c = rw (held c)
 
-yes2 : (c : Else-filter_len-self) → Yes 2 c.before.before.before.before.before.before.before
+yes2 : (c : Else-filter_len-self) → Yes 2 (from c.before.before)
 unfolding ask_push
 yes2 c = yes1 c.before.before ∙ rw (le-leb _ _ c.if-filter_len-self.false)
 
-yes3 : (c : Else-not-lifetime_fits) → Yes 3 c.before.before.before.before.before.before.before.before.before
+yes3 : (c : Else-not-lifetime_fits) → Yes 3 (from c.before.before.before.before)
 unfolding ask_push
 yes3 c = yes2 c.before.before ∙ rw (said_yes c.lifetime_fits.ensures c.if-not-lifetime_fits.false)
 
-yes4 : (c : Else-self) → Yes 4 (from c.before.before.before.before.before.before
+yes4 : (c : Else-self) → Yes 4 (from (first c))
 unfolding ask_push
 yes4 c = yes3 c.before.before ∙ rw (lt-ltb _ _ c.if-self.false)
 
 -- the slot that was found, and what the rest of the plan comes to
-found : (c : After-find_build_slot) → let a = (from c.args in
+found : (c : After-find_build_slot) → let a = (from (first c.before.before.before.before)).args in
     push_slot a.self a.hash a.key.now a.index.now a.arena.now ≡ slot_outcome c.find_build_slot.result
 found c = sym c.find_build_slot.ensures
 
-rest : (c : After-plan_record) → let a = (from c.args in
+rest : (c : After-plan_record) → let a = (from (first c.before.before.before.before.before.before.before.before)).args in
     plan_record a.self c.in-Empty.slot (length a.key.now) a.value_bytes a.ttl (length a.arena.now) ≡ planned c.plan_record.result
 rest c = sym c.plan_record.ensures
 

@@ -28,9 +28,10 @@ place s =
     ((push_slot a.self a.hash a.key.now a.index.now a.arena.now).value, (deadline_for a.self.config a.ttl).value)
 
 -- its plan has a place for the record
-placed : (c : In-Place) → (asks c.before.before.before.before.before.before.before.before.before ≡ 0)
-    × ((place c.before.before.before.before.before.before.before.before.before).0 ≡ c.in-Place.slot)
-    × ((place c.before.before.before.before.before.before.before.before.before).1 ≡ c.in-Place.expires_at)
+placed : (c : In-Place) → let s = from c.before.before.before in
+    (asks s ≡ 0)
+    × ((place s).0 ≡ c.in-Place.slot)
+    × ((place s).1 ≡ c.in-Place.expires_at)
 unfolding plan_push
 placed c = planned_two _ _ _ _ _ (sym c.plan_push.ensures ∙ ap planned c.in-Place.is)
 
@@ -45,9 +46,9 @@ push_at-requires c =
     (q.fits, q.areas.arena_short, at, q.announced, omega (arith, n.key_bytes), omega (arith, n.value_bytes))
 
 -- its plan has no place
-refused : (c : In-Refused) → asks c.before.before.before.before.before.before.before.before.before ≡ error_number c.in-Refused.refusal
+refused : (c : In-Refused) → asks (from c.before.before.before) ≡ error_number c.in-Refused.refusal
 unfolding plan_push
-refused c = planned_no _ _ (place c.before.before.before.before.before.before.before.before.before (sym c.plan_push.ensures ∙ ap planned c.in-Refused.is)
+refused c = planned_no _ _ (place (from c.before.before.before)) (sym c.plan_push.ensures ∙ ap planned c.in-Refused.is)
 
 pub returns-in-Refused : goal.returns-in-Refused
 unfolding after_push

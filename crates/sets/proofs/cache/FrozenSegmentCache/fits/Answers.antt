@@ -18,17 +18,17 @@ self c = c.args.self
 counted : (c : Else-not-counts_fit) → let s = self c in counts_fit s.config s.entries s.buckets s.filter_words ≡ true
 counted c = said_yes c.counts_fit.ensures c.if-not-counts_fit.false
 
-few : (c : Else-self-gt-MAX_RECORD_SEGMENTS) → (self c.entries ≤ 1_048_576
-few c = counts_records _ _ _ _ (counted c.before.before.before.before
+few : (c : Else-self-gt-MAX_RECORD_SEGMENTS) → (self (first c)).entries ≤ 1_048_576
+few c = counts_records _ _ _ _ (counted (first c))
 
 -- what is left to ask after the third question, and after the fourth
-yes3 : (c : Else-self-gt-MAX_RECORD_SEGMENTS) → let s = self c.before.before.before.before in
+yes3 : (c : Else-self-gt-MAX_RECORD_SEGMENTS) → let s = self (first c) in
     set_fits s
     ≡ all (bytes_fit s.entries s.logical_key_bytes ∷ bytes_fit s.entries s.logical_value_bytes ∷ bytes_fit s.entries s.record_header_bytes ∷ [])
 unfolding set_fits
-yes3 c = rw (counted c.before.before.before.before, le-leb _ _ c.if-self-lt1.false, le-leb _ _ c.if-self-gt-MAX_RECORD_SEGMENTS.false)
+yes3 c = rw (counted (first c), le-leb _ _ c.if-self-lt1.false, le-leb _ _ c.if-self-gt-MAX_RECORD_SEGMENTS.false)
 
-yes4 : (c : Else-not-bytes_fit) → let s = self c.before.before.before.before.before.before in
+yes4 : (c : Else-not-bytes_fit) → let s = self (first c.before.before) in
     set_fits s ≡ all (bytes_fit s.entries s.logical_value_bytes ∷ bytes_fit s.entries s.record_header_bytes ∷ [])
 yes4 c = yes3 c.before.before ∙ rw (said_yes c.bytes_fit.ensures c.if-not-bytes_fit.false)
 

@@ -30,24 +30,24 @@ from c = c.before.before.before.before.before
 held : (c : Else-not-areas_hold) → let a = c.args in areas_hold_rebuild a.self (length a.index.now) a.starts.now a.lengths.now a.arena_len ≡ true
 held c = said_yes c.areas_hold.ensures c.if-not-areas_hold.false
 
-yes1 : (c : Else-not-areas_hold) → Yes 1 c.before.before.before.before.before
+yes1 : (c : Else-not-areas_hold) → Yes 1 (from c)
 unfolding ask_copied
 yes1 c = rw (held c)
 
-yes2 : (c : Else-filter_len-self) → Yes 2 c.before.before.before.before.before.before.before
+yes2 : (c : Else-filter_len-self) → Yes 2 (from c.before.before)
 unfolding ask_copied
 yes2 c = yes1 c.before.before ∙ rw (le-leb _ _ c.if-filter_len-self.false)
 
-yes3 : (c : Else-not-lifetime_fits) → Yes 3 c.before.before.before.before.before.before.before.before.before
+yes3 : (c : Else-not-lifetime_fits) → Yes 3 (from c.before.before.before.before)
 unfolding ask_copied
 yes3 c = yes2 c.before.before ∙ rw (said_yes c.lifetime_fits.ensures c.if-not-lifetime_fits.false)
 
-yes4 : (c : Else-self) → Yes 4 (from c.before.before.before.before.before.before
+yes4 : (c : Else-self) → Yes 4 (from (first c))
 unfolding ask_copied
 yes4 c = yes3 c.before.before ∙ rw (lt-ltb _ _ c.if-self.false)
 
 -- what the rest of the plan comes to
-rest : (c : After-plan_room) → let a = (from c.args in
+rest : (c : After-plan_room) → let a = (from (first c.before.before.before.before.before.before)).args in
     plan_room a.self c.in-At.expires_at a.hash a.key_bytes a.value_bytes a.index.now a.arena_len ≡ planned c.plan_room.result
 rest c = sym c.plan_room.ensures
 
@@ -76,7 +76,7 @@ returns-in_default c =
     (sym (yes4 (goal.at.returns-in_default c).Else-self ∙ rw none (own_refused told.given.0.0 _ _ _)))
 
 pub plan_room-requires : goal.plan_room-requires
-plan_room-requires c = (rebuild_areas_asked _ _ _ _ _ (held (goal.at.plan_room-requires c).Else-not-areas_hold).filled_held
+plan_room-requires c = (rebuild_areas_asked _ _ _ _ _ (held (goal.at.plan_room-requires c).Else-not-areas_hold)).filled_held
 
 pub returns : goal.returns
 unfolding plan_copied ask_copied plan_room ask_room

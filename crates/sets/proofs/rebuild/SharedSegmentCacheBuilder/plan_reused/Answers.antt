@@ -27,23 +27,23 @@ from c = c.before.before.before.before.before.before.before.before
 held : (c : Else-not-areas_hold) → let a = c.args in areas_hold_rebuild a.self (length a.index.now) a.starts.now a.lengths.now (length a.arena.now) ≡ true
 held c = said_yes c.areas_hold.ensures c.if-not-areas_hold.false
 
-yes1 : (c : Else-not-areas_hold) → Yes 1 c.before.before.before.before.before.before.before.before
+yes1 : (c : Else-not-areas_hold) → Yes 1 (from c)
 unfolding ask_reused
 yes1 c = rw (held c)
 
-yes2 : (c : Else-filter_len-self) → Yes 2 c.before.before.before.before.before.before.before.before.before.before
+yes2 : (c : Else-filter_len-self) → Yes 2 (from c.before.before)
 unfolding ask_reused
 yes2 c = yes1 c.before.before ∙ rw (le-leb _ _ c.if-filter_len-self.false)
 
-yes3 : (c : Else-self) → Yes 3 c.before.before.before.before.before.before.before.before.before.before.before.before
+yes3 : (c : Else-self) → Yes 3 (from c.before.before.before.before)
 unfolding ask_reused
 yes3 c = yes2 c.before.before ∙ rw (lt-ltb _ _ c.if-self.false)
 
-yes4 : (c : Else-not-is_kept) → Yes 4 (from c.before.before.before.before.before.before.before.before
+yes4 : (c : Else-not-is_kept) → Yes 4 (from (first c))
 unfolding ask_reused
 yes4 c = yes3 c.before.before.before.before ∙ rw (said_yes c.is_kept.ensures c.if-not-is_kept.false)
 
-yes5 : (c : Else-not-holds_record) → Yes 5 (from c.before.before.before.before.before.before.before.before.before.before
+yes5 : (c : Else-not-holds_record) → Yes 5 (from (first c.before.before))
 unfolding ask_reused
 yes5 c = yes4 c.before.before ∙ rw (said_yes c.holds_record.ensures c.if-not-holds_record.false)
 
@@ -65,7 +65,7 @@ returns-then-not-is_kept c = sym (yes3 (goal.at.returns-then-not-is_kept c).Else
 
 pub holds_record-requires : goal.holds_record-requires
 holds_record-requires c =
-    let q = rebuild_areas_asked _ _ _ _ _ (held (goal.at.holds_record-requires c).Else-not-areas_hold in
+    let q = rebuild_areas_asked _ _ _ _ _ (held (goal.at.holds_record-requires c).Else-not-areas_hold) in
     (said_yes c.is_kept.ensures c.if-not-is_kept.false, omega (arith, q.filled_held, q.arena_short))
 
 pub returns-then-not-holds_record : goal.returns-then-not-holds_record

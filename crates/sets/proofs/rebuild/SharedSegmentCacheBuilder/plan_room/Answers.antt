@@ -25,11 +25,11 @@ Yes n s =
 abbrev from : Else-not-record_fits → Start
 from c = c.before.before.before.before.before
 
-yes1 : (c : Else-not-record_fits) → Yes 1 c.before.before.before.before.before
+yes1 : (c : Else-not-record_fits) → Yes 1 (from c)
 unfolding ask_room
-yes1 c = rw (asks c.before.before.before.before.before ∙ said_yes c.record_fits.ensures c.if-not-record_fits.false)
+yes1 c = rw (asks (from c) ∙ said_yes c.record_fits.ensures c.if-not-record_fits.false)
 
-yes2 : (c : Else-retained-ge-MAX_RECORD_SEGMENTS) → Yes 2 c.before.before.before.before.before.before.before.before
+yes2 : (c : Else-retained-ge-MAX_RECORD_SEGMENTS) → Yes 2 (from c.before.before.before)
 unfolding ask_room
 yes2 c = yes1 c.before.before.before ∙ rw (← c.retained.ensures, lt-ltb _ _ c.if-retained-ge-MAX_RECORD_SEGMENTS.false)
 

@@ -30,8 +30,9 @@ place s =
     (empty_slot a.index.now a.self.bucket_count a.hash).value
 
 -- its plan has a place for the record
-placed : (c : In-Slot) → (asks c.before.before.before.before.before.before.before.before.before.before.before ≡ 0)
-    × (place c.before.before.before.before.before.before.before.before.before.before.before ≡ c.in-Slot.slot)
+placed : (c : In-Slot) → let s = from c.before.before.before in
+    (asks s ≡ 0)
+    × (place s ≡ c.in-Slot.slot)
 unfolding plan_reused
 placed c = planned_yes _ _ _ (sym c.plan_reused.ensures ∙ ap slot_planned c.in-Slot.is)
 
@@ -48,9 +49,9 @@ reused_at-requires c =
     (q.kept, at, q.announced, omega (arith, n.key_bytes), omega (arith, n.value_bytes), omega (arith, n.header_length))
 
 -- its plan has no place
-refused : (c : In-Refused) → asks c.before.before.before.before.before.before.before.before.before.before.before ≡ error_number c.in-Refused.refusal
+refused : (c : In-Refused) → asks (from c.before.before.before) ≡ error_number c.in-Refused.refusal
 unfolding plan_reused
-refused c = planned_no _ _ (place c.before.before.before.before.before.before.before.before.before.before.before (sym c.plan_reused.ensures ∙ ap slot_planned c.in-Refused.is)
+refused c = planned_no _ _ (place (from c.before.before.before)) (sym c.plan_reused.ensures ∙ ap slot_planned c.in-Refused.is)
 
 pub returns-in-Refused : goal.returns-in-Refused
 unfolding after_reused
