@@ -116,7 +116,8 @@ module _ (area : List ℕ) (count i : ℕ) (starts : StartsIn area count) where
   lengths_next filled h =
       let k : suc i < length ss = omega (arith, long) in
       let j : suc i < count = omega arith in
-      rw (add-one i, drop-cons ss i 0 (omega arith), drop-cons ss (suc i) 0 k, get_or-take count area i 0 (omega arith), get_or-take count area (suc i) 0 j)
+      rw (add-one i, drop-cons ss i 0 (omega arith), drop-cons ss (suc i) 0 k, get_or-take count area i 0 (omega arith))
+      (ap (λ (x : ℕ). (x - get_or area i 0) ∷ lengths_of filled (get_or ss (suc i) 0 ∷ drop (suc (suc i)) ss)) (get_or-take count area (suc i) 0 j))
 
   pub lengths_last : (filled : ℕ) → i + 1 ≡ count → lengths_of filled (drop i ss) ≡ (filled - get_or area i 0) ∷ []
   unfolding lengths_of

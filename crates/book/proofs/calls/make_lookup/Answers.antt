@@ -9,4 +9,4 @@ returns c =
     let a = c.args in
     let areas = areas_of a.index.now a.filter.now a.starts.now a.lengths.now in
     let m = c.get_at_tick in
-    (m.ensures, make_lookup (set_with a.cache areas) a.arena.now a.hash a.key.now a.now_tick m.result m.new.index.1.1.1.0 m.ensures)
+    (m.ensures, make_lookup (set_with a.cache areas) a.arena.now a.hash a.key.now a.now_tick m.result m.new.index m.ensures)

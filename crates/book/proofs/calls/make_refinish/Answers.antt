@@ -9,4 +9,4 @@ returns c =
     let a = c.args in
     let areas = areas_of a.index.now a.filter.now a.starts.now a.lengths.now in
     let m = c.finish in
-    (m.ensures, make_refinish a.builder areas a.arena.now a.scratch.now m.result m.new.starts.0 m.new.starts.1.0 m.new.starts.1.1.0 m.new.starts.1.1.1.0 m.ensures)
+    (m.ensures, make_refinish a.builder areas a.arena.now a.scratch.now m.result m.new.index m.new.starts m.new.lengths m.new.scratch m.ensures)

@@ -9,4 +9,4 @@ returns c =
     let a = c.args in
     let areas = areas_of a.index.now a.filter.now a.starts.now a.lengths.now in
     let m = c.push_reused in
-    (m.ensures, make_reuse a.builder areas a.arena.now a.hash a.key.now a.value.now a.source m.result m.new.value.1.1.1.1.0 m.new.value.1.1.1.1.1.0 m.ensures)
+    (m.ensures, make_reuse a.builder areas a.arena.now a.hash a.key.now a.value.now a.source m.result m.new.index m.new.filter m.ensures)

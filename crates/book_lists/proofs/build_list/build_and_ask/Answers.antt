@@ -14,7 +14,7 @@ returns-in_default c =
     let second = push a.second_key.now a.second_value.now a.second_hash a.second_ttl in
     let calls = push a.key.now a.value.now a.hash a.ttl ∷ second ∷ finish a.target a.scratch.now ∷ asked in
     let m = c.make_open in
-    let areas = areas_of m.new.filter.1.0 m.new.filter.1.1.0 a.starts.now a.lengths.now in
+    let areas = areas_of m.new.index m.new.filter a.starts.now a.lengths.now in
     let w = unopened a.arena.now in
     goes_on calls (open_left w a.arena.now areas) c.in_default.is (m.ensures.1 w)
 
@@ -25,6 +25,6 @@ returns c =
     let second = push a.second_key.now a.second_value.now a.second_hash a.second_ttl in
     let calls = push a.key.now a.value.now a.hash a.ttl ∷ second ∷ finish a.target a.scratch.now ∷ asked in
     let m = c.make_open in
-    let areas = areas_of m.new.filter.1.0 m.new.filter.1.1.0 a.starts.now a.lengths.now in
+    let areas = areas_of m.new.index m.new.filter a.starts.now a.lengths.now in
     let w = unopened a.arena.now in
     rw c.push_twice.ensures (goes_on calls (open_left w a.arena.now areas) c.in-Opened.is (m.ensures.1 w))

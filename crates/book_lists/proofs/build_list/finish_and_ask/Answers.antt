@@ -13,7 +13,7 @@ returns-in_default c =
     let a = c.args in
     let m = c.make_finish in
     let calls = lookup 0 a.asked_key.now a.asked_hash a.now_tick ∷ [] in
-    let areas = areas_of m.new.filter.1.0 a.filter.now m.new.filter.1.1.1.0 m.new.filter.1.1.1.1.0 in
+    let areas = areas_of m.new.index a.filter.now m.new.starts m.new.lengths in
     goes_on calls (finish_left [] [] a.arena.now areas) c.in_default.is (m.ensures.1 [] [])
 
 pub returns : goal.returns
@@ -21,5 +21,5 @@ returns c =
     let a = c.args in
     let m = c.make_finish in
     let calls = lookup 0 a.asked_key.now a.asked_hash a.now_tick ∷ [] in
-    let areas = areas_of m.new.filter.1.0 a.filter.now m.new.filter.1.1.1.0 m.new.filter.1.1.1.1.0 in
+    let areas = areas_of m.new.index a.filter.now m.new.starts m.new.lengths in
     rw (c.ask.ensures idle (set_with c.in-Finished.cache areas ∷ []) [] 0 refl) (goes_on calls (finish_left [] [] a.arena.now areas) c.in-Finished.is (m.ensures.1 [] []))

@@ -11,5 +11,5 @@ returns c =
     let a = c.args in
     let m = c.make_push-pushed in
     let calls = finish a.target a.scratch.now ∷ lookup 0 a.asked_key.now a.asked_hash a.now_tick ∷ [] in
-    let areas = areas_of m.new.value.1.1.1.1.0 m.new.value.1.1.1.1.1.0 a.starts.now a.lengths.now in
-    rw c.finish_and_ask.ensures (push_goes_on calls [] [] m.new.value.1.1.1.1.1.1.1.1.0 areas m.result c.builder_after.ensures (m.ensures.1 [] []))
+    let areas = areas_of m.new.index m.new.filter a.starts.now a.lengths.now in
+    rw c.finish_and_ask.ensures (push_goes_on calls [] [] m.new.arena areas m.result c.builder_after.ensures (m.ensures.1 [] []))

@@ -11,6 +11,6 @@ returns c = λ source.
     let a = c.args in
     let m = c.make_copy-pushed in
     let calls = refinish a.scratch.now ∷ lookup 1 a.asked_key.now a.asked_hash a.now_tick ∷ [] in
-    let areas = areas_of m.new.value.1.1.1.1.0 m.new.value.1.1.1.1.1.0 a.starts.now a.lengths.now in
+    let areas = areas_of m.new.index m.new.filter a.starts.now a.lengths.now in
     rw (c.refinish_and_ask.ensures source)
-    (repush_goes_on calls (source ∷ []) [] m.new.value.1.1.1.1.1.1.1.1.0 areas m.result c.rebuild_after.ensures (m.ensures.1 (source ∷ []) []))
+    (repush_goes_on calls (source ∷ []) [] m.new.arena areas m.result c.rebuild_after.ensures (m.ensures.1 (source ∷ []) []))

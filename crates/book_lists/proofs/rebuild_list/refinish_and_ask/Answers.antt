@@ -13,7 +13,7 @@ returns-in_default c = λ source.
     let a = c.args in
     let m = c.make_refinish in
     let calls = lookup 1 a.asked_key.now a.asked_hash a.now_tick ∷ [] in
-    let areas = areas_of m.new.filter.0 a.filter.now m.new.filter.1.1.0 m.new.filter.1.1.1.0 in
+    let areas = areas_of m.new.index a.filter.now m.new.starts m.new.lengths in
     goes_on calls (refinish_left (source ∷ []) [] a.arena.now areas) c.in_default.is (m.ensures.1 (source ∷ []) [])
 
 pub returns : goal.returns
@@ -21,6 +21,6 @@ returns c = λ source.
     let a = c.args in
     let m = c.make_refinish in
     let calls = lookup 1 a.asked_key.now a.asked_hash a.now_tick ∷ [] in
-    let areas = areas_of m.new.filter.0 a.filter.now m.new.filter.1.1.0 m.new.filter.1.1.1.0 in
+    let areas = areas_of m.new.index a.filter.now m.new.starts m.new.lengths in
     rw (c.ask.ensures idle (source ∷ set_with c.in-Finished.build.cache areas ∷ []) [] 1 refl)
     (goes_on calls (refinish_left (source ∷ []) [] a.arena.now areas) c.in-Finished.is (m.ensures.1 (source ∷ []) []))

@@ -16,7 +16,7 @@ pub returns : goal.returns
 returns c =
     let a = c.args in
     let whole = c.copy_words-2 in
-    stored_behind (setting_before a.config []) a.rest.now a.out.now c.copy_words.new.to whole.new.to 6 refl c.if-out-rest.false
+    stored_behind (setting_before a.config []) a.rest.now a.out.now c.copy_words.new.out whole.new.out 6 refl c.if-out-rest.false
     (rw (← c.expiry_flag-flag.ensures, ← c.tick_secs-secs.ensures, ← c.tick_nanos-nanos.ensures, ← c.flag_of-packed.ensures)
     c.copy_words.ensures)
     whole.ensures

@@ -73,7 +73,7 @@ pub returns-then-not-entry_fits : goal.returns-then-not-entry_fits
 returns-then-not-entry_fits c =
     let told = c.read.given in
     let long : row_fits (row_of c.args.arena.now (record { slot = c.loop-slot.slot; entry = told.0.0 })) ≡ false =
-    sym c.entry_fits.ensures ∙ not-true _ c.if-not-entry_fits.true in
+    sym c.entry_fits.ensures ∙ c.if-not-entry_fits.true in
     sym (count_long c.loop-slot.rows _ _ long) ∙ ap (row_count c.loop-slot.rows) (sym (hit (goal.at.returns-then-not-entry_fits c).After-record_at_location-read told.0.0 told.1)) ∙ c.loop-slot.invariant.0
 
 pub overflow_add-rows : goal.overflow_add-rows
@@ -84,7 +84,7 @@ pub loop-slot-preserved : goal.loop-slot-preserved
 loop-slot-preserved c =
     let told = c.read.given in
     let fits : row_fits (row_of c.args.arena.now (record { slot = c.loop-slot.slot; entry = told.0.0 })) ≡ true =
-    sym c.entry_fits.ensures ∙ not-false _ c.if-not-entry_fits.false in
+    sym c.entry_fits.ensures ∙ c.if-not-entry_fits.false in
     (sym (count_fits c.loop-slot.rows _ _ fits) ∙ ap (row_count c.loop-slot.rows) (sym (hit (goal.at.loop-slot-preserved c).After-record_at_location-read told.0.0 told.1)) ∙ c.loop-slot.invariant.0, omega (arith, c.loop-slot.invariant.1))
 
 pub returns : goal.returns

@@ -52,7 +52,7 @@ loop-i-preserved c =
     let one = one_word a.mask words l.i c.loop-i-test.true in (
       omega arith,
       omega (arith, put.ensures.0, l.invariant.1),
-      next (bytes_of 8 word) (bytes a.mask (drop (l.i + 1) words)) put.new.line put.result l.invariant.2 one
+      next (bytes_of 8 word) (bytes a.mask (drop (l.i + 1) words)) put.new.out put.result l.invariant.2 one
           (omega (arith, put.ensures.0, length_bytes 8 word)) put.ensures.1,
     )
 

@@ -36,7 +36,7 @@ returns c =
     let tail : List ℕ = take (length l - m) (drop m l) in
     let n : m ≡ 8 * a.buckets = omega arith in
     let all : tail ≡ drop (8 * a.buckets) l = take_all (length l - m) (drop m l) (omega (arith, length-drop m l)) ∙ ap (λ (k : ℕ). drop k l) n in
-    index_two a.buckets rest l tail a.index.now u.new.area.1.0 t.new.area.1.0 (omega arith) all u.ensures.0
-    (t.ensures.0 ∙ ap (λ (s : List ℕ). pasted a.buckets s u.new.area.1.0) t.ensures.1)
+    index_two a.buckets rest l tail a.index.now u.new.area t.new.area (omega arith) all u.ensures.0
+    (t.ensures.0 ∙ ap (λ (s : List ℕ). pasted a.buckets s u.new.area) t.ensures.1)
     ∙ ap (λ (p : Bool). over (unmarked_index p a.buckets (words_of (8 * a.buckets) l)) a.index.now)
     (sym (not-false a.packed c.if-not-packed.false))

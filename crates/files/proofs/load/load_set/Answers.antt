@@ -90,8 +90,8 @@ put_bytes-requires c =
 pub returns : goal.returns
 returns c =
     let a = c.args in
-    load_done a.file.now a.index.now a.filter.now a.starts.now a.lengths.now a.arena.now a.set c.load_index.new.index.1.1.0
-    c.load_filter.new.filter.1.0 c.load_starts.new.starts.0 c.load_lengths.new.lengths.0 c.put_bytes.new.out c.requires.1 (held (goal.at.returns c).Else-not-lookup_areas_hold) c.requires.0
+    load_done a.file.now a.index.now a.filter.now a.starts.now a.lengths.now a.arena.now a.set c.load_index.new.index
+    c.load_filter.new.filter c.load_starts.new.starts c.load_lengths.new.lengths c.put_bytes.new.out c.requires.1 (held (goal.at.returns c).Else-not-lookup_areas_hold) c.requires.0
     (c.load_index.ensures
     ∙ ap₂ (λ (s : FrozenSegmentCache) (l : List ℕ). over (unmarked_index s.config.packed_bucket_index s.buckets (words_of (8 * s.buckets) l)) a.index.now) c.requires.0
     c.content_of.ensures)

@@ -23,7 +23,7 @@ returns c =
     let lent : length (take k (drop a.at area)) ≡ a.words = length-take-le k (drop a.at area) (omega (arith, length-drop a.at area)) ∙ n in
     let long : length (map (masked_by a.mask) (words_of a.words bytes)) ≡ k =
     length-map (words_of a.words bytes) (masked_by a.mask) ∙ words_of_length a.words bytes ∙ sym n in (
-      words_home area t.new.words.1.0 a.at k (map (masked_by a.mask) (words_of a.words bytes)) long
+      words_home area t.new.words a.at k (map (masked_by a.mask) (words_of a.words bytes)) long
           (t.ensures.0 ∙ ap (λ (m : ℕ). map (masked_by a.mask) (words_of m bytes)) lent),
       subst (λ (m : ℕ). map (masked_by (2 ^ 64 - 1)) (words_of m bytes) ≡ words_of m bytes) lent t.ensures.1,
     )

@@ -35,7 +35,7 @@ loop-i-preserved c =
     let put = c.put_number-end in
     let one = one_number a.widths.now a.numbers.now l.i (omega arith) (omega arith) in (
       omega arith,
-      next (bytes_of w n) (bytes_for (drop (l.i + 1) a.widths.now) (drop (l.i + 1) a.numbers.now)) put.new.line put.result l.invariant.1 one
+      next (bytes_of w n) (bytes_for (drop (l.i + 1) a.widths.now) (drop (l.i + 1) a.numbers.now)) put.new.out put.result l.invariant.1 one
           (omega (arith, put.ensures.0, length_bytes w n)) put.ensures.1,
     )
 

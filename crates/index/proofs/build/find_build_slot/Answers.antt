@@ -39,7 +39,7 @@ returns-in_default c =
     let a = c.args in
     let t = holds_key (build_record a.expiry a.records.now) a.key.now c.hash_tag-tag.result in
     let r = c.build_slot_in_bucket-found.result in
-    let other : r ≡ Full → ⊥ = λ (f : r ≡ Full). ⊎_elim (λ p. omega arith) (λ p. omega arith) (rw f at c.match.keys2) in
+    let other : r ≡ Full → ⊥ = c.in_default.not-Full in
     let found = buckets_found_law t a.index.now a.buckets c.loop-left.left c.loop-left.bucket c.loop-left-test.true (λ f. other (sym (said (goal.at.returns-in_default c).After-build_slot_in_bucket-found) ∙ f)) in
     rw (c.loop-left.invariant.2, found, said (goal.at.returns-in_default c).After-build_slot_in_bucket-found)
 

@@ -23,7 +23,7 @@ returns-in_default c =
     let a = c.args in
     let r = c.empty_slot_in_bucket-found.result in
     let e = c.empty_slot_in_bucket-found.ensures in
-    let other : r ≡ Full → ⊥ = λ (f : r ≡ Full). ⊎_elim (λ p. omega arith) (λ p. omega arith) (rw f at c.match.keys2) in
+    let other : r ≡ Full → ⊥ = c.in_default.not-Full in
     ap slot_outcome
     (e
     ∙ sym (buckets_found_law never a.index.now a.buckets c.loop-left.left c.loop-left.bucket

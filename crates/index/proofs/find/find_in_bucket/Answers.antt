@@ -1,5 +1,5 @@
 -- `find_in_bucket` meets its contract: the candidates left say what the bucket's slots say. Assumes nothing.
-use Rattle.std.proofs.Common.{◌≡◌, ℕ, ◌+◌, ◌*◌, ◌<◌, cond, sym, ◌∙◌, ⊎_elim, arith, rules}
+use Rattle.std.proofs.Common.{◌≡◌, ℕ, ◌+◌, ◌*◌, ◌<◌, cond, sym, refl, ◌∙◌, ⊎_elim, arith, rules}
 use Rattle.hash_parts.specs.ZeroBytes.{lowest_set}
 use Rattle.records.specs.declared.record.RecordAnswer.{RecordAnswer}
 use Rattle.index.specs.Find.{in_bucket}
@@ -8,11 +8,7 @@ use Rattle.index.specs.declared.find.FindStep.{FindStep}
 use Rattle.index.specs.declared.find.FindStep.TheVariants.{Stop, Next}
 use Rattle.index.proofs.Sweeps.{Visiting, says, searched, slots, visiting_begins, visiting_below, visiting_less, visiting_hit, visiting_on, visiting_ends, bucket_step, bucket_ends}
 use Rattle.index.proofs.find.find_in_bucket.Goals as goal
-use Rattle.index.proofs.find.find_in_bucket.Goals.{After-find_in_slot-step, After-has_empty, At-loop-candidates, Start}
-
--- ---- what is known in the loop
-abbrev start : At-loop-candidates → Start
-start l = l.before.before.before.before.before.before.before.before
+use Rattle.index.proofs.find.find_in_bucket.Goals.{After-find_in_slot-step, After-has_empty, Start}
 
 abbrev reads : Start → ℕ → RecordAnswer
 reads s =
@@ -30,14 +26,6 @@ bucket_says s =
     let a = s.args in
     searched (reads s) a.arena.now a.key.now a.packed a.tag a.buckets a.index.now a.bucket
 
--- what the slot of the lowest mark says
-said : (c : After-find_in_slot-step) → let l = c.before.before.before.before in c.find_in_slot-step.result ≡ slot_says (start l) (lowest_set l.loop-candidates.candidates)
-said c =
-    let l = c.before.before.before.before in
-    let a = (start l).args in
-    let s : a.bucket * 8 + c.before.before.lowest_marked_byte-offset.result ≡ 8 * a.bucket + c.before.before.lowest_marked_byte-offset.result = omega arith in
-    rw (← c.before.before.lowest_marked_byte-offset.ensures.0, ← s, ← c.before.bucket_slot.ensures, ← l.before.before.kept_tag-kept.ensures) c.find_in_slot-step.ensures
-
 pub loop-candidates-init : goal.loop-candidates-init
 loop-candidates-init c =
     let a = c.args in
@@ -45,55 +33,62 @@ loop-candidates-init c =
 
 pub bucket_slot-requires : goal.bucket_slot-requires
 bucket_slot-requires c =
-    let s = start (goal.at.bucket_slot-requires c).At-loop-candidates in
+    let s = (goal.at.bucket_slot-requires c).Start in
     let some : 0 < c.loop-candidates.candidates = omega arith in
-    (s.pre.0, s.pre.1, omega (arith, c.lowest_marked_byte-offset.ensures.0, visiting_below (bucket_says s) (slot_says s) c.loop-candidates.invariant some))
+    (c.requires.0, c.requires.1, omega (arith, c.lowest_marked_byte-offset.ensures.0, visiting_below (bucket_says s) (slot_says s) c.loop-candidates.invariant some))
+
+-- the start, from where a slot was looked at and from behind the last mark
+abbrev looked_from : After-find_in_slot-step → Start
+looked_from c = c.before.before.before.before.before.before.before.before.before.before.before.before.before
+
+abbrev ended_from : After-has_empty → Start
+ended_from c = c.before.before.before.before.before.before.before.before.before.before.before
+
+-- what the slot of the lowest mark says
+said : (c : After-find_in_slot-step) → c.find_in_slot-step.result ≡ slot_says (looked_from c) (lowest_set c.loop-candidates.candidates)
+said c =
+    let a = c.args in
+    let at : a.bucket * 8 + c.lowest_marked_byte-offset.result ≡ 8 * a.bucket + c.lowest_marked_byte-offset.result = omega arith in
+    rw (← c.lowest_marked_byte-offset.ensures.0, ← at, ← c.bucket_slot.ensures, ← c.kept_tag-kept.ensures) c.find_in_slot-step.ensures
 
 pub returns-in_default : goal.returns-in_default
 returns-in_default c =
-    let s = start (goal.at.returns-in_default c).At-loop-candidates in
-    let a = s.args in
+    let s = (goal.at.returns-in_default c).Start in
+    let a = c.args in
     let some : 0 < c.loop-candidates.candidates = omega arith in
     let r = c.find_in_slot-step.result in
     let e = said (goal.at.returns-in_default c).After-find_in_slot-step in
-    let n : r ≡ Next → ⊥ = λ (f : r ≡ Next). ⊎_elim (λ p. omega arith) (λ p. omega arith) (rw f at c.match.keys2) in
+    let n = c.in_default.not-Next in
     let hit : bucket_says s ≡ r = rw e (visiting_hit (bucket_says s) (slot_says s) c.loop-candidates.invariant some (λ f. n (e ∙ f))) in
     bucket_step (reads s) a.arena.now a.key.now a.packed a.tag a.buckets a.index.now a.bucket r hit n
 
 pub loop-candidates-smaller : goal.loop-candidates-smaller
 loop-candidates-smaller c =
+    let s = (goal.at.loop-candidates-smaller c).Start in
     let some : 0 < c.loop-candidates.candidates = omega arith in
-    omega (arith, c.without_lowest_mark-candidates.ensures, visiting_less (bucket_says (start (goal.at.loop-candidates-smaller c).At-loop-candidates)) (slot_says (start (goal.at.loop-candidates-smaller c).At-loop-candidates)) c.loop-candidates.invariant some)
+    omega (arith, c.without_lowest_mark-candidates.ensures, visiting_less (bucket_says s) (slot_says s) c.loop-candidates.invariant some)
 
 pub loop-candidates-preserved : goal.loop-candidates-preserved
 loop-candidates-preserved c =
+    let s = (goal.at.loop-candidates-preserved c).Start in
     let some : 0 < c.loop-candidates.candidates = omega arith in
     rw c.without_lowest_mark-candidates.ensures
-    (visiting_on (bucket_says (start (goal.at.loop-candidates-preserved c).At-loop-candidates)) (slot_says (start (goal.at.loop-candidates-preserved c).At-loop-candidates)) c.loop-candidates.invariant some (sym (said (goal.at.loop-candidates-preserved c).After-find_in_slot-step) ∙ c.in-Next.is))
+    (visiting_on (bucket_says s) (slot_says s) c.loop-candidates.invariant some
+    (sym (said (goal.at.loop-candidates-preserved c).After-find_in_slot-step) ∙ c.in-Next.is))
 
 -- where no mark is left, an empty slot ends the walk
-ended : (c : After-has_empty) → let a = (start c.before.before).args in
-    cond c.has_empty.result Stop Next ≡ in_bucket a.packed (slots (reads (start c.before.before)) a.arena.now a.key.now a.packed a.tag a.buckets a.index.now a.bucket)
-ended c =
-    let s = start c.before.before in
-    let a = s.args in
+ended : (c : After-has_empty) → let a = c.args in
+    let s = ended_from c in
+    Visiting (bucket_says s) (slot_says s) c.loop-candidates.candidates
+    → cond c.has_empty.result Stop Next ≡ in_bucket a.packed (slots (reads s) a.arena.now a.key.now a.packed a.tag a.buckets a.index.now a.bucket)
+ended c v =
+    let a = c.args in
+    let s = ended_from c in
     bucket_ends (reads s) a.arena.now a.key.now a.packed a.tag a.buckets a.index.now a.bucket c.has_empty.result
-    c.has_empty.ensures (visiting_ends (bucket_says s) (slot_says s) c.before.before.loop-candidates.invariant c.before.loop-candidates-test.false)
+    c.has_empty.ensures (visiting_ends (bucket_says s) (slot_says s) v c.loop-candidates-test.false)
 
 pub returns-then-has_empty : goal.returns-then-has_empty
-returns-then-has_empty c = rw c.if-has_empty.true at (ended (goal.at.returns-then-has_empty c).After-has_empty)
+returns-then-has_empty c = rw c.if-has_empty.true at (ended (goal.at.returns-then-has_empty c).After-has_empty c.loop-candidates.invariant)
 
 pub returns : goal.returns
-returns c = rw c.if-has_empty.false at (ended (goal.at.returns c).After-has_empty)
-
-pub kept_tag-kept-requires : goal.kept_tag-kept-requires
-kept_tag-kept-requires c = tt
-
-pub lowest_marked_byte-offset-requires : goal.lowest_marked_byte-offset-requires
-lowest_marked_byte-offset-requires c = tt
-
-pub find_in_slot-step-requires : goal.find_in_slot-step-requires
-find_in_slot-step-requires c = tt
-
-pub without_lowest_mark-candidates-requires : goal.without_lowest_mark-candidates-requires
-without_lowest_mark-candidates-requires c = tt
+returns c = rw c.if-has_empty.false at (ended (goal.at.returns c).After-has_empty c.loop-candidates.invariant)

@@ -1,6 +1,5 @@
 -- `locations_inside` meets its contract: all words are inside exactly where those left are. Assumes nothing.
 use Rattle.std.proofs.Common.{◌≡◌, ◌-◌, ◌*◌, ◌≤◌, length, take, drop, sym, refl, ap, ◌∙◌, arith, length-take-le, get_or-take}
-use borrow.Author.Tests.{not-true, not-false}
 use Rattle.index.specs.Segments.{inside, all_inside}
 use Rattle.index.proofs.Starts.{inside_next, inside_not, inside_end, locations_in, locations_short}
 use Rattle.index.proofs.segments.locations_inside.Goals as goal
@@ -21,7 +20,7 @@ returns-then-not-location_inside c =
     let i = c.loop-i.i in
     let asked = c.location_inside in
     let word = get_or-take (8 * a.buckets) a.index.now i 0 (omega arith) in
-    let e = ap (inside a.filled) word ∙ sym asked.ensures ∙ not-true asked.result c.if-not-location_inside.true in
+    let e = ap (inside a.filled) word ∙ sym asked.ensures ∙ c.if-not-location_inside.true in
     sym (inside_not a.filled words i (omega arith) e)
     ∙ c.loop-i.invariant.1
     ∙ sym (locations_in a.filled a.index.now a.buckets (omega arith))
@@ -34,7 +33,7 @@ loop-i-preserved c =
     let i = c.loop-i.i in
     let asked = c.location_inside in
     let word = get_or-take (8 * a.buckets) a.index.now i 0 (omega arith) in
-    let e = ap (inside a.filled) word ∙ sym asked.ensures ∙ not-false asked.result c.if-not-location_inside.false in
+    let e = ap (inside a.filled) word ∙ sym asked.ensures ∙ c.if-not-location_inside.false in
     (omega arith, sym (inside_next a.filled words i (omega arith) e) ∙ c.loop-i.invariant.1)
 
 pub returns : goal.returns

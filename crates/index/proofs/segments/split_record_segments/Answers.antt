@@ -25,7 +25,7 @@ returns-then-count-gt-MAX_RECORD_SEGMENTS c =
     let w = c.write_starts-count in
     split_refused a.index.now a.buckets a.filled a.target a.starts.now a.lengths.now
     c.if-index-buckets.false c.if-starts-lt-MAX_RECORD_SEGMENTS.false c.if-lengths-lt-MAX_RECORD_SEGMENTS.false
-    w.result w.new.starts.1.1.1.0 w.ensures.0 w.ensures.1
+    w.result w.new.starts w.ensures.0 w.ensures.1
     c.if-count-gt-MAX_RECORD_SEGMENTS.true
 
 pub write_lengths-requires : goal.write_lengths-requires
@@ -36,7 +36,7 @@ write_lengths-requires c =
     let starts =
     starts_written_law a.index.now a.buckets a.filled a.target a.starts.now a.lengths.now
     c.if-index-buckets.false c.if-starts-lt-MAX_RECORD_SEGMENTS.false c.if-lengths-lt-MAX_RECORD_SEGMENTS.false
-    w.result w.new.starts.1.1.1.0 w.ensures.0 w.ensures.1
+    w.result w.new.starts w.ensures.0 w.ensures.1
     few in
     (starts, few, c.if-lengths-lt-MAX_RECORD_SEGMENTS.false)
 
@@ -46,8 +46,8 @@ returns-then-filled-target c =
     let w = c.write_starts-count in
     split_whole a.index.now a.buckets a.filled a.target a.starts.now a.lengths.now
     c.if-index-buckets.false c.if-starts-lt-MAX_RECORD_SEGMENTS.false c.if-lengths-lt-MAX_RECORD_SEGMENTS.false
-    w.result w.new.starts.1.1.1.0 w.ensures.0 w.ensures.1
-    c.if-count-gt-MAX_RECORD_SEGMENTS.false c.write_lengths.new.lengths.1.1.0 c.write_lengths.ensures
+    w.result w.new.starts w.ensures.0 w.ensures.1
+    c.if-count-gt-MAX_RECORD_SEGMENTS.false c.write_lengths.new.lengths c.write_lengths.ensures
     c.if-filled-target.true
 
 pub split_words-requires : goal.split_words-requires
@@ -58,7 +58,7 @@ split_words-requires c =
     let starts =
     starts_written_law a.index.now a.buckets a.filled a.target a.starts.now a.lengths.now
     c.if-index-buckets.false c.if-starts-lt-MAX_RECORD_SEGMENTS.false c.if-lengths-lt-MAX_RECORD_SEGMENTS.false
-    w.result w.new.starts.1.1.1.0 w.ensures.0 w.ensures.1
+    w.result w.new.starts w.ensures.0 w.ensures.1
     few in
     (omega (arith, c.if-index-buckets.false), starts, few)
 
@@ -69,6 +69,6 @@ returns c =
     let s = c.split_words in
     split_parts a.index.now a.buckets a.filled a.target a.starts.now a.lengths.now
     c.if-index-buckets.false c.if-starts-lt-MAX_RECORD_SEGMENTS.false c.if-lengths-lt-MAX_RECORD_SEGMENTS.false
-    w.result w.new.starts.1.1.1.0 w.ensures.0 w.ensures.1
-    c.if-count-gt-MAX_RECORD_SEGMENTS.false c.write_lengths.new.lengths.1.1.0 c.write_lengths.ensures
+    w.result w.new.starts w.ensures.0 w.ensures.1
+    c.if-count-gt-MAX_RECORD_SEGMENTS.false c.write_lengths.new.lengths c.write_lengths.ensures
     c.if-filled-target.false s.new.index s.ensures

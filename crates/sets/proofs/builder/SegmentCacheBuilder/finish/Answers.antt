@@ -30,7 +30,7 @@ yes c = sym (answered c.before.before) ∙ ap check_number c.in_default.is
 
 -- what the split left
 splits : (c : After-split_record_segments) → let a = c.args in let w = c.split_record_segments in
-    split_result w.result w.new.index w.new.starts.1.1.1.0 w.new.starts.1.1.1.1.0
+    split_result w.result w.new.index w.new.starts w.new.lengths
     ≡ split a.index.now a.self.bucket_count a.self.filled a.target a.starts.now a.lengths.now
 splits c = c.split_record_segments.ensures
 
