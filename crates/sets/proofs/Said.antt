@@ -1,13 +1,12 @@
 -- Questions asked in order: what a call that was asked said, in the terms of its contract, and what is left after some yes. Assumes nothing.
-use Rattle.std.proofs.Common.{◌≡◌, ℕ, Bool, true, false, not, List, drop, sym, ◌∙◌}
-use borrow.Author.Tests.{not-true, not-false}
+use Rattle.std.proofs.Common.{◌≡◌, ℕ, Bool, true, false, List, drop, sym, ◌∙◌}
 
--- `!asked` was taken, or it was not
-pub said_no : {answer meaning : Bool} → answer ≡ meaning → not answer ≡ true → meaning ≡ false
-said_no {answer} ensures taken = sym ensures ∙ not-true answer taken
+-- `!asked` was taken, since the answer was no, or it was not
+pub said_no : {answer meaning : Bool} → answer ≡ meaning → answer ≡ false → meaning ≡ false
+said_no ensures taken = sym ensures ∙ taken
 
-pub said_yes : {answer meaning : Bool} → answer ≡ meaning → not answer ≡ false → meaning ≡ true
-said_yes {answer} ensures left = sym ensures ∙ not-false answer left
+pub said_yes : {answer meaning : Bool} → answer ≡ meaning → answer ≡ true → meaning ≡ true
+said_yes ensures left = sym ensures ∙ left
 
 -- what questions come to, where the first n are answered yes, is what those after them come to
 abbrev pub Past : {Q A : Type 0} → (List Q → A) → ℕ → List Q → Type 0

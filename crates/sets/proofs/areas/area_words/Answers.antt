@@ -9,24 +9,35 @@ use Rattle.sets.proofs.Counts.{both}
 use Rattle.sets.proofs.areas.area_words.Goals as goal
 use Rattle.sets.proofs.areas.area_words.Goals.{Else-not-nanoseconds_fit, Else-not-occupancy_fits, Else-not-tick_runs, Start}
 
+-- the start of the call
+abbrev from_else_not_nanoseconds_fit : Else-not-nanoseconds_fit → Start
+from_else_not_nanoseconds_fit c = c.before.before
+
+abbrev from_else_not_occupancy_fits : Else-not-occupancy_fits → Start
+from_else_not_occupancy_fits c = c.before.before.before.before
+
+abbrev from_else_not_tick_runs : Else-not-tick_runs → Start
+from_else_not_tick_runs c = c.before.before.before.before.before.before
+
 -- the first n questions are answered yes
 abbrev Yes : ℕ → Start → Type 0
 Yes n s = let a = s.args in Past (plan (words_needed a.config a.entry_count)) n (ask_counts a.config a.entry_count)
 
-abbrev from : Else-not-occupancy_fits → Start
-from c = c.before.before.before.before
-
-yes1 : (c : Else-not-nanoseconds_fit) → Yes 1 c.before.before
+yes1 : (c : Else-not-nanoseconds_fit) → Yes 1 (from_else_not_nanoseconds_fit c)
 unfolding ask_counts
 yes1 c = rw (said_yes c.nanoseconds_fit.ensures c.if-not-nanoseconds_fit.false)
 
-yes2 : (c : Else-not-occupancy_fits) → Yes 2 (from c)
+yes2 : (c : Else-not-occupancy_fits)
+    → (Yes 1 (from_else_not_occupancy_fits c))
+    → Yes 2 (from_else_not_occupancy_fits c)
 unfolding ask_counts
-yes2 c = yes1 c.before.before ∙ rw (said_yes c.occupancy_fits.ensures c.if-not-occupancy_fits.false)
+yes2 c h_yes1 = h_yes1 ∙ rw (said_yes c.occupancy_fits.ensures c.if-not-occupancy_fits.false)
 
-yes3 : (c : Else-not-tick_runs) → Yes 3 (from c.before.before)
+yes3 : (c : Else-not-tick_runs)
+    → (Yes 2 (from_else_not_tick_runs c))
+    → Yes 3 (from_else_not_tick_runs c)
 unfolding ask_counts
-yes3 c = yes2 c.before.before ∙ rw (said_yes c.tick_runs.ensures c.if-not-tick_runs.false)
+yes3 c h_yes2 = h_yes2 ∙ rw (said_yes c.tick_runs.ensures c.if-not-tick_runs.false)
 
 pub returns-then-not-nanoseconds_fit : goal.returns-then-not-nanoseconds_fit
 unfolding area_words_for ask_counts
@@ -34,15 +45,15 @@ returns-then-not-nanoseconds_fit c = rw (said_no c.nanoseconds_fit.ensures c.if-
 
 pub returns-then-not-occupancy_fits : goal.returns-then-not-occupancy_fits
 unfolding area_words_for ask_counts
-returns-then-not-occupancy_fits c = sym (yes1 (goal.at.returns-then-not-occupancy_fits c).Else-not-nanoseconds_fit ∙ rw (said_no c.occupancy_fits.ensures c.if-not-occupancy_fits.true))
+returns-then-not-occupancy_fits c = sym ((yes1 (goal.at.returns-then-not-occupancy_fits c).Else-not-nanoseconds_fit) ∙ rw (said_no c.occupancy_fits.ensures c.if-not-occupancy_fits.true))
 
 pub returns-then-not-tick_runs : goal.returns-then-not-tick_runs
 unfolding area_words_for ask_counts
-returns-then-not-tick_runs c = sym (yes2 (goal.at.returns-then-not-tick_runs c).Else-not-occupancy_fits ∙ rw (said_no c.tick_runs.ensures c.if-not-tick_runs.true))
+returns-then-not-tick_runs c = sym ((yes2 (goal.at.returns-then-not-tick_runs c).Else-not-occupancy_fits (yes1 (goal.at.returns-then-not-tick_runs c).Else-not-nanoseconds_fit)) ∙ rw (said_no c.tick_runs.ensures c.if-not-tick_runs.true))
 
 pub returns-then-entry_count-gt-MAX_RECORDS : goal.returns-then-entry_count-gt-MAX_RECORDS
 unfolding area_words_for ask_counts
-returns-then-entry_count-gt-MAX_RECORDS c = sym (yes3 (goal.at.returns-then-entry_count-gt-MAX_RECORDS c).Else-not-tick_runs ∙ rw (lt-leb _ _ c.if-entry_count-gt-MAX_RECORDS.true))
+returns-then-entry_count-gt-MAX_RECORDS c = sym ((yes3 (goal.at.returns-then-entry_count-gt-MAX_RECORDS c).Else-not-tick_runs (yes2 (goal.at.returns-then-entry_count-gt-MAX_RECORDS c).Else-not-occupancy_fits (yes1 (goal.at.returns-then-entry_count-gt-MAX_RECORDS c).Else-not-nanoseconds_fit))) ∙ rw (lt-leb _ _ c.if-entry_count-gt-MAX_RECORDS.true))
 
 pub words_needed-requires : goal.words_needed-requires
 unfolding occupancy_fits
@@ -53,4 +64,4 @@ words_needed-requires c =
 pub returns : goal.returns
 unfolding area_words_for ask_counts
 returns c =
-    sym (yes3 (goal.at.returns c).Else-not-tick_runs ∙ rw (le-leb _ _ c.if-entry_count-gt-MAX_RECORDS.false, ← c.words_needed.ensures))
+    sym ((yes3 (goal.at.returns c).Else-not-tick_runs (yes2 (goal.at.returns c).Else-not-occupancy_fits (yes1 (goal.at.returns c).Else-not-nanoseconds_fit))) ∙ rw (le-leb _ _ c.if-entry_count-gt-MAX_RECORDS.false, ← c.words_needed.ensures))

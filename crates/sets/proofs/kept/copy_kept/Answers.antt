@@ -24,7 +24,7 @@ offset_bounds-words-i c = omega (arith, c.well_formed.1.0.1)
 pub bounds-area-kept : goal.bounds-area-kept
 bounds-area-kept c =
     let a = c.args in
-    space a.flags.now a.words.now a.area.now c.loop-next.area c.loop-next.next c.loop-next.auto (omega arith) (omega arith) c.if-flags-i-ne0.true c.loop-next.invariant
+    space a.flags.now a.words.now a.area.now c.loop-next.area c.loop-next.next c.loop-next.kept (omega arith) (omega arith) c.if-flags-i-ne0.true c.loop-next.invariant
 
 pub offset_bounds-area-kept : goal.offset_bounds-area-kept
 offset_bounds-area-kept c =
@@ -47,7 +47,7 @@ loop-next-preserved c =
     let flags : List ℕ = c.args.flags.now in
     let words : List ℕ = c.args.words.now in
     let i = c.loop-next.next in
-    subst (λ (l : List ℕ). Writing (chosen flags words) l c.args.area.now c.loop-next.area c.loop-next.auto)
+    subst (λ (l : List ℕ). Writing (chosen flags words) l c.args.area.now c.loop-next.area c.loop-next.kept)
     (chosen_dropped flags words i (omega arith) (omega arith) c.if-flags-i-ne0.false)
     c.loop-next.invariant
 

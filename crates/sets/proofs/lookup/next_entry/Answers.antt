@@ -8,12 +8,13 @@ use Rattle.sets.proofs.lookup.next_entry.Goals as goal
 use Rattle.sets.proofs.lookup.next_entry.Goals.{After-entry_at-read, At-loop-slot}
 
 -- what stands in each slot
-abbrev reads : At-loop-slot → ℕ → RecordAnswer
+abbrev reads : (l : At-loop-slot) → ℕ → RecordAnswer
 reads l =
-    let a = l.before.before.before.before.before.args in
+    let a = l.args in
     entry_at (record_in a.view a.arena.now a.starts.now a.lengths.now) a.packed a.buckets a.index.now
 
-was_read : (c : After-entry_at-read) → reads c.before.before c.before.before.loop-slot.slot ≡ c.entry_at-read.result
+was_read : (c : After-entry_at-read) → (let a = c.args in
+    entry_at (record_in a.view a.arena.now a.starts.now a.lengths.now) a.packed a.buckets a.index.now) c.loop-slot.slot ≡ c.entry_at-read.result
 was_read c = sym c.entry_at-read.ensures
 
 pub loop-slot-init : goal.loop-slot-init
@@ -22,15 +23,14 @@ loop-slot-init c = refl
 
 pub returns-in-Read : goal.returns-in-Read
 returns-in-Read c =
-    let told = c.read.given in
-    sym (entry_hit (reads (goal.at.returns-in-Read c).At-loop-slot) _ c.loop-slot.slot told.0.0 (omega (arith, c.loop-slot-test.true)) (was_read (goal.at.returns-in-Read c).After-entry_at-read ∙ told.1)) ∙ c.loop-slot.invariant
+    sym (entry_hit (reads (goal.at.returns-in-Read c).At-loop-slot) _ c.loop-slot.slot c.in-Read.entry (omega (arith, c.loop-slot-test.true)) ((was_read (goal.at.returns-in-Read c).After-entry_at-read) ∙ c.in-Read.is)) ∙ c.loop-slot.invariant
 
 pub loop-slot-smaller : goal.loop-slot-smaller
 loop-slot-smaller c = omega (arith, c.loop-slot-test.true)
 
 pub loop-slot-preserved : goal.loop-slot-preserved
 loop-slot-preserved c =
-    entry_miss (reads (goal.at.loop-slot-preserved c).At-loop-slot) _ c.loop-slot.slot (omega (arith, c.loop-slot-test.true)) (was_read (goal.at.loop-slot-preserved c).After-entry_at-read ∙ c.in_default.is) ∙ c.loop-slot.invariant
+    entry_miss (reads (goal.at.loop-slot-preserved c).At-loop-slot) _ c.loop-slot.slot (omega (arith, c.loop-slot-test.true)) ((was_read (goal.at.loop-slot-preserved c).After-entry_at-read) ∙ c.in_default.is) ∙ c.loop-slot.invariant
 
 pub returns : goal.returns
 returns c = sym (entry_none (reads (goal.at.returns c).At-loop-slot) _ c.loop-slot.slot (omega (arith, c.loop-slot-test.false))) ∙ c.loop-slot.invariant

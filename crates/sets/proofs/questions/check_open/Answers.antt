@@ -6,38 +6,64 @@ use Rattle.sets.proofs.Said.{Past, said_no, said_yes}
 use Rattle.sets.proofs.questions.check_open.Goals as goal
 use Rattle.sets.proofs.questions.check_open.Goals.{Else-entry_count-gt-MAX_RECORDS, Else-not-nanoseconds_fit, Else-not-occupancy_fits, Else-not-open_areas_hold, Else-not-segment_areas_hold, Else-not-tick_runs, Start}
 
+-- the start of the call
+abbrev from_else_not_nanoseconds_fit : Else-not-nanoseconds_fit → Start
+from_else_not_nanoseconds_fit c = c.before.before
+
+abbrev from_else_not_occupancy_fits : Else-not-occupancy_fits → Start
+from_else_not_occupancy_fits c = c.before.before.before.before
+
+abbrev from_else_not_tick_runs : Else-not-tick_runs → Start
+from_else_not_tick_runs c = c.before.before.before.before.before.before
+
+abbrev from_else_entry_count_gt_max_records : Else-entry_count-gt-MAX_RECORDS → Start
+from_else_entry_count_gt_max_records c = c.before.before.before.before.before.before.before
+
+abbrev from_else_not_open_areas_hold : Else-not-open_areas_hold → Start
+from_else_not_open_areas_hold c = c.before.before.before.before.before.before.before.before.before
+
+abbrev from_else_not_segment_areas_hold : Else-not-segment_areas_hold → Start
+from_else_not_segment_areas_hold c = c.before.before.before.before.before.before.before.before.before.before.before
+
 -- the first n questions are answered yes
 abbrev Yes : ℕ → Start → Type 0
 Yes n s =
     let a = s.args in
     Past first_no n (ask_open a.config a.entry_count a.index_len a.filter_len a.starts_len a.lengths_len a.arena_len)
 
-abbrev from : Else-not-tick_runs → Start
-from c = c.before.before.before.before.before.before
-
-yes1 : (c : Else-not-nanoseconds_fit) → Yes 1 c.before.before
+yes1 : (c : Else-not-nanoseconds_fit) → Yes 1 (from_else_not_nanoseconds_fit c)
 unfolding ask_open
 yes1 c = rw (said_yes c.nanoseconds_fit.ensures c.if-not-nanoseconds_fit.false)
 
-yes2 : (c : Else-not-occupancy_fits) → Yes 2 c.before.before.before.before
+yes2 : (c : Else-not-occupancy_fits)
+    → (Yes 1 (from_else_not_occupancy_fits c))
+    → Yes 2 (from_else_not_occupancy_fits c)
 unfolding ask_open
-yes2 c = yes1 c.before.before ∙ rw (said_yes c.occupancy_fits.ensures c.if-not-occupancy_fits.false)
+yes2 c h_yes1 = h_yes1 ∙ rw (said_yes c.occupancy_fits.ensures c.if-not-occupancy_fits.false)
 
-yes3 : (c : Else-not-tick_runs) → Yes 3 (from c)
+yes3 : (c : Else-not-tick_runs)
+    → (Yes 2 (from_else_not_tick_runs c))
+    → Yes 3 (from_else_not_tick_runs c)
 unfolding ask_open
-yes3 c = yes2 c.before.before ∙ rw (said_yes c.tick_runs.ensures c.if-not-tick_runs.false)
+yes3 c h_yes2 = h_yes2 ∙ rw (said_yes c.tick_runs.ensures c.if-not-tick_runs.false)
 
-yes4 : (c : Else-entry_count-gt-MAX_RECORDS) → Yes 4 (from c.before)
+yes4 : (c : Else-entry_count-gt-MAX_RECORDS)
+    → (Yes 3 (from_else_entry_count_gt_max_records c))
+    → Yes 4 (from_else_entry_count_gt_max_records c)
 unfolding ask_open
-yes4 c = yes3 c.before ∙ rw (le-leb _ _ c.if-entry_count-gt-MAX_RECORDS.false)
+yes4 c h_yes3 = h_yes3 ∙ rw (le-leb _ _ c.if-entry_count-gt-MAX_RECORDS.false)
 
-yes5 : (c : Else-not-open_areas_hold) → Yes 5 (from c.before.before.before)
+yes5 : (c : Else-not-open_areas_hold)
+    → (Yes 4 (from_else_not_open_areas_hold c))
+    → Yes 5 (from_else_not_open_areas_hold c)
 unfolding ask_open
-yes5 c = yes4 c.before.before ∙ rw (said_yes c.open_areas_hold.ensures c.if-not-open_areas_hold.false)
+yes5 c h_yes4 = h_yes4 ∙ rw (said_yes c.open_areas_hold.ensures c.if-not-open_areas_hold.false)
 
-yes6 : (c : Else-not-segment_areas_hold) → Yes 6 (from c.before.before.before.before.before)
+yes6 : (c : Else-not-segment_areas_hold)
+    → (Yes 5 (from_else_not_segment_areas_hold c))
+    → Yes 6 (from_else_not_segment_areas_hold c)
 unfolding ask_open
-yes6 c = yes5 c.before.before ∙ rw (said_yes c.segment_areas_hold.ensures c.if-not-segment_areas_hold.false)
+yes6 c h_yes5 = h_yes5 ∙ rw (said_yes c.segment_areas_hold.ensures c.if-not-segment_areas_hold.false)
 
 pub returns-then-not-nanoseconds_fit : goal.returns-then-not-nanoseconds_fit
 unfolding ask_open
@@ -45,28 +71,28 @@ returns-then-not-nanoseconds_fit c = rw (said_no c.nanoseconds_fit.ensures c.if-
 
 pub returns-then-not-occupancy_fits : goal.returns-then-not-occupancy_fits
 unfolding ask_open
-returns-then-not-occupancy_fits c = sym (yes1 (goal.at.returns-then-not-occupancy_fits c).Else-not-nanoseconds_fit ∙ rw (said_no c.occupancy_fits.ensures c.if-not-occupancy_fits.true))
+returns-then-not-occupancy_fits c = sym ((yes1 (goal.at.returns-then-not-occupancy_fits c).Else-not-nanoseconds_fit) ∙ rw (said_no c.occupancy_fits.ensures c.if-not-occupancy_fits.true))
 
 pub returns-then-not-tick_runs : goal.returns-then-not-tick_runs
 unfolding ask_open
-returns-then-not-tick_runs c = sym (yes2 (goal.at.returns-then-not-tick_runs c).Else-not-occupancy_fits ∙ rw (said_no c.tick_runs.ensures c.if-not-tick_runs.true))
+returns-then-not-tick_runs c = sym ((yes2 (goal.at.returns-then-not-tick_runs c).Else-not-occupancy_fits (yes1 (goal.at.returns-then-not-tick_runs c).Else-not-nanoseconds_fit)) ∙ rw (said_no c.tick_runs.ensures c.if-not-tick_runs.true))
 
 pub returns-then-entry_count-gt-MAX_RECORDS : goal.returns-then-entry_count-gt-MAX_RECORDS
 unfolding ask_open
-returns-then-entry_count-gt-MAX_RECORDS c = sym (yes3 (goal.at.returns-then-entry_count-gt-MAX_RECORDS c).Else-not-tick_runs ∙ rw (lt-leb _ _ c.if-entry_count-gt-MAX_RECORDS.true))
+returns-then-entry_count-gt-MAX_RECORDS c = sym ((yes3 (goal.at.returns-then-entry_count-gt-MAX_RECORDS c).Else-not-tick_runs (yes2 (goal.at.returns-then-entry_count-gt-MAX_RECORDS c).Else-not-occupancy_fits (yes1 (goal.at.returns-then-entry_count-gt-MAX_RECORDS c).Else-not-nanoseconds_fit))) ∙ rw (lt-leb _ _ c.if-entry_count-gt-MAX_RECORDS.true))
 
 pub returns-then-not-open_areas_hold : goal.returns-then-not-open_areas_hold
 unfolding ask_open
-returns-then-not-open_areas_hold c = sym (yes4 (goal.at.returns-then-not-open_areas_hold c).Else-entry_count-gt-MAX_RECORDS ∙ rw (said_no c.open_areas_hold.ensures c.if-not-open_areas_hold.true))
+returns-then-not-open_areas_hold c = sym ((yes4 (goal.at.returns-then-not-open_areas_hold c).Else-entry_count-gt-MAX_RECORDS (yes3 (goal.at.returns-then-not-open_areas_hold c).Else-not-tick_runs (yes2 (goal.at.returns-then-not-open_areas_hold c).Else-not-occupancy_fits (yes1 (goal.at.returns-then-not-open_areas_hold c).Else-not-nanoseconds_fit)))) ∙ rw (said_no c.open_areas_hold.ensures c.if-not-open_areas_hold.true))
 
 pub returns-then-not-segment_areas_hold : goal.returns-then-not-segment_areas_hold
 unfolding ask_open
-returns-then-not-segment_areas_hold c = sym (yes5 (goal.at.returns-then-not-segment_areas_hold c).Else-not-open_areas_hold ∙ rw (said_no c.segment_areas_hold.ensures c.if-not-segment_areas_hold.true))
+returns-then-not-segment_areas_hold c = sym ((yes5 (goal.at.returns-then-not-segment_areas_hold c).Else-not-open_areas_hold (yes4 (goal.at.returns-then-not-segment_areas_hold c).Else-entry_count-gt-MAX_RECORDS (yes3 (goal.at.returns-then-not-segment_areas_hold c).Else-not-tick_runs (yes2 (goal.at.returns-then-not-segment_areas_hold c).Else-not-occupancy_fits (yes1 (goal.at.returns-then-not-segment_areas_hold c).Else-not-nanoseconds_fit))))) ∙ rw (said_no c.segment_areas_hold.ensures c.if-not-segment_areas_hold.true))
 
 pub returns-then-arena_len-gt-MAX_ARENA_BYTES : goal.returns-then-arena_len-gt-MAX_ARENA_BYTES
 unfolding ask_open
-returns-then-arena_len-gt-MAX_ARENA_BYTES c = sym (yes6 (goal.at.returns-then-arena_len-gt-MAX_ARENA_BYTES c).Else-not-segment_areas_hold ∙ rw (lt-leb _ _ c.if-arena_len-gt-MAX_ARENA_BYTES.true))
+returns-then-arena_len-gt-MAX_ARENA_BYTES c = sym ((yes6 (goal.at.returns-then-arena_len-gt-MAX_ARENA_BYTES c).Else-not-segment_areas_hold (yes5 (goal.at.returns-then-arena_len-gt-MAX_ARENA_BYTES c).Else-not-open_areas_hold (yes4 (goal.at.returns-then-arena_len-gt-MAX_ARENA_BYTES c).Else-entry_count-gt-MAX_RECORDS (yes3 (goal.at.returns-then-arena_len-gt-MAX_ARENA_BYTES c).Else-not-tick_runs (yes2 (goal.at.returns-then-arena_len-gt-MAX_ARENA_BYTES c).Else-not-occupancy_fits (yes1 (goal.at.returns-then-arena_len-gt-MAX_ARENA_BYTES c).Else-not-nanoseconds_fit)))))) ∙ rw (lt-leb _ _ c.if-arena_len-gt-MAX_ARENA_BYTES.true))
 
 pub returns : goal.returns
 unfolding ask_open
-returns c = sym (yes6 (goal.at.returns c).Else-not-segment_areas_hold ∙ rw (le-leb _ _ c.if-arena_len-gt-MAX_ARENA_BYTES.false))
+returns c = sym ((yes6 (goal.at.returns c).Else-not-segment_areas_hold (yes5 (goal.at.returns c).Else-not-open_areas_hold (yes4 (goal.at.returns c).Else-entry_count-gt-MAX_RECORDS (yes3 (goal.at.returns c).Else-not-tick_runs (yes2 (goal.at.returns c).Else-not-occupancy_fits (yes1 (goal.at.returns c).Else-not-nanoseconds_fit)))))) ∙ rw (le-leb _ _ c.if-arena_len-gt-MAX_ARENA_BYTES.false))

@@ -22,8 +22,8 @@ unfolding counts_fit
 returns-then-records-gt-MAX_RECORDS c = rw (said_yes c.setting_fits.ensures c.if-not-setting_fits.false, lt-leb _ _ c.if-records-gt-MAX_RECORDS.true)
 
 pub returns-then-buckets-bucket_count : goal.returns-then-buckets-bucket_count
-returns-then-buckets-bucket_count c = sym (yes2 (goal.at.returns-then-buckets-bucket_count c).Else-records-gt-MAX_RECORDS ∙ rw (← c.bucket_count.ensures, ne_eqb _ _ c.if-buckets-bucket_count.true))
+returns-then-buckets-bucket_count c = sym ((yes2 (goal.at.returns-then-buckets-bucket_count c).Else-records-gt-MAX_RECORDS) ∙ rw (← c.bucket_count.ensures, ne_eqb _ _ c.if-buckets-bucket_count.true))
 
 pub returns : goal.returns
 returns c =
-    sym (yes2 (goal.at.returns c).Else-records-gt-MAX_RECORDS ∙ rw (← c.bucket_count.ensures, eq-eqb _ _ c.if-buckets-bucket_count.false, ← c.filter_words_for.ensures))
+    sym ((yes2 (goal.at.returns c).Else-records-gt-MAX_RECORDS) ∙ rw (← c.bucket_count.ensures, eq-eqb _ _ c.if-buckets-bucket_count.false, ← c.filter_words_for.ensures))

@@ -16,5 +16,4 @@ returns-in_default c =
 pub returns : goal.returns
 returns c =
     let a = c.args in
-    let told = c.size.given in
-    ap (λ (n : ℕ). leb n a.rest) (size_told_law _ _ _ told.0.0 (ap size_outcome (sym told.1) ∙ c.encoded_record_bytes.ensures))
+    ap (λ (n : ℕ). leb n a.rest) (size_told_law _ _ _ c.in-Bytes.size (ap size_outcome (sym c.in-Bytes.is) ∙ c.encoded_record_bytes.ensures))

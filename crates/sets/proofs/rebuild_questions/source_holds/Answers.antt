@@ -6,10 +6,7 @@ use Rattle.sets.proofs.Said.{said_no, said_yes}
 use Rattle.sets.proofs.RebuildSteps.{areas_256}
 use Rattle.sets.proofs.Counts.{set_segments}
 use Rattle.sets.proofs.rebuild_questions.source_holds.Goals as goal
-use Rattle.sets.proofs.rebuild_questions.source_holds.Goals.{Else-not-arena_holds, Else-not-segment_areas_hold, Start}
-
-abbrev from : Else-not-segment_areas_hold → Start
-from c = c.before.before.before.before.before.before
+use Rattle.sets.proofs.rebuild_questions.source_holds.Goals.{Else-not-arena_holds, Else-not-segment_areas_hold}
 
 segments : (c : Else-not-segment_areas_hold) → let a = c.args in segment_areas_hold (length a.starts.now) (length a.lengths.now) ≡ true
 segments c = said_yes c.segment_areas_hold.ensures c.if-not-segment_areas_hold.false
@@ -20,29 +17,33 @@ yes2 : (c : Else-not-segment_areas_hold) → let a = c.args in
     ≡ all (arena_holds a.source.filled a.arena_len ∷ segments_inside a.source.segments a.source.filled a.starts.now a.lengths.now ∷ [])
 unfolding areas_hold_source
 yes2 c =
-    rw (said_yes c.fits2.ensures c.if-not-fits.false, segments c)
+    rw (said_yes c.fits.ensures c.if-not-fits.false, segments c)
 
-yes3 : (c : Else-not-arena_holds) → let a = c.args in
+yes3 : (c : Else-not-arena_holds)
+    → (let a = c.args in
+    areas_hold_source a.source a.starts.now a.lengths.now a.arena_len
+    ≡ all (arena_holds a.source.filled a.arena_len ∷ segments_inside a.source.segments a.source.filled a.starts.now a.lengths.now ∷ []))
+    → let a = c.args in
     areas_hold_source a.source a.starts.now a.lengths.now a.arena_len ≡ segments_inside a.source.segments a.source.filled a.starts.now a.lengths.now
-yes3 c = yes2 c.before.before ∙ rw (said_yes c.arena_holds.ensures c.if-not-arena_holds.false)
+yes3 c h_yes2 = h_yes2 ∙ rw (said_yes c.arena_holds.ensures c.if-not-arena_holds.false)
 
 pub returns-then-not-fits : goal.returns-then-not-fits
 unfolding areas_hold_source
-returns-then-not-fits c = rw (said_no c.fits2.ensures c.if-not-fits.true)
+returns-then-not-fits c = rw (said_no c.fits.ensures c.if-not-fits.true)
 
 pub returns-then-not-segment_areas_hold : goal.returns-then-not-segment_areas_hold
 unfolding areas_hold_source
 returns-then-not-segment_areas_hold c =
-    rw (said_yes c.fits2.ensures c.if-not-fits.false, said_no c.segment_areas_hold.ensures c.if-not-segment_areas_hold.true)
+    rw (said_yes c.fits.ensures c.if-not-fits.false, said_no c.segment_areas_hold.ensures c.if-not-segment_areas_hold.true)
 
 pub returns-then-not-arena_holds : goal.returns-then-not-arena_holds
-returns-then-not-arena_holds c = sym (yes2 (goal.at.returns-then-not-arena_holds c).Else-not-segment_areas_hold ∙ rw (said_no c.arena_holds.ensures c.if-not-arena_holds.true))
+returns-then-not-arena_holds c = sym ((yes2 (goal.at.returns-then-not-arena_holds c).Else-not-segment_areas_hold) ∙ rw (said_no c.arena_holds.ensures c.if-not-arena_holds.true))
 
 pub segments_inside-requires : goal.segments_inside-requires
 segments_inside-requires c =
     let held = areas_256 _ _ (segments (goal.at.segments_inside-requires c).Else-not-segment_areas_hold) in
-    let few = (set_segments _ (said_yes c.fits2.ensures c.if-not-fits.false)).1 in
+    let few = (set_segments _ (said_yes c.fits.ensures c.if-not-fits.false)).1 in
     (omega (arith, held.0, few), omega (arith, held.1, few))
 
 pub returns : goal.returns
-returns c = rw (c.segments_inside.ensures, yes3 (goal.at.returns c).Else-not-arena_holds)
+returns c = rw (c.segments_inside.ensures, (yes3 (goal.at.returns c).Else-not-arena_holds (yes2 (goal.at.returns c).Else-not-segment_areas_hold)))

@@ -4,7 +4,23 @@ use Rattle.sets.specs.Build.{ask_finish}
 use Rattle.sets.specs.Questions.{first_no}
 use Rattle.sets.proofs.Said.{Past, said_no, said_yes}
 use Rattle.sets.proofs.builder.SegmentCacheBuilder.check_finish.Goals as goal
-use Rattle.sets.proofs.builder.SegmentCacheBuilder.check_finish.Goals.{After-scratch_holds-arg-1, Else-not-areas_hold, Else-not-scratch_holds, Else-not-segment_areas_hold, Else-not-target_fits, Else-self, Start}
+use Rattle.sets.proofs.builder.SegmentCacheBuilder.check_finish.Goals.{Else-not-areas_hold, Else-not-scratch_holds, Else-not-segment_areas_hold, Else-not-target_fits, Else-self, Start}
+
+-- the start of the call
+abbrev from_else_not_areas_hold : Else-not-areas_hold → Start
+from_else_not_areas_hold c = c.before.before.before.before
+
+abbrev from_else_not_segment_areas_hold : Else-not-segment_areas_hold → Start
+from_else_not_segment_areas_hold c = c.before.before.before.before.before.before
+
+abbrev from_else_self : Else-self → Start
+from_else_self c = c.before.before.before.before.before.before.before.before
+
+abbrev from_else_not_target_fits : Else-not-target_fits → Start
+from_else_not_target_fits c = c.before.before.before.before.before.before.before.before.before.before
+
+abbrev from_else_not_scratch_holds : Else-not-scratch_holds → Start
+from_else_not_scratch_holds c = c.before.before.before.before.before.before.before.before.before.before.before.before.before
 
 -- the first n questions are answered yes
 abbrev Yes : ℕ → Start → Type 0
@@ -12,28 +28,33 @@ Yes n s =
     let a = s.args in
     Past first_no n (take 6 (ask_finish a.self a.target a.index.now a.starts_len a.lengths_len a.scratch_len a.arena_len))
 
-abbrev from : Else-self → Start
-from c = c.before.before.before.before.before.before.before
-
-yes1 : (c : Else-not-areas_hold) → Yes 1 c.before.before.before
+yes1 : (c : Else-not-areas_hold) → Yes 1 (from_else_not_areas_hold c)
 unfolding ask_finish
 yes1 c = rw (said_yes c.areas_hold.ensures c.if-not-areas_hold.false)
 
-yes2 : (c : Else-not-segment_areas_hold) → Yes 2 c.before.before.before.before.before
+yes2 : (c : Else-not-segment_areas_hold)
+    → (Yes 1 (from_else_not_segment_areas_hold c))
+    → Yes 2 (from_else_not_segment_areas_hold c)
 unfolding ask_finish
-yes2 c = yes1 c.before.before ∙ rw (said_yes c.segment_areas_hold.ensures c.if-not-segment_areas_hold.false)
+yes2 c h_yes1 = h_yes1 ∙ rw (said_yes c.segment_areas_hold.ensures c.if-not-segment_areas_hold.false)
 
-yes3 : (c : Else-self) → Yes 3 (from c)
+yes3 : (c : Else-self)
+    → (Yes 2 (from_else_self c))
+    → Yes 3 (from_else_self c)
 unfolding ask_finish
-yes3 c = yes2 c.before.before ∙ rw (eq-eqb _ _ c.if-self.false)
+yes3 c h_yes2 = h_yes2 ∙ rw (eq-eqb _ _ c.if-self.false)
 
-yes4 : (c : Else-not-target_fits) → Yes 4 (from c.before.before)
+yes4 : (c : Else-not-target_fits)
+    → (Yes 3 (from_else_not_target_fits c))
+    → Yes 4 (from_else_not_target_fits c)
 unfolding ask_finish
-yes4 c = yes3 c.before.before ∙ rw (said_yes c.target_fits.ensures c.if-not-target_fits.false)
+yes4 c h_yes3 = h_yes3 ∙ rw (said_yes c.target_fits.ensures c.if-not-target_fits.false)
 
-yes5 : (c : Else-not-scratch_holds) → Yes 5 (from c.before.before.before.before)
+yes5 : (c : Else-not-scratch_holds)
+    → (Yes 4 (from_else_not_scratch_holds c))
+    → Yes 5 (from_else_not_scratch_holds c)
 unfolding ask_finish
-yes5 c = yes4 c.before.before ∙ rw (said_yes c.scratch_holds.ensures c.if-not-scratch_holds.false)
+yes5 c h_yes4 = h_yes4 ∙ rw (said_yes c.scratch_holds.ensures c.if-not-scratch_holds.false)
 
 pub returns-then-not-areas_hold : goal.returns-then-not-areas_hold
 unfolding ask_finish
@@ -41,24 +62,24 @@ returns-then-not-areas_hold c = rw (said_no c.areas_hold.ensures c.if-not-areas_
 
 pub returns-then-not-segment_areas_hold : goal.returns-then-not-segment_areas_hold
 unfolding ask_finish
-returns-then-not-segment_areas_hold c = sym (yes1 (goal.at.returns-then-not-segment_areas_hold c).Else-not-areas_hold ∙ rw (said_no c.segment_areas_hold.ensures c.if-not-segment_areas_hold.true))
+returns-then-not-segment_areas_hold c = sym ((yes1 (goal.at.returns-then-not-segment_areas_hold c).Else-not-areas_hold) ∙ rw (said_no c.segment_areas_hold.ensures c.if-not-segment_areas_hold.true))
 
 pub returns-then-self : goal.returns-then-self
 unfolding ask_finish
-returns-then-self c = sym (yes2 (goal.at.returns-then-self c).Else-not-segment_areas_hold ∙ rw (ne_eqb _ _ c.if-self.true))
+returns-then-self c = sym ((yes2 (goal.at.returns-then-self c).Else-not-segment_areas_hold (yes1 (goal.at.returns-then-self c).Else-not-areas_hold)) ∙ rw (ne_eqb _ _ c.if-self.true))
 
 pub returns-then-not-target_fits : goal.returns-then-not-target_fits
 unfolding ask_finish
-returns-then-not-target_fits c = sym (yes3 (goal.at.returns-then-not-target_fits c).Else-self ∙ rw (said_no c.target_fits.ensures c.if-not-target_fits.true))
+returns-then-not-target_fits c = sym ((yes3 (goal.at.returns-then-not-target_fits c).Else-self (yes2 (goal.at.returns-then-not-target_fits c).Else-not-segment_areas_hold (yes1 (goal.at.returns-then-not-target_fits c).Else-not-areas_hold))) ∙ rw (said_no c.target_fits.ensures c.if-not-target_fits.true))
 
 pub returns-then-not-scratch_holds : goal.returns-then-not-scratch_holds
 unfolding ask_finish
-returns-then-not-scratch_holds c = sym (yes4 (goal.at.returns-then-not-scratch_holds c).After-scratch_holds-arg-1 ∙ rw (said_no c.scratch_holds.ensures c.if-not-scratch_holds.true))
+returns-then-not-scratch_holds c = sym ((yes4 (goal.at.returns-then-not-scratch_holds c).Else-not-target_fits (yes3 (goal.at.returns-then-not-scratch_holds c).Else-self (yes2 (goal.at.returns-then-not-scratch_holds c).Else-not-segment_areas_hold (yes1 (goal.at.returns-then-not-scratch_holds c).Else-not-areas_hold)))) ∙ rw (said_no c.scratch_holds.ensures c.if-not-scratch_holds.true))
 
 pub returns-then-not-locations_inside : goal.returns-then-not-locations_inside
 unfolding ask_finish
-returns-then-not-locations_inside c = sym (yes5 (goal.at.returns-then-not-locations_inside c).Else-not-scratch_holds ∙ rw (said_no c.locations_inside.ensures c.if-not-locations_inside.true))
+returns-then-not-locations_inside c = sym ((yes5 (goal.at.returns-then-not-locations_inside c).Else-not-scratch_holds (yes4 (goal.at.returns-then-not-locations_inside c).Else-not-target_fits (yes3 (goal.at.returns-then-not-locations_inside c).Else-self (yes2 (goal.at.returns-then-not-locations_inside c).Else-not-segment_areas_hold (yes1 (goal.at.returns-then-not-locations_inside c).Else-not-areas_hold))))) ∙ rw (said_no c.locations_inside.ensures c.if-not-locations_inside.true))
 
 pub returns : goal.returns
 unfolding ask_finish
-returns c = sym (yes5 (goal.at.returns c).Else-not-scratch_holds ∙ rw (said_yes c.locations_inside.ensures c.if-not-locations_inside.false))
+returns c = sym ((yes5 (goal.at.returns c).Else-not-scratch_holds (yes4 (goal.at.returns c).Else-not-target_fits (yes3 (goal.at.returns c).Else-self (yes2 (goal.at.returns c).Else-not-segment_areas_hold (yes1 (goal.at.returns c).Else-not-areas_hold))))) ∙ rw (said_yes c.locations_inside.ensures c.if-not-locations_inside.false))

@@ -9,40 +9,49 @@ use Rattle.sets.proofs.Said.{said_no, said_yes}
 use Rattle.sets.proofs.builder.SegmentCacheBuilder.fits.Goals as goal
 use Rattle.sets.proofs.builder.SegmentCacheBuilder.fits.Goals.{Else-inserted-self, Else-not-bytes_fit, Else-not-bytes_fit-2, Else-not-counts_fit}
 
-abbrev self : Else-inserted-self → SegmentCacheBuilder
-self c = c.args.self
-
 counted : (c : Else-not-counts_fit) → let b = c.args.self in counts_fit b.config b.expected_entries b.bucket_count b.filter_words ≡ true
 counted c = said_yes c.counts_fit.ensures c.if-not-counts_fit.false
 
-few : (c : Else-inserted-self) → (self c).inserted_entries ≤ 1_048_576
-few c = omega (arith, c.if-inserted-self.false, counts_records _ _ _ _ (counted c.before.before))
+few : (c : Else-inserted-self)
+    → (let b = c.args.self in counts_fit b.config b.expected_entries b.bucket_count b.filter_words ≡ true)
+    → c.args.self.inserted_entries ≤ 1_048_576
+few c h_counted = omega (arith, c.if-inserted-self.false, counts_records _ _ _ _ h_counted)
 
-keys : (c : Else-not-bytes_fit) → let b = self c.before.before in b.logical_key_bytes ≤ b.inserted_entries * 2 ^ 30
+keys : (c : Else-not-bytes_fit) → let b = c.args.self in b.logical_key_bytes ≤ b.inserted_entries * 2 ^ 30
 keys c = leb-true _ _ (said_yes c.bytes_fit.ensures c.if-not-bytes_fit.false)
 
-values : (c : Else-not-bytes_fit-2) → let b = self c.before.before.before.before in b.logical_value_bytes ≤ b.inserted_entries * 2 ^ 30
+values : (c : Else-not-bytes_fit-2) → let b = c.args.self in b.logical_value_bytes ≤ b.inserted_entries * 2 ^ 30
 values c = leb-true _ _ (said_yes c.bytes_fit-2.ensures c.if-not-bytes_fit-2.false)
 
 -- what is left to ask after the third question, and after the fourth
-yes3 : (c : Else-not-bytes_fit) → let c.before.before = self c.before.before in
-    builder_fits c.before.before
+yes3 : (c : Else-not-bytes_fit)
+    → (let b = c.args.self in counts_fit b.config b.expected_entries b.bucket_count b.filter_words ≡ true)
+    → let b = c.args.self in
+    builder_fits b
     ≡ all
-    (bytes_fit c.inserted_entries c.logical_value_bytes
-    ∷ leb (c.logical_key_bytes + c.logical_value_bytes) c.filled
-    ∷ bytes_fit c.inserted_entries (c.filled - c.logical_key_bytes - c.logical_value_bytes)
+    (bytes_fit b.inserted_entries b.logical_value_bytes
+    ∷ leb (b.logical_key_bytes + b.logical_value_bytes) b.filled
+    ∷ bytes_fit b.inserted_entries (b.filled - b.logical_key_bytes - b.logical_value_bytes)
     ∷ [])
 unfolding builder_fits
-yes3 c =
-    rw (counted c.before.before.before.before, le-leb _ _ c.if-inserted-self.false, le-leb _ _ (keys c))
+yes3 c h_counted =
+    rw (h_counted, le-leb _ _ c.if-inserted-self.false, le-leb _ _ (keys c))
 
-yes4 : (c : Else-not-bytes_fit-2) → let b = self c.before.before.before.before in
+yes4 : (c : Else-not-bytes_fit-2)
+    → (let b = c.args.self in
+    builder_fits b
+    ≡ all
+    (bytes_fit b.inserted_entries b.logical_value_bytes
+    ∷ leb (b.logical_key_bytes + b.logical_value_bytes) b.filled
+    ∷ bytes_fit b.inserted_entries (b.filled - b.logical_key_bytes - b.logical_value_bytes)
+    ∷ []))
+    → let b = c.args.self in
     builder_fits b
     ≡ all
     (leb (b.logical_key_bytes + b.logical_value_bytes) b.filled
     ∷ bytes_fit b.inserted_entries (b.filled - b.logical_key_bytes - b.logical_value_bytes)
     ∷ [])
-yes4 c = yes3 c.before.before ∙ rw (le-leb _ _ (values c))
+yes4 c h_yes3 = h_yes3 ∙ rw (le-leb _ _ (values c))
 
 pub returns-then-not-counts_fit : goal.returns-then-not-counts_fit
 unfolding builder_fits
@@ -50,31 +59,31 @@ returns-then-not-counts_fit c = rw (said_no c.counts_fit.ensures c.if-not-counts
 
 pub returns-then-inserted-self : goal.returns-then-inserted-self
 unfolding builder_fits
-returns-then-inserted-self c = rw (counted (goal.at.returns-then-inserted-self c).Else-not-counts_fit, lt-leb _ _ c.if-inserted-self.true)
+returns-then-inserted-self c = rw ((counted (goal.at.returns-then-inserted-self c).Else-not-counts_fit), lt-leb _ _ c.if-inserted-self.true)
 
 pub bytes_fit-requires : goal.bytes_fit-requires
-bytes_fit-requires c = few c
+bytes_fit-requires c = (few c (counted (goal.at.bytes_fit-requires c).Else-not-counts_fit))
 
 pub returns-then-not-bytes_fit : goal.returns-then-not-bytes_fit
 unfolding builder_fits
 returns-then-not-bytes_fit c =
-    rw (counted (goal.at.returns-then-not-bytes_fit c).Else-not-counts_fit, le-leb _ _ c.if-inserted-self.false, said_no c.bytes_fit.ensures c.if-not-bytes_fit.true)
+    rw ((counted (goal.at.returns-then-not-bytes_fit c).Else-not-counts_fit), le-leb _ _ c.if-inserted-self.false, said_no c.bytes_fit.ensures c.if-not-bytes_fit.true)
 
 pub bytes_fit-requires-2 : goal.bytes_fit-requires-2
-bytes_fit-requires-2 c = few (goal.at.bytes_fit-requires-2 c).Else-inserted-self
+bytes_fit-requires-2 c = (few (goal.at.bytes_fit-requires-2 c).Else-inserted-self (counted (goal.at.bytes_fit-requires-2 c).Else-not-counts_fit))
 
 pub returns-then-not-bytes_fit-2 : goal.returns-then-not-bytes_fit-2
-returns-then-not-bytes_fit-2 c = sym (yes3 (goal.at.returns-then-not-bytes_fit-2 c).Else-not-bytes_fit ∙ rw (said_no c.bytes_fit-2.ensures c.if-not-bytes_fit-2.true))
+returns-then-not-bytes_fit-2 c = sym ((yes3 (goal.at.returns-then-not-bytes_fit-2 c).Else-not-bytes_fit (counted (goal.at.returns-then-not-bytes_fit-2 c).Else-not-counts_fit)) ∙ rw (said_no c.bytes_fit-2.ensures c.if-not-bytes_fit-2.true))
 
 pub overflow_add-keys : goal.overflow_add-keys
-overflow_add-keys c = omega (arith, few (goal.at.overflow_add-keys c).Else-inserted-self, keys (goal.at.overflow_add-keys c).Else-not-bytes_fit, values c)
+overflow_add-keys c = omega (arith, (few (goal.at.overflow_add-keys c).Else-inserted-self (counted (goal.at.overflow_add-keys c).Else-not-counts_fit)), (keys (goal.at.overflow_add-keys c).Else-not-bytes_fit), (values c))
 
 pub returns-then-keys-values : goal.returns-then-keys-values
-returns-then-keys-values c = sym (yes4 (goal.at.returns-then-keys-values c).Else-not-bytes_fit-2 ∙ rw (lt-leb _ _ c.if-keys-values.true))
+returns-then-keys-values c = sym ((yes4 (goal.at.returns-then-keys-values c).Else-not-bytes_fit-2 (yes3 (goal.at.returns-then-keys-values c).Else-not-bytes_fit (counted (goal.at.returns-then-keys-values c).Else-not-counts_fit))) ∙ rw (lt-leb _ _ c.if-keys-values.true))
 
 pub bytes_fit-requires-3 : goal.bytes_fit-requires-3
-bytes_fit-requires-3 c = few (goal.at.bytes_fit-requires-3 c).Else-inserted-self
+bytes_fit-requires-3 c = (few (goal.at.bytes_fit-requires-3 c).Else-inserted-self (counted (goal.at.bytes_fit-requires-3 c).Else-not-counts_fit))
 
 pub returns : goal.returns
 returns c =
-    c.bytes_fit-3.ensures ∙ sym (yes4 (goal.at.returns c).Else-not-bytes_fit-2 ∙ rw (le-leb _ _ c.if-keys-values.false))
+    c.bytes_fit-3.ensures ∙ sym ((yes4 (goal.at.returns c).Else-not-bytes_fit-2 (yes3 (goal.at.returns c).Else-not-bytes_fit (counted (goal.at.returns c).Else-not-counts_fit))) ∙ rw (le-leb _ _ c.if-keys-values.false))

@@ -14,10 +14,9 @@ use Rattle.sets.proofs.builder.SegmentCacheBuilder.plan_record.Goals.{Start}
 pub returns-in_default : goal.returns-in_default
 unfolding plan_record ask_record
 returns-in_default c =
-    let told = c.enum_told-1 in
-    let why = c.deadline_refusal.ensures ∙ ap deadline_refusal told.given.1 in
-    let none = sym c.encode_expiry_at_tick-deadline.ensures ∙ ap expiry_outcome told.given.1 in
-    rw (why, none) (sym (own_refused told.given.0.0 _ _ _))
+    let why = c.deadline_refusal.ensures ∙ ap deadline_refusal c.in_default.is in
+    let none = sym c.encode_expiry_at_tick-deadline.ensures ∙ ap expiry_outcome c.in_default.is in
+    rw (why, none) (sym (own_refused c.in_default.field-0 _ _ _))
 
 -- the room, as the plan asks for it and as the definition does
 asks : (s : Start) → let a = s.args in
@@ -29,10 +28,10 @@ pub returns-then-not-record_fits : goal.returns-then-not-record_fits
 unfolding plan_record ask_record
 returns-then-not-record_fits c =
     let at = sym c.encode_expiry_at_tick-deadline.ensures ∙ ap expiry_outcome c.in-At.is in
-    rw (at, asks (goal.at.returns-then-not-record_fits c).Start ∙ said_no c.record_fits.ensures c.if-not-record_fits.true)
+    rw (at, (asks (goal.at.returns-then-not-record_fits c).Start) ∙ said_no c.record_fits.ensures c.if-not-record_fits.true)
 
 pub returns : goal.returns
 unfolding plan_record ask_record
 returns c =
     let at = sym c.encode_expiry_at_tick-deadline.ensures ∙ ap expiry_outcome c.in-At.is in
-    rw (at, asks (goal.at.returns c).Start ∙ said_yes c.record_fits.ensures c.if-not-record_fits.false)
+    rw (at, (asks (goal.at.returns c).Start) ∙ said_yes c.record_fits.ensures c.if-not-record_fits.false)

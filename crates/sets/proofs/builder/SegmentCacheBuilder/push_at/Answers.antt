@@ -6,11 +6,7 @@ use Rattle.records.specs.Record.{record_bytes, record_size}
 use Rattle.index.specs.Word.{word_of}
 use Rattle.sets.proofs.Appends.{appended, push_left_law, size_holds}
 use Rattle.sets.proofs.builder.SegmentCacheBuilder.push_at.Goals as goal
-use Rattle.sets.proofs.builder.SegmentCacheBuilder.push_at.Goals.{After-append_record-size, Start}
-
--- the start, from where the record is written
-abbrev from : After-append_record-size → Start
-from c = c.before.before.before.before.before.before.before.before
+use Rattle.sets.proofs.builder.SegmentCacheBuilder.push_at.Goals.{After-append_record-size}
 
 -- the record is written whole
 wrote : (c : After-append_record-size) → let a = c.args in

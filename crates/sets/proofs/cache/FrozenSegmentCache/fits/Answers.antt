@@ -9,28 +9,30 @@ use Rattle.sets.proofs.Counts.{counts_records}
 use Rattle.sets.proofs.cache.FrozenSegmentCache.fits.Goals as goal
 use Rattle.sets.proofs.cache.FrozenSegmentCache.fits.Goals.{Else-not-bytes_fit, Else-not-counts_fit, Else-self-gt-MAX_RECORD_SEGMENTS}
 
-abbrev first : Else-self-gt-MAX_RECORD_SEGMENTS → Else-not-counts_fit
-first c = c.before.before.before.before
-
-abbrev self : Else-not-counts_fit → FrozenSegmentCache
-self c = c.args.self
-
-counted : (c : Else-not-counts_fit) → let s = self c in counts_fit s.config s.entries s.buckets s.filter_words ≡ true
+counted : (c : Else-not-counts_fit) → let s = c.args.self in counts_fit s.config s.entries s.buckets s.filter_words ≡ true
 counted c = said_yes c.counts_fit.ensures c.if-not-counts_fit.false
 
-few : (c : Else-self-gt-MAX_RECORD_SEGMENTS) → (self (first c)).entries ≤ 1_048_576
-few c = counts_records _ _ _ _ (counted (first c))
+few : (c : Else-self-gt-MAX_RECORD_SEGMENTS)
+    → (let s = c.args.self in counts_fit s.config s.entries s.buckets s.filter_words ≡ true)
+    → c.args.self.entries ≤ 1_048_576
+few c h_counted = counts_records _ _ _ _ h_counted
 
 -- what is left to ask after the third question, and after the fourth
-yes3 : (c : Else-self-gt-MAX_RECORD_SEGMENTS) → let s = self (first c) in
+yes3 : (c : Else-self-gt-MAX_RECORD_SEGMENTS)
+    → (let s = c.args.self in counts_fit s.config s.entries s.buckets s.filter_words ≡ true)
+    → let s = c.args.self in
     set_fits s
     ≡ all (bytes_fit s.entries s.logical_key_bytes ∷ bytes_fit s.entries s.logical_value_bytes ∷ bytes_fit s.entries s.record_header_bytes ∷ [])
 unfolding set_fits
-yes3 c = rw (counted (first c), le-leb _ _ c.if-self-lt1.false, le-leb _ _ c.if-self-gt-MAX_RECORD_SEGMENTS.false)
+yes3 c h_counted = rw (h_counted, le-leb _ _ c.if-self-lt1.false, le-leb _ _ c.if-self-gt-MAX_RECORD_SEGMENTS.false)
 
-yes4 : (c : Else-not-bytes_fit) → let s = self (first c.before.before) in
+yes4 : (c : Else-not-bytes_fit)
+    → (let s = c.args.self in
+    set_fits s
+    ≡ all (bytes_fit s.entries s.logical_key_bytes ∷ bytes_fit s.entries s.logical_value_bytes ∷ bytes_fit s.entries s.record_header_bytes ∷ []))
+    → let s = c.args.self in
     set_fits s ≡ all (bytes_fit s.entries s.logical_value_bytes ∷ bytes_fit s.entries s.record_header_bytes ∷ [])
-yes4 c = yes3 c.before.before ∙ rw (said_yes c.bytes_fit.ensures c.if-not-bytes_fit.false)
+yes4 c h_yes3 = h_yes3 ∙ rw (said_yes c.bytes_fit.ensures c.if-not-bytes_fit.false)
 
 pub returns-then-not-counts_fit : goal.returns-then-not-counts_fit
 unfolding set_fits
@@ -38,28 +40,28 @@ returns-then-not-counts_fit c = rw (said_no c.counts_fit.ensures c.if-not-counts
 
 pub returns-then-self-lt1 : goal.returns-then-self-lt1
 unfolding set_fits
-returns-then-self-lt1 c = rw (counted (goal.at.returns-then-self-lt1 c).Else-not-counts_fit, lt-leb _ _ c.if-self-lt1.true)
+returns-then-self-lt1 c = rw ((counted (goal.at.returns-then-self-lt1 c).Else-not-counts_fit), lt-leb _ _ c.if-self-lt1.true)
 
 pub returns-then-self-gt-MAX_RECORD_SEGMENTS : goal.returns-then-self-gt-MAX_RECORD_SEGMENTS
 unfolding set_fits
 returns-then-self-gt-MAX_RECORD_SEGMENTS c =
-    rw (counted (goal.at.returns-then-self-gt-MAX_RECORD_SEGMENTS c).Else-not-counts_fit, le-leb _ _ c.if-self-lt1.false, lt-leb _ _ c.if-self-gt-MAX_RECORD_SEGMENTS.true)
+    rw ((counted (goal.at.returns-then-self-gt-MAX_RECORD_SEGMENTS c).Else-not-counts_fit), le-leb _ _ c.if-self-lt1.false, lt-leb _ _ c.if-self-gt-MAX_RECORD_SEGMENTS.true)
 
 pub bytes_fit-requires : goal.bytes_fit-requires
-bytes_fit-requires c = few c
+bytes_fit-requires c = (few c (counted (goal.at.bytes_fit-requires c).Else-not-counts_fit))
 
 pub returns-then-not-bytes_fit : goal.returns-then-not-bytes_fit
-returns-then-not-bytes_fit c = sym (yes3 (goal.at.returns-then-not-bytes_fit c).Else-self-gt-MAX_RECORD_SEGMENTS ∙ rw (said_no c.bytes_fit.ensures c.if-not-bytes_fit.true))
+returns-then-not-bytes_fit c = sym ((yes3 (goal.at.returns-then-not-bytes_fit c).Else-self-gt-MAX_RECORD_SEGMENTS (counted (goal.at.returns-then-not-bytes_fit c).Else-not-counts_fit)) ∙ rw (said_no c.bytes_fit.ensures c.if-not-bytes_fit.true))
 
 pub bytes_fit-requires-2 : goal.bytes_fit-requires-2
-bytes_fit-requires-2 c = few (goal.at.bytes_fit-requires-2 c).Else-self-gt-MAX_RECORD_SEGMENTS
+bytes_fit-requires-2 c = (few (goal.at.bytes_fit-requires-2 c).Else-self-gt-MAX_RECORD_SEGMENTS (counted (goal.at.bytes_fit-requires-2 c).Else-not-counts_fit))
 
 pub returns-then-not-bytes_fit-2 : goal.returns-then-not-bytes_fit-2
-returns-then-not-bytes_fit-2 c = sym (yes4 (goal.at.returns-then-not-bytes_fit-2 c).Else-not-bytes_fit ∙ rw (said_no c.bytes_fit-2.ensures c.if-not-bytes_fit-2.true))
+returns-then-not-bytes_fit-2 c = sym ((yes4 (goal.at.returns-then-not-bytes_fit-2 c).Else-not-bytes_fit (yes3 (goal.at.returns-then-not-bytes_fit-2 c).Else-self-gt-MAX_RECORD_SEGMENTS (counted (goal.at.returns-then-not-bytes_fit-2 c).Else-not-counts_fit))) ∙ rw (said_no c.bytes_fit-2.ensures c.if-not-bytes_fit-2.true))
 
 pub bytes_fit-requires-3 : goal.bytes_fit-requires-3
-bytes_fit-requires-3 c = few (goal.at.bytes_fit-requires-3 c).Else-self-gt-MAX_RECORD_SEGMENTS
+bytes_fit-requires-3 c = (few (goal.at.bytes_fit-requires-3 c).Else-self-gt-MAX_RECORD_SEGMENTS (counted (goal.at.bytes_fit-requires-3 c).Else-not-counts_fit))
 
 pub returns : goal.returns
 returns c =
-    c.bytes_fit-3.ensures ∙ sym (yes4 (goal.at.returns c).Else-not-bytes_fit ∙ rw (said_yes c.bytes_fit-2.ensures c.if-not-bytes_fit-2.false))
+    c.bytes_fit-3.ensures ∙ sym ((yes4 (goal.at.returns c).Else-not-bytes_fit (yes3 (goal.at.returns c).Else-self-gt-MAX_RECORD_SEGMENTS (counted (goal.at.returns c).Else-not-counts_fit))) ∙ rw (said_yes c.bytes_fit-2.ensures c.if-not-bytes_fit-2.false))

@@ -5,10 +5,7 @@ use Rattle.sets.specs.Lookup.{areas_hold_set, ask_walk, next_entry, view_of, wal
 use Rattle.sets.proofs.Said.{said_no, said_yes}
 use Rattle.sets.proofs.Counts.{set_index}
 use Rattle.sets.proofs.cache.FrozenSegmentCache.next_physical_entry_at_tick.Goals as goal
-use Rattle.sets.proofs.cache.FrozenSegmentCache.next_physical_entry_at_tick.Goals.{After-next_entry-next, After-view, Else-not-areas_hold, In-Found, Start}
-
-abbrev from : Else-not-areas_hold → Start
-from c = c.before.before.before.before.before.before
+use Rattle.sets.proofs.cache.FrozenSegmentCache.next_physical_entry_at_tick.Goals.{After-next_entry-next, Else-not-areas_hold}
 
 held : (c : Else-not-areas_hold) → let a = c.args in
     areas_hold_set a.self (length a.index.now) (length a.starts.now) (length a.lengths.now) (length a.arena.now) ≡ true
@@ -30,9 +27,9 @@ next_entry-next-requires c = set_index _ _ _ _ _ (held (goal.at.next_entry-next-
 pub returns-in_default : goal.returns-in_default
 unfolding walk_answer ask_walk
 returns-in_default c =
-    (rw (held (goal.at.returns-in_default c).Else-not-areas_hold, walked (goal.at.returns-in_default c).After-next_entry-next ∙ c.in_default.is), refl)
+    (rw ((held (goal.at.returns-in_default c).Else-not-areas_hold), (walked (goal.at.returns-in_default c).After-next_entry-next) ∙ c.in_default.is), refl)
 
 pub returns : goal.returns
 unfolding walk_answer ask_walk
 returns c =
-    (rw (held (goal.at.returns c).After-view, walked (goal.at.returns c).In-Found ∙ c.in-Found.is, c.base_record.ensures), refl)
+    (rw ((held (goal.at.returns c).Else-not-areas_hold), (walked (goal.at.returns c).After-next_entry-next) ∙ c.in-Found.is, c.base_record.ensures), refl)

@@ -4,10 +4,7 @@ use Rattle.sets.specs.Lookup.{after_get, after_peek, ask_lookup, find_of}
 use Rattle.sets.proofs.Said.{said_no, said_yes}
 use Rattle.sets.proofs.Finding.{Held, got}
 use Rattle.sets.proofs.cache.FrozenSegmentCache.peek_at_tick.Goals as goal
-use Rattle.sets.proofs.cache.FrozenSegmentCache.peek_at_tick.Goals.{After-find-answer, Else-not-lookup_areas_hold, Start}
-
-abbrev from : Else-not-lookup_areas_hold → Start
-from c = c.before.before.before.before.before.before.before.before
+use Rattle.sets.proofs.cache.FrozenSegmentCache.peek_at_tick.Goals.{After-find-answer, Else-not-lookup_areas_hold}
 
 held : (c : Else-not-lookup_areas_hold) → let a = c.args in Held a.self a.index.now a.filter.now a.starts.now a.lengths.now a.arena.now
 held c = said_yes c.lookup_areas_hold.ensures c.if-not-lookup_areas_hold.false
@@ -23,9 +20,9 @@ returns-then-not-lookup_areas_hold c = rw (said_no c.lookup_areas_hold.ensures c
 pub returns-in_default : goal.returns-in_default
 unfolding after_peek after_get ask_lookup
 returns-in_default c =
-    rw (held (goal.at.returns-in_default c).Else-not-lookup_areas_hold, found (goal.at.returns-in_default c).After-find-answer ∙ c.in_default.is)
+    rw ((held (goal.at.returns-in_default c).Else-not-lookup_areas_hold), (found (goal.at.returns-in_default c).After-find-answer) ∙ c.in_default.is)
 
 pub returns : goal.returns
 unfolding after_peek after_get ask_lookup
 returns c =
-    rw (held (goal.at.returns c).Else-not-lookup_areas_hold, found (goal.at.returns c).After-find-answer ∙ c.in-Found.is) (got c.live_value.ensures refl)
+    rw ((held (goal.at.returns c).Else-not-lookup_areas_hold), (found (goal.at.returns c).After-find-answer) ∙ c.in-Found.is) (got c.live_value.ensures refl)

@@ -13,16 +13,16 @@ use Rattle.sets.proofs.cache.FrozenSegmentCache.stats.Goals.{Else-not-fits}
 few : (c : Else-not-fits) → let b = c.args.self in (b.buckets ≤ 1048582) × (b.filter_words ≤ 4194304)
 few c =
     let b = c.args.self in
-    let counts = set_counts b (said_yes c.fits2.ensures c.if-not-fits.false) in
-    let bits : b.config.negative_filter_bits_per_entry < 256 = omega (arith, c.struct_known-1.given) in
+    let counts = set_counts b (said_yes c.fits.ensures c.if-not-fits.false) in
+    let bits : b.config.negative_filter_bits_per_entry < 256 = omega arith in
     (few_buckets _ _ _ _ counts, few_words _ _ _ _ counts bits)
 
 pub returns-then-not-fits : goal.returns-then-not-fits
 unfolding stats_answer ask_stats
-returns-then-not-fits c = rw (said_no c.fits2.ensures c.if-not-fits.true)
+returns-then-not-fits c = rw (said_no c.fits.ensures c.if-not-fits.true)
 
 pub overflow_mul-result : goal.overflow_mul-result
-overflow_mul-result c = omega (arith, (few c).0)
+overflow_mul-result c = omega (arith, (few (goal.at.overflow_mul-result c).Else-not-fits).0)
 
 pub overflow_mul-result-2 : goal.overflow_mul-result-2
 overflow_mul-result-2 c = omega (arith, (few (goal.at.overflow_mul-result-2 c).Else-not-fits).0)
@@ -31,9 +31,9 @@ pub overflow_mul-result-3 : goal.overflow_mul-result-3
 overflow_mul-result-3 c = omega (arith, (few (goal.at.overflow_mul-result-3 c).Else-not-fits).1)
 
 pub overflow_add-result : goal.overflow_add-result
-overflow_add-result c = omega (arith, few (goal.at.overflow_add-result c).Else-not-fits)
+overflow_add-result c = omega (arith, (few (goal.at.overflow_add-result c).Else-not-fits))
 
 pub returns : goal.returns
 unfolding stats_answer ask_stats
 returns c =
-    rw (said_yes c.fits2.ensures c.if-not-fits.false) (ap (λ (n : SegmentCacheStats). accept n) (stats_made c.args.self))
+    rw (said_yes c.fits.ensures c.if-not-fits.false) (ap (λ (n : SegmentCacheStats). accept n) (stats_made c.args.self))

@@ -7,8 +7,7 @@ use Rattle.sets.proofs.KeptWords.{bits_ones, count_next_word}
 use Rattle.sets.proofs.kept.KeptSegments.kept_in_words.Goals as goal
 use Rattle.sets.proofs.kept.KeptSegments.kept_in_words.Goals.{After-word}
 
-counted : (c : After-word)
-    → let w = get_or (kept_words c.before.before.before.args.self) c.before.before.loop-at.at 0 in (ones c.word.result ≡ count_true (bits_of 64 w)) × (ones c.word.result ≤ 64)
+counted : (c : After-word) → let w = get_or (kept_words c.args.self) c.loop-at.at 0 in (ones c.word.result ≡ count_true (bits_of 64 w)) × (ones c.word.result ≤ 64)
 counted c =
     let w = c.word.result in
     (ap ones (sym (mod-eq_of_lt c.word.type_inv)) ∙ bits_ones 64 w ∙ ap (λ (x : ℕ). count_true (bits_of 64 x)) c.word.ensures, ones-le 64 w c.word.type_inv)

@@ -16,7 +16,10 @@ counted c =
 pub overflow_add-result : goal.overflow_add-result
 overflow_add-result c =
     let a = c.args in
-    omega (arith, counted c, new_number_256 a.self a.segment)
+    omega (arith, (counted c), new_number_256 a.self a.segment)
 
 pub kept_in_words-requires : goal.kept_in_words-requires
 kept_in_words-requires c = omega (arith, c.requires)
+
+pub returns : goal.returns
+returns c = counted (goal.at.returns c).After-set_bits

@@ -10,10 +10,10 @@ few c =
     omega (arith, adds_below _ (sym c.adds_segment.ensures ∙ c.if-adds_segment.true) c.requires.2, c.retained-last.ensures)
 
 pub bounds-starts-last : goal.bounds-starts-last
-bounds-starts-last c = omega (arith, few c)
+bounds-starts-last c = omega (arith, (few c))
 
 pub bounds-lengths-last : goal.bounds-lengths-last
-bounds-lengths-last c = omega (arith, few c)
+bounds-lengths-last c = omega (arith, (few c))
 
 pub returns-then-adds_segment : goal.returns-then-adds_segment
 returns-then-adds_segment c =

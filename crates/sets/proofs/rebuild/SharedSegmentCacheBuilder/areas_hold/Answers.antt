@@ -8,10 +8,7 @@ use Rattle.sets.proofs.Said.{said_no, said_yes}
 use Rattle.sets.proofs.KeptBits.{retained_256}
 use Rattle.sets.proofs.RebuildSteps.{areas_256, arena_held}
 use Rattle.sets.proofs.rebuild.SharedSegmentCacheBuilder.areas_hold.Goals as goal
-use Rattle.sets.proofs.rebuild.SharedSegmentCacheBuilder.areas_hold.Goals.{Else-index_len-self, Else-not-segment_areas_hold, Start}
-
-abbrev from : Else-index_len-self → Start
-from c = c.before.before.before.before.before.before
+use Rattle.sets.proofs.rebuild.SharedSegmentCacheBuilder.areas_hold.Goals.{Else-index_len-self, Else-not-segment_areas_hold}
 
 segments : (c : Else-not-segment_areas_hold) → let a = c.args in segment_areas_hold (length a.starts.now) (length a.lengths.now) ≡ true
 segments c = said_yes c.segment_areas_hold.ensures c.if-not-segment_areas_hold.false
@@ -28,25 +25,25 @@ unfolding areas_hold_rebuild
 yes2 c =
     let a = c.args in
     let long : 8 * a.self.bucket_count ≤ a.index_len = omega (arith, c.if-index_len-self.false) in
-    rw (said_yes c.fits2.ensures c.if-not-fits.false, le-leb _ _ long)
+    rw (said_yes c.fits.ensures c.if-not-fits.false, le-leb _ _ long)
 
 pub returns-then-not-fits : goal.returns-then-not-fits
 unfolding areas_hold_rebuild
-returns-then-not-fits c = rw (said_no c.fits2.ensures c.if-not-fits.true)
+returns-then-not-fits c = rw (said_no c.fits.ensures c.if-not-fits.true)
 
 pub returns-then-index_len-self : goal.returns-then-index_len-self
 unfolding areas_hold_rebuild
 returns-then-index_len-self c =
     let a = c.args in
     let short : a.index_len < 8 * a.self.bucket_count = omega (arith, c.if-index_len-self.true) in
-    rw (said_yes c.fits2.ensures c.if-not-fits.false, lt-leb _ _ short)
+    rw (said_yes c.fits.ensures c.if-not-fits.false, lt-leb _ _ short)
 
 pub returns-then-not-segment_areas_hold : goal.returns-then-not-segment_areas_hold
-returns-then-not-segment_areas_hold c = sym (yes2 (goal.at.returns-then-not-segment_areas_hold c).Else-index_len-self ∙ rw (said_no c.segment_areas_hold.ensures c.if-not-segment_areas_hold.true))
+returns-then-not-segment_areas_hold c = sym ((yes2 (goal.at.returns-then-not-segment_areas_hold c).Else-index_len-self) ∙ rw (said_no c.segment_areas_hold.ensures c.if-not-segment_areas_hold.true))
 
 pub returns-then-not-arena_holds_both : goal.returns-then-not-arena_holds_both
 returns-then-not-arena_holds_both c =
-    sym (yes2 (goal.at.returns-then-not-arena_holds_both c).Else-index_len-self ∙ rw (segments (goal.at.returns-then-not-arena_holds_both c).Else-not-segment_areas_hold, said_no c.arena_holds_both.ensures c.if-not-arena_holds_both.true))
+    sym ((yes2 (goal.at.returns-then-not-arena_holds_both c).Else-index_len-self) ∙ rw ((segments (goal.at.returns-then-not-arena_holds_both c).Else-not-segment_areas_hold), said_no c.arena_holds_both.ensures c.if-not-arena_holds_both.true))
 
 pub overflow_add-source_filled : goal.overflow_add-source_filled
 overflow_add-source_filled c =
@@ -54,7 +51,7 @@ overflow_add-source_filled c =
 
 pub segments_inside-requires : goal.segments_inside-requires
 segments_inside-requires c =
-    let a = c.args in
+    let a = (c.before.before).args in
     let held = areas_256 _ _ (segments (goal.at.segments_inside-requires c).Else-not-segment_areas_hold) in
     let few : c.retained.result ≤ 256 = omega (arith, c.retained.ensures, retained_256 a.self.kept) in
     (omega (arith, held.0), omega (arith, held.1))
@@ -62,4 +59,4 @@ segments_inside-requires c =
 pub returns : goal.returns
 returns c =
     let held = said_yes c.arena_holds_both.ensures c.if-not-arena_holds_both.false in
-    sym (yes2 (goal.at.returns c).Else-index_len-self ∙ rw (segments (goal.at.returns c).Else-not-segment_areas_hold, held, ← c.retained.ensures) (sym c.segments_inside.ensures))
+    sym ((yes2 (goal.at.returns c).Else-index_len-self) ∙ rw ((segments (goal.at.returns c).Else-not-segment_areas_hold), held, ← c.retained.ensures) (sym c.segments_inside.ensures))

@@ -7,11 +7,7 @@ use Rattle.sets.specs.Rebuild.{copied_location, copied_size, rebuild_filled}
 use Rattle.sets.proofs.Appends.{appended, size_holds}
 use Rattle.sets.proofs.RebuildSteps.{copied_left_law}
 use Rattle.sets.proofs.rebuild.SharedSegmentCacheBuilder.copied_at.Goals as goal
-use Rattle.sets.proofs.rebuild.SharedSegmentCacheBuilder.copied_at.Goals.{After-append_record-size, Start}
-
--- the start, from where the record is written
-abbrev from : After-append_record-size → Start
-from c = c.before.before.before.before.before.before.before.before.before
+use Rattle.sets.proofs.rebuild.SharedSegmentCacheBuilder.copied_at.Goals.{After-append_record-size}
 
 -- the record is written whole
 wrote : (c : After-append_record-size) → let a = c.args in

@@ -10,27 +10,26 @@ use Rattle.sets.proofs.Counts.{counts_records}
 use Rattle.sets.proofs.KeptBits.{retained_256}
 use Rattle.sets.proofs.RebuildSteps.{segment_most}
 use Rattle.sets.proofs.rebuild.SharedSegmentCacheBuilder.fits.Goals as goal
-use Rattle.sets.proofs.rebuild.SharedSegmentCacheBuilder.fits.Goals.{After-segment_for, Else-inserted-self, Else-not-bytes_fit, Else-not-counts_fit, Else-retained-segment_for-gt-MAX_RECORD_SEGMENTS, Start}
-
-abbrev from : Else-inserted-self → Start
-from c = c.before.before.before.before
+use Rattle.sets.proofs.rebuild.SharedSegmentCacheBuilder.fits.Goals.{After-segment_for, Else-inserted-self, Else-not-bytes_fit, Else-not-counts_fit, Else-retained-segment_for-gt-MAX_RECORD_SEGMENTS}
 
 counted : (c : Else-not-counts_fit) → let r = c.args.self in counts_fit r.config r.expected_entries r.bucket_count r.filter_words ≡ true
 counted c = said_yes c.counts_fit.ensures c.if-not-counts_fit.false
 
-few : (c : Else-inserted-self) → c.args.self.inserted_entries ≤ 1_048_576
-few c = omega (arith, c.if-inserted-self.false, counts_records _ _ _ _ (counted c.before.before))
+few : (c : Else-inserted-self)
+    → (let r = c.args.self in counts_fit r.config r.expected_entries r.bucket_count r.filter_words ≡ true)
+    → c.args.self.inserted_entries ≤ 1_048_576
+few c h_counted = omega (arith, c.if-inserted-self.false, counts_records _ _ _ _ h_counted)
 
 -- the segments that it asks for
 segments : (c : After-segment_for) → let r = c.args.self in
     c.retained.result + c.segment_for.result ≡ retained r.kept + segment_for r.copied_bytes
 segments c = omega (arith, c.retained.ensures, c.segment_for.ensures)
 
--- what is left to ask after the third question, and after those that follow
-abbrev self : Else-retained-segment_for-gt-MAX_RECORD_SEGMENTS → SharedSegmentCacheBuilder
-self c = c.args.self
-
-yes3 : (c : Else-retained-segment_for-gt-MAX_RECORD_SEGMENTS) → let r = self c in
+yes3 : (c : Else-retained-segment_for-gt-MAX_RECORD_SEGMENTS)
+    → (let r = c.args.self in counts_fit r.config r.expected_entries r.bucket_count r.filter_words ≡ true)
+    → (let r = c.args.self in
+    c.retained.result + c.segment_for.result ≡ retained r.kept + segment_for r.copied_bytes)
+    → let r = c.args.self in
     rebuild_fits r
     ≡ all
     (bytes_fit r.inserted_entries r.logical_key_bytes
@@ -38,12 +37,20 @@ yes3 : (c : Else-retained-segment_for-gt-MAX_RECORD_SEGMENTS) → let r = self c
     ∷ bytes_fit r.inserted_entries r.record_header_bytes
     ∷ [])
 unfolding rebuild_fits
-yes3 c =
-    rw (counted c.before.before.before.before.before.before, le-leb _ _ c.if-inserted-self.false, ← segments c.before, le-leb _ _ c.if-retained-segment_for-gt-MAX_RECORD_SEGMENTS.false)
+yes3 c h_counted h_segments =
+    rw (h_counted, le-leb _ _ c.if-inserted-self.false, ← h_segments, le-leb _ _ c.if-retained-segment_for-gt-MAX_RECORD_SEGMENTS.false)
 
-yes4 : (c : Else-not-bytes_fit) → let r = self c.before.before in
+yes4 : (c : Else-not-bytes_fit)
+    → (let r = c.args.self in
+    rebuild_fits r
+    ≡ all
+    (bytes_fit r.inserted_entries r.logical_key_bytes
+    ∷ bytes_fit r.inserted_entries r.logical_value_bytes
+    ∷ bytes_fit r.inserted_entries r.record_header_bytes
+    ∷ []))
+    → let r = c.args.self in
     rebuild_fits r ≡ all (bytes_fit r.inserted_entries r.logical_value_bytes ∷ bytes_fit r.inserted_entries r.record_header_bytes ∷ [])
-yes4 c = yes3 c.before.before ∙ rw (said_yes c.bytes_fit.ensures c.if-not-bytes_fit.false)
+yes4 c h_yes3 = h_yes3 ∙ rw (said_yes c.bytes_fit.ensures c.if-not-bytes_fit.false)
 
 pub returns-then-not-counts_fit : goal.returns-then-not-counts_fit
 unfolding rebuild_fits
@@ -51,7 +58,7 @@ returns-then-not-counts_fit c = rw (said_no c.counts_fit.ensures c.if-not-counts
 
 pub returns-then-inserted-self : goal.returns-then-inserted-self
 unfolding rebuild_fits
-returns-then-inserted-self c = rw (counted (goal.at.returns-then-inserted-self c).Else-not-counts_fit, lt-leb _ _ c.if-inserted-self.true)
+returns-then-inserted-self c = rw ((counted (goal.at.returns-then-inserted-self c).Else-not-counts_fit), lt-leb _ _ c.if-inserted-self.true)
 
 pub overflow_add-retained : goal.overflow_add-retained
 overflow_add-retained c =
@@ -61,23 +68,23 @@ overflow_add-retained c =
 pub returns-then-retained-segment_for-gt-MAX_RECORD_SEGMENTS : goal.returns-then-retained-segment_for-gt-MAX_RECORD_SEGMENTS
 unfolding rebuild_fits
 returns-then-retained-segment_for-gt-MAX_RECORD_SEGMENTS c =
-    rw (counted (goal.at.returns-then-retained-segment_for-gt-MAX_RECORD_SEGMENTS c).Else-not-counts_fit, le-leb _ _ c.if-inserted-self.false, ← segments (goal.at.returns-then-retained-segment_for-gt-MAX_RECORD_SEGMENTS c).After-segment_for, lt-leb _ _ c.if-retained-segment_for-gt-MAX_RECORD_SEGMENTS.true)
+    rw ((counted (goal.at.returns-then-retained-segment_for-gt-MAX_RECORD_SEGMENTS c).Else-not-counts_fit), le-leb _ _ c.if-inserted-self.false, ← (segments (goal.at.returns-then-retained-segment_for-gt-MAX_RECORD_SEGMENTS c).After-segment_for), lt-leb _ _ c.if-retained-segment_for-gt-MAX_RECORD_SEGMENTS.true)
 
 pub bytes_fit-requires : goal.bytes_fit-requires
-bytes_fit-requires c = few (goal.at.bytes_fit-requires c).Else-inserted-self
+bytes_fit-requires c = (few (goal.at.bytes_fit-requires c).Else-inserted-self (counted (goal.at.bytes_fit-requires c).Else-not-counts_fit))
 
 pub returns-then-not-bytes_fit : goal.returns-then-not-bytes_fit
-returns-then-not-bytes_fit c = sym (yes3 (goal.at.returns-then-not-bytes_fit c).Else-retained-segment_for-gt-MAX_RECORD_SEGMENTS ∙ rw (said_no c.bytes_fit.ensures c.if-not-bytes_fit.true))
+returns-then-not-bytes_fit c = sym ((yes3 (goal.at.returns-then-not-bytes_fit c).Else-retained-segment_for-gt-MAX_RECORD_SEGMENTS (counted (goal.at.returns-then-not-bytes_fit c).Else-not-counts_fit) (segments (goal.at.returns-then-not-bytes_fit c).After-segment_for)) ∙ rw (said_no c.bytes_fit.ensures c.if-not-bytes_fit.true))
 
 pub bytes_fit-requires-2 : goal.bytes_fit-requires-2
-bytes_fit-requires-2 c = few (goal.at.bytes_fit-requires-2 c).Else-inserted-self
+bytes_fit-requires-2 c = (few (goal.at.bytes_fit-requires-2 c).Else-inserted-self (counted (goal.at.bytes_fit-requires-2 c).Else-not-counts_fit))
 
 pub returns-then-not-bytes_fit-2 : goal.returns-then-not-bytes_fit-2
-returns-then-not-bytes_fit-2 c = sym (yes4 (goal.at.returns-then-not-bytes_fit-2 c).Else-not-bytes_fit ∙ rw (said_no c.bytes_fit-2.ensures c.if-not-bytes_fit-2.true))
+returns-then-not-bytes_fit-2 c = sym ((yes4 (goal.at.returns-then-not-bytes_fit-2 c).Else-not-bytes_fit (yes3 (goal.at.returns-then-not-bytes_fit-2 c).Else-retained-segment_for-gt-MAX_RECORD_SEGMENTS (counted (goal.at.returns-then-not-bytes_fit-2 c).Else-not-counts_fit) (segments (goal.at.returns-then-not-bytes_fit-2 c).After-segment_for))) ∙ rw (said_no c.bytes_fit-2.ensures c.if-not-bytes_fit-2.true))
 
 pub bytes_fit-requires-3 : goal.bytes_fit-requires-3
-bytes_fit-requires-3 c = few (goal.at.bytes_fit-requires-3 c).Else-inserted-self
+bytes_fit-requires-3 c = (few (goal.at.bytes_fit-requires-3 c).Else-inserted-self (counted (goal.at.bytes_fit-requires-3 c).Else-not-counts_fit))
 
 pub returns : goal.returns
 returns c =
-    c.bytes_fit-3.ensures ∙ sym (yes4 (goal.at.returns c).Else-not-bytes_fit ∙ rw (said_yes c.bytes_fit-2.ensures c.if-not-bytes_fit-2.false))
+    c.bytes_fit-3.ensures ∙ sym ((yes4 (goal.at.returns c).Else-not-bytes_fit (yes3 (goal.at.returns c).Else-retained-segment_for-gt-MAX_RECORD_SEGMENTS (counted (goal.at.returns c).Else-not-counts_fit) (segments (goal.at.returns c).After-segment_for))) ∙ rw (said_yes c.bytes_fit-2.ensures c.if-not-bytes_fit-2.false))

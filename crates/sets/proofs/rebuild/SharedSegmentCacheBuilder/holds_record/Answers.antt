@@ -24,9 +24,9 @@ view-requires c = c.requires.1
 
 pub returns-in_default : goal.returns-in_default
 unfolding holds_record
-returns-in_default c = rw (shown (goal.at.returns-in_default c).After-record_at_location-read ∙ c.in_default.is)
+returns-in_default c = rw ((shown (goal.at.returns-in_default c).After-record_at_location-read) ∙ c.in_default.is)
 
 pub returns : goal.returns
 unfolding holds_record
 returns c =
-    rw (shown (goal.at.returns c).After-record_at_location-read ∙ c.in-Read.is) c.same_record.ensures
+    rw ((shown (goal.at.returns c).After-record_at_location-read) ∙ c.in-Read.is) c.same_record.ensures

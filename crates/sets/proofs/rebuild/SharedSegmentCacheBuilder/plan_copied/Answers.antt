@@ -13,6 +13,19 @@ use Rattle.sets.proofs.Said.{Past, said_no, said_yes}
 use Rattle.sets.proofs.rebuild.SharedSegmentCacheBuilder.plan_copied.Goals as goal
 use Rattle.sets.proofs.rebuild.SharedSegmentCacheBuilder.plan_copied.Goals.{After-plan_room, Else-filter_len-self, Else-not-areas_hold, Else-not-lifetime_fits, Else-self, Start}
 
+-- the start of the call
+abbrev from_else_not_areas_hold : Else-not-areas_hold → Start
+from_else_not_areas_hold c = c.before.before.before.before.before.before
+
+abbrev from_else_filter_len_self : Else-filter_len-self → Start
+from_else_filter_len_self c = c.before.before.before.before.before.before.before.before
+
+abbrev from_else_not_lifetime_fits : Else-not-lifetime_fits → Start
+from_else_not_lifetime_fits c = c.before.before.before.before.before.before.before.before.before.before
+
+abbrev from_else_self : Else-self → Start
+from_else_self c = c.before.before.before.before.before.before.before.before.before.before.before.before
+
 -- the first n questions are answered yes
 abbrev Yes : ℕ → Start → Type 0
 Yes n s =
@@ -20,34 +33,33 @@ Yes n s =
     Past (plan {A = ℕ × ℕ} ((empty_slot a.index.now a.self.bucket_count a.hash).value, (copied_deadline a.self a.ttl).value)) n
     (ask_copied a.self a.hash a.key_bytes a.value_bytes a.ttl a.index.now a.filter_len a.starts.now a.lengths.now a.arena_len)
 
--- from after the fourth question to after the first, and from there to the start
-abbrev first : Else-self → Else-not-areas_hold
-first c = c.before.before.before.before.before.before
-
-abbrev from : Else-not-areas_hold → Start
-from c = c.before.before.before.before.before
-
 held : (c : Else-not-areas_hold) → let a = c.args in areas_hold_rebuild a.self (length a.index.now) a.starts.now a.lengths.now a.arena_len ≡ true
 held c = said_yes c.areas_hold.ensures c.if-not-areas_hold.false
 
-yes1 : (c : Else-not-areas_hold) → Yes 1 (from c)
+yes1 : (c : Else-not-areas_hold) → Yes 1 (from_else_not_areas_hold c)
 unfolding ask_copied
 yes1 c = rw (held c)
 
-yes2 : (c : Else-filter_len-self) → Yes 2 (from c.before.before)
+yes2 : (c : Else-filter_len-self)
+    → (Yes 1 (from_else_filter_len_self c))
+    → Yes 2 (from_else_filter_len_self c)
 unfolding ask_copied
-yes2 c = yes1 c.before.before ∙ rw (le-leb _ _ c.if-filter_len-self.false)
+yes2 c h_yes1 = h_yes1 ∙ rw (le-leb _ _ c.if-filter_len-self.false)
 
-yes3 : (c : Else-not-lifetime_fits) → Yes 3 (from c.before.before.before.before)
+yes3 : (c : Else-not-lifetime_fits)
+    → (Yes 2 (from_else_not_lifetime_fits c))
+    → Yes 3 (from_else_not_lifetime_fits c)
 unfolding ask_copied
-yes3 c = yes2 c.before.before ∙ rw (said_yes c.lifetime_fits.ensures c.if-not-lifetime_fits.false)
+yes3 c h_yes2 = h_yes2 ∙ rw (said_yes c.lifetime_fits.ensures c.if-not-lifetime_fits.false)
 
-yes4 : (c : Else-self) → Yes 4 (from (first c))
+yes4 : (c : Else-self)
+    → (Yes 3 (from_else_self c))
+    → Yes 4 (from_else_self c)
 unfolding ask_copied
-yes4 c = yes3 c.before.before ∙ rw (lt-ltb _ _ c.if-self.false)
+yes4 c h_yes3 = h_yes3 ∙ rw (lt-ltb _ _ c.if-self.false)
 
 -- what the rest of the plan comes to
-rest : (c : After-plan_room) → let a = (from (first c.before.before.before.before.before.before)).args in
+rest : (c : After-plan_room) → let a = c.args in
     plan_room a.self c.in-At.expires_at a.hash a.key_bytes a.value_bytes a.index.now a.arena_len ≡ planned c.plan_room.result
 rest c = sym c.plan_room.ensures
 
@@ -57,23 +69,22 @@ returns-then-not-areas_hold c = rw (said_no c.areas_hold.ensures c.if-not-areas_
 
 pub returns-then-filter_len-self : goal.returns-then-filter_len-self
 unfolding plan_copied ask_copied plan_room ask_room
-returns-then-filter_len-self c = sym (yes1 (goal.at.returns-then-filter_len-self c).Else-not-areas_hold ∙ rw (lt-leb _ _ c.if-filter_len-self.true))
+returns-then-filter_len-self c = sym ((yes1 (goal.at.returns-then-filter_len-self c).Else-not-areas_hold) ∙ rw (lt-leb _ _ c.if-filter_len-self.true))
 
 pub returns-then-not-lifetime_fits : goal.returns-then-not-lifetime_fits
 unfolding plan_copied ask_copied plan_room ask_room
-returns-then-not-lifetime_fits c = sym (yes2 (goal.at.returns-then-not-lifetime_fits c).Else-filter_len-self ∙ rw (said_no c.lifetime_fits.ensures c.if-not-lifetime_fits.true))
+returns-then-not-lifetime_fits c = sym ((yes2 (goal.at.returns-then-not-lifetime_fits c).Else-filter_len-self (yes1 (goal.at.returns-then-not-lifetime_fits c).Else-not-areas_hold)) ∙ rw (said_no c.lifetime_fits.ensures c.if-not-lifetime_fits.true))
 
 pub returns-then-self : goal.returns-then-self
 unfolding plan_copied ask_copied plan_room ask_room
-returns-then-self c = sym (yes3 (goal.at.returns-then-self c).Else-not-lifetime_fits ∙ rw (le-ltb _ _ c.if-self.true))
+returns-then-self c = sym ((yes3 (goal.at.returns-then-self c).Else-not-lifetime_fits (yes2 (goal.at.returns-then-self c).Else-filter_len-self (yes1 (goal.at.returns-then-self c).Else-not-areas_hold))) ∙ rw (le-ltb _ _ c.if-self.true))
 
 pub returns-in_default : goal.returns-in_default
 unfolding plan_copied ask_copied plan_room ask_room
 returns-in_default c =
-    let told = c.enum_told-1 in
-    let none = sym c.encode_expiry_at_tick-deadline.ensures ∙ ap expiry_outcome told.given.1 in
-    rw (c.deadline_refusal.ensures ∙ ap deadline_refusal told.given.1)
-    (sym (yes4 (goal.at.returns-in_default c).Else-self ∙ rw none (own_refused told.given.0.0 _ _ _)))
+    let none = sym c.encode_expiry_at_tick-deadline.ensures ∙ ap expiry_outcome c.in_default.is in
+    rw (c.deadline_refusal.ensures ∙ ap deadline_refusal c.in_default.is)
+    (sym ((yes4 (goal.at.returns-in_default c).Else-self (yes3 (goal.at.returns-in_default c).Else-not-lifetime_fits (yes2 (goal.at.returns-in_default c).Else-filter_len-self (yes1 (goal.at.returns-in_default c).Else-not-areas_hold)))) ∙ rw none (own_refused c.in_default.field-0 _ _ _)))
 
 pub plan_room-requires : goal.plan_room-requires
 plan_room-requires c = (rebuild_areas_asked _ _ _ _ _ (held (goal.at.plan_room-requires c).Else-not-areas_hold)).filled_held
@@ -82,4 +93,4 @@ pub returns : goal.returns
 unfolding plan_copied ask_copied plan_room ask_room
 returns c =
     let at = sym c.encode_expiry_at_tick-deadline.ensures ∙ ap expiry_outcome c.in-At.is in
-    sym (yes4 (goal.at.returns c).Else-self ∙ rw at (rest c))
+    sym ((yes4 (goal.at.returns c).Else-self (yes3 (goal.at.returns c).Else-not-lifetime_fits (yes2 (goal.at.returns c).Else-filter_len-self (yes1 (goal.at.returns c).Else-not-areas_hold)))) ∙ rw at (rest c))

@@ -10,6 +10,22 @@ use Rattle.sets.proofs.Said.{Past, said_no, said_yes}
 use Rattle.sets.proofs.rebuild.SharedSegmentCacheBuilder.plan_reused.Goals as goal
 use Rattle.sets.proofs.rebuild.SharedSegmentCacheBuilder.plan_reused.Goals.{Else-filter_len-self, Else-not-areas_hold, Else-not-holds_record, Else-not-is_kept, Else-self, Start}
 
+-- the start of the call
+abbrev from_else_not_areas_hold : Else-not-areas_hold → Start
+from_else_not_areas_hold c = c.before.before.before.before.before.before.before.before.before
+
+abbrev from_else_filter_len_self : Else-filter_len-self → Start
+from_else_filter_len_self c = c.before.before.before.before.before.before.before.before.before.before.before
+
+abbrev from_else_self : Else-self → Start
+from_else_self c = c.before.before.before.before.before.before.before.before.before.before.before.before.before
+
+abbrev from_else_not_is_kept : Else-not-is_kept → Start
+from_else_not_is_kept c = c.before.before.before.before.before.before.before.before.before.before.before.before.before.before.before.before.before
+
+abbrev from_else_not_holds_record : Else-not-holds_record → Start
+from_else_not_holds_record c = c.before.before.before.before.before.before.before.before.before.before.before.before.before.before.before.before.before.before.before
+
 -- the first n questions are answered yes
 abbrev Yes : ℕ → Start → Type 0
 Yes n s =
@@ -17,35 +33,36 @@ Yes n s =
     Past (plan (empty_slot a.index.now a.self.bucket_count a.hash).value) n
     (ask_reused a.self a.hash a.key.now a.value.now a.source a.index.now a.filter_len a.starts.now a.lengths.now a.arena.now)
 
--- from after the fourth question to after the first, and from there to the start
-abbrev first : Else-not-is_kept → Else-not-areas_hold
-first c = c.before.before.before.before.before.before.before.before
-
-abbrev from : Else-not-areas_hold → Start
-from c = c.before.before.before.before.before.before.before.before
-
 held : (c : Else-not-areas_hold) → let a = c.args in areas_hold_rebuild a.self (length a.index.now) a.starts.now a.lengths.now (length a.arena.now) ≡ true
 held c = said_yes c.areas_hold.ensures c.if-not-areas_hold.false
 
-yes1 : (c : Else-not-areas_hold) → Yes 1 (from c)
+yes1 : (c : Else-not-areas_hold) → Yes 1 (from_else_not_areas_hold c)
 unfolding ask_reused
 yes1 c = rw (held c)
 
-yes2 : (c : Else-filter_len-self) → Yes 2 (from c.before.before)
+yes2 : (c : Else-filter_len-self)
+    → (Yes 1 (from_else_filter_len_self c))
+    → Yes 2 (from_else_filter_len_self c)
 unfolding ask_reused
-yes2 c = yes1 c.before.before ∙ rw (le-leb _ _ c.if-filter_len-self.false)
+yes2 c h_yes1 = h_yes1 ∙ rw (le-leb _ _ c.if-filter_len-self.false)
 
-yes3 : (c : Else-self) → Yes 3 (from c.before.before.before.before)
+yes3 : (c : Else-self)
+    → (Yes 2 (from_else_self c))
+    → Yes 3 (from_else_self c)
 unfolding ask_reused
-yes3 c = yes2 c.before.before ∙ rw (lt-ltb _ _ c.if-self.false)
+yes3 c h_yes2 = h_yes2 ∙ rw (lt-ltb _ _ c.if-self.false)
 
-yes4 : (c : Else-not-is_kept) → Yes 4 (from (first c))
+yes4 : (c : Else-not-is_kept)
+    → (Yes 3 (from_else_not_is_kept c))
+    → Yes 4 (from_else_not_is_kept c)
 unfolding ask_reused
-yes4 c = yes3 c.before.before.before.before ∙ rw (said_yes c.is_kept.ensures c.if-not-is_kept.false)
+yes4 c h_yes3 = h_yes3 ∙ rw (said_yes c.is_kept.ensures c.if-not-is_kept.false)
 
-yes5 : (c : Else-not-holds_record) → Yes 5 (from (first c.before.before))
+yes5 : (c : Else-not-holds_record)
+    → (Yes 4 (from_else_not_holds_record c))
+    → Yes 5 (from_else_not_holds_record c)
 unfolding ask_reused
-yes5 c = yes4 c.before.before ∙ rw (said_yes c.holds_record.ensures c.if-not-holds_record.false)
+yes5 c h_yes4 = h_yes4 ∙ rw (said_yes c.holds_record.ensures c.if-not-holds_record.false)
 
 pub returns-then-not-areas_hold : goal.returns-then-not-areas_hold
 unfolding plan_reused ask_reused
@@ -53,15 +70,15 @@ returns-then-not-areas_hold c = rw (said_no c.areas_hold.ensures c.if-not-areas_
 
 pub returns-then-filter_len-self : goal.returns-then-filter_len-self
 unfolding plan_reused ask_reused
-returns-then-filter_len-self c = sym (yes1 (goal.at.returns-then-filter_len-self c).Else-not-areas_hold ∙ rw (lt-leb _ _ c.if-filter_len-self.true))
+returns-then-filter_len-self c = sym ((yes1 (goal.at.returns-then-filter_len-self c).Else-not-areas_hold) ∙ rw (lt-leb _ _ c.if-filter_len-self.true))
 
 pub returns-then-self : goal.returns-then-self
 unfolding plan_reused ask_reused
-returns-then-self c = sym (yes2 (goal.at.returns-then-self c).Else-filter_len-self ∙ rw (le-ltb _ _ c.if-self.true))
+returns-then-self c = sym ((yes2 (goal.at.returns-then-self c).Else-filter_len-self (yes1 (goal.at.returns-then-self c).Else-not-areas_hold)) ∙ rw (le-ltb _ _ c.if-self.true))
 
 pub returns-then-not-is_kept : goal.returns-then-not-is_kept
 unfolding plan_reused ask_reused
-returns-then-not-is_kept c = sym (yes3 (goal.at.returns-then-not-is_kept c).Else-self ∙ rw (said_no c.is_kept.ensures c.if-not-is_kept.true))
+returns-then-not-is_kept c = sym ((yes3 (goal.at.returns-then-not-is_kept c).Else-self (yes2 (goal.at.returns-then-not-is_kept c).Else-filter_len-self (yes1 (goal.at.returns-then-not-is_kept c).Else-not-areas_hold))) ∙ rw (said_no c.is_kept.ensures c.if-not-is_kept.true))
 
 pub holds_record-requires : goal.holds_record-requires
 holds_record-requires c =
@@ -70,19 +87,19 @@ holds_record-requires c =
 
 pub returns-then-not-holds_record : goal.returns-then-not-holds_record
 unfolding plan_reused ask_reused
-returns-then-not-holds_record c = sym (yes4 (goal.at.returns-then-not-holds_record c).Else-not-is_kept ∙ rw (said_no c.holds_record.ensures c.if-not-holds_record.true))
+returns-then-not-holds_record c = sym ((yes4 (goal.at.returns-then-not-holds_record c).Else-not-is_kept (yes3 (goal.at.returns-then-not-holds_record c).Else-self (yes2 (goal.at.returns-then-not-holds_record c).Else-filter_len-self (yes1 (goal.at.returns-then-not-holds_record c).Else-not-areas_hold)))) ∙ rw (said_no c.holds_record.ensures c.if-not-holds_record.true))
 
 pub returns-in-Duplicate : goal.returns-in-Duplicate
 unfolding plan_reused ask_reused
 returns-in-Duplicate c =
-    sym (yes5 (goal.at.returns-in-Duplicate c).Else-not-holds_record ∙ rw (sym c.find_empty_build_slot.ensures ∙ ap slot_outcome c.in-Duplicate.is))
+    sym ((yes5 (goal.at.returns-in-Duplicate c).Else-not-holds_record (yes4 (goal.at.returns-in-Duplicate c).Else-not-is_kept (yes3 (goal.at.returns-in-Duplicate c).Else-self (yes2 (goal.at.returns-in-Duplicate c).Else-filter_len-self (yes1 (goal.at.returns-in-Duplicate c).Else-not-areas_hold))))) ∙ rw (sym c.find_empty_build_slot.ensures ∙ ap slot_outcome c.in-Duplicate.is))
 
 pub returns-in-Full : goal.returns-in-Full
 unfolding plan_reused ask_reused
 returns-in-Full c =
-    sym (yes5 (goal.at.returns-in-Full c).Else-not-holds_record ∙ rw (sym c.find_empty_build_slot.ensures ∙ ap slot_outcome c.in-Full.is))
+    sym ((yes5 (goal.at.returns-in-Full c).Else-not-holds_record (yes4 (goal.at.returns-in-Full c).Else-not-is_kept (yes3 (goal.at.returns-in-Full c).Else-self (yes2 (goal.at.returns-in-Full c).Else-filter_len-self (yes1 (goal.at.returns-in-Full c).Else-not-areas_hold))))) ∙ rw (sym c.find_empty_build_slot.ensures ∙ ap slot_outcome c.in-Full.is))
 
 pub returns-in-Empty : goal.returns-in-Empty
 unfolding plan_reused ask_reused
 returns-in-Empty c =
-    sym (yes5 (goal.at.returns-in-Empty c).Else-not-holds_record ∙ rw (sym c.find_empty_build_slot.ensures ∙ ap slot_outcome c.in-Empty.is))
+    sym ((yes5 (goal.at.returns-in-Empty c).Else-not-holds_record (yes4 (goal.at.returns-in-Empty c).Else-not-is_kept (yes3 (goal.at.returns-in-Empty c).Else-self (yes2 (goal.at.returns-in-Empty c).Else-filter_len-self (yes1 (goal.at.returns-in-Empty c).Else-not-areas_hold))))) ∙ rw (sym c.find_empty_build_slot.ensures ∙ ap slot_outcome c.in-Empty.is))

@@ -9,6 +9,13 @@ use Rattle.sets.proofs.Said.{Past, said_no, said_yes}
 use Rattle.sets.proofs.rebuild.SharedSegmentCacheBuilder.plan_room.Goals as goal
 use Rattle.sets.proofs.rebuild.SharedSegmentCacheBuilder.plan_room.Goals.{Else-not-record_fits, Else-retained-ge-MAX_RECORD_SEGMENTS, Start}
 
+-- the start of the call
+abbrev from_else_not_record_fits : Else-not-record_fits → Start
+from_else_not_record_fits c = c.before.before.before.before.before.before
+
+abbrev from_else_retained_ge_max_record_segments : Else-retained-ge-MAX_RECORD_SEGMENTS → Start
+from_else_retained_ge_max_record_segments c = c.before.before.before.before.before.before.before.before.before
+
 -- the room, as the plan asks for it and as the definition does
 asks : (s : Start) → let a = s.args in
     leb (rebuild_filled a.self + copied_size a.self a.key_bytes a.value_bytes) a.arena_len
@@ -22,36 +29,39 @@ Yes n s =
     Past (plan {A = ℕ × ℕ} ((empty_slot a.index.now a.self.bucket_count a.hash).value, a.expires_at)) n
     (ask_room a.self a.hash a.key_bytes a.value_bytes a.index.now a.arena_len)
 
-abbrev from : Else-not-record_fits → Start
-from c = c.before.before.before.before.before
-
-yes1 : (c : Else-not-record_fits) → Yes 1 (from c)
+yes1 : (c : Else-not-record_fits)
+    → (let a = c.args in
+    leb (rebuild_filled a.self + copied_size a.self a.key_bytes a.value_bytes) a.arena_len
+    ≡ leb (copied_size a.self a.key_bytes a.value_bytes) (a.arena_len - rebuild_filled a.self))
+    → Yes 1 (from_else_not_record_fits c)
 unfolding ask_room
-yes1 c = rw (asks (from c) ∙ said_yes c.record_fits.ensures c.if-not-record_fits.false)
+yes1 c h_asks = rw (h_asks ∙ said_yes c.record_fits.ensures c.if-not-record_fits.false)
 
-yes2 : (c : Else-retained-ge-MAX_RECORD_SEGMENTS) → Yes 2 (from c.before.before.before)
+yes2 : (c : Else-retained-ge-MAX_RECORD_SEGMENTS)
+    → (Yes 1 (from_else_retained_ge_max_record_segments c))
+    → Yes 2 (from_else_retained_ge_max_record_segments c)
 unfolding ask_room
-yes2 c = yes1 c.before.before.before ∙ rw (← c.retained.ensures, lt-ltb _ _ c.if-retained-ge-MAX_RECORD_SEGMENTS.false)
+yes2 c h_yes1 = h_yes1 ∙ rw (← c.retained.ensures, lt-ltb _ _ c.if-retained-ge-MAX_RECORD_SEGMENTS.false)
 
 pub returns-then-not-record_fits : goal.returns-then-not-record_fits
 unfolding plan_room ask_room
-returns-then-not-record_fits c = rw (asks (goal.at.returns-then-not-record_fits c).Start ∙ said_no c.record_fits.ensures c.if-not-record_fits.true)
+returns-then-not-record_fits c = rw ((asks (goal.at.returns-then-not-record_fits c).Start) ∙ said_no c.record_fits.ensures c.if-not-record_fits.true)
 
 pub returns-then-retained-ge-MAX_RECORD_SEGMENTS : goal.returns-then-retained-ge-MAX_RECORD_SEGMENTS
 unfolding plan_room ask_room
-returns-then-retained-ge-MAX_RECORD_SEGMENTS c = sym (yes1 (goal.at.returns-then-retained-ge-MAX_RECORD_SEGMENTS c).Else-not-record_fits ∙ rw (← c.retained.ensures, le-ltb _ _ c.if-retained-ge-MAX_RECORD_SEGMENTS.true))
+returns-then-retained-ge-MAX_RECORD_SEGMENTS c = sym ((yes1 (goal.at.returns-then-retained-ge-MAX_RECORD_SEGMENTS c).Else-not-record_fits (asks (goal.at.returns-then-retained-ge-MAX_RECORD_SEGMENTS c).Start)) ∙ rw (← c.retained.ensures, le-ltb _ _ c.if-retained-ge-MAX_RECORD_SEGMENTS.true))
 
 pub returns-in-Duplicate : goal.returns-in-Duplicate
 unfolding plan_room ask_room
 returns-in-Duplicate c =
-    sym (yes2 (goal.at.returns-in-Duplicate c).Else-retained-ge-MAX_RECORD_SEGMENTS ∙ rw (sym c.find_empty_build_slot.ensures ∙ ap slot_outcome c.in-Duplicate.is))
+    sym ((yes2 (goal.at.returns-in-Duplicate c).Else-retained-ge-MAX_RECORD_SEGMENTS (yes1 (goal.at.returns-in-Duplicate c).Else-not-record_fits (asks (goal.at.returns-in-Duplicate c).Start))) ∙ rw (sym c.find_empty_build_slot.ensures ∙ ap slot_outcome c.in-Duplicate.is))
 
 pub returns-in-Full : goal.returns-in-Full
 unfolding plan_room ask_room
 returns-in-Full c =
-    sym (yes2 (goal.at.returns-in-Full c).Else-retained-ge-MAX_RECORD_SEGMENTS ∙ rw (sym c.find_empty_build_slot.ensures ∙ ap slot_outcome c.in-Full.is))
+    sym ((yes2 (goal.at.returns-in-Full c).Else-retained-ge-MAX_RECORD_SEGMENTS (yes1 (goal.at.returns-in-Full c).Else-not-record_fits (asks (goal.at.returns-in-Full c).Start))) ∙ rw (sym c.find_empty_build_slot.ensures ∙ ap slot_outcome c.in-Full.is))
 
 pub returns-in-Empty : goal.returns-in-Empty
 unfolding plan_room ask_room
 returns-in-Empty c =
-    sym (yes2 (goal.at.returns-in-Empty c).Else-retained-ge-MAX_RECORD_SEGMENTS ∙ rw (sym c.find_empty_build_slot.ensures ∙ ap slot_outcome c.in-Empty.is))
+    sym ((yes2 (goal.at.returns-in-Empty c).Else-retained-ge-MAX_RECORD_SEGMENTS (yes1 (goal.at.returns-in-Empty c).Else-not-record_fits (asks (goal.at.returns-in-Empty c).Start))) ∙ rw (sym c.find_empty_build_slot.ensures ∙ ap slot_outcome c.in-Empty.is))

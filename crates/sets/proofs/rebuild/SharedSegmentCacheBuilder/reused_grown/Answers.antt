@@ -7,4 +7,4 @@ pub returns : goal.returns
 returns c =
     let a = c.args in
     rw (c.wrapping_add_usize.ensures.value, c.wrapping_add_usize-2.ensures.value, c.wrapping_add_usize-with_key.ensures.value, c.wrapping_add_usize-with_header.ensures.value)
-    (rw (wraps a.self.reused_record_bytes a.header_length a.key_bytes a.value_bytes))
+    (rw (wraps a.self.reused_record_bytes a.header_bytes a.key_bytes a.value_bytes))
