@@ -11,7 +11,7 @@ use lib.Seq.{length-take-le}
 use Rattle.records.specs.Area.{over, pasted}
 use Rattle.passage_lines.specs.Bytes.{first_from}
 use Rattle.passage_lines.specs.Input.{input, next_before, next_line, Kept, kept, unread, kept_unread}
-use Rattle.texts.specs.Output.{Output, output, appended}
+use Rattle.passage_lines.specs.Output.{Output, output, appended}
 use Rattle.passage_lines.specs.declared.input.Input.{Input}
 use Rattle.passage_lines.specs.declared.input.NextLine.TheVariants.{Line, TooLong, Skipped, More}
 use Rattle.passage_lines.proofs.Search.{first_within}

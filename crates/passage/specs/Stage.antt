@@ -13,7 +13,7 @@ use Rattle.sets.specs.Build as build
 use Rattle.sets.specs.Lookup as lookup
 use Rattle.sets.specs.declared.builder.SegmentCacheBuilder.{SegmentCacheBuilder}
 use Rattle.sets.specs.declared.cache.FrozenSegmentCache.{FrozenSegmentCache}
-use Rattle.texts.specs.Ascii.{ascii}
+use Rattle.passage_lines.specs.Ascii.{ascii}
 use Rattle.passage_lines.specs.Reply.{accepted_text, refused_text, reply_text, value_text}
 use Rattle.passage_lines.specs.declared.reply.Word.TheVariants as word
 use Rattle.passage.specs.declared.stage.Answer.{Answer}

@@ -1,7 +1,7 @@
 // Answering a line of the input.
 ghost use Rattle.std.specs.Prelude.{◌≡◌, length};
 ghost use Rattle.passage_lines.specs.Hex.{bytes_of_hex};
-ghost use Rattle.texts.specs.Output.{appended, output};
+ghost use Rattle.passage_lines.specs.Output.{appended, output};
 ghost use Rattle.passage.specs.Answer.{answered_by, areas, get_bytes, line_step, put_bytes, within};
 ghost use Rattle.passage.specs.Stage.{answer_text, got, put};
 

@@ -7,12 +7,12 @@ use Rattle.hash_parts.specs.declared.error.SegmentCacheBuildError.TheVariants.{D
 use Rattle.hash_parts.specs.declared.duration.Lifetime.TheVariants as life
 use Rattle.hash_parts.specs.declared.setting.SegmentExpiry.TheVariants as expiry
 use Rattle.records.specs.Area.{same_bytes}
-use Rattle.texts.specs.Ascii.{ascii}
+use Rattle.passage_lines.specs.Ascii.{ascii}
 use Rattle.passage_lines.specs.Command.{next, done, setting, setting_form, open_form, put_form, close_form, get_form, word_form, command_of}
 use Rattle.passage_lines.specs.Fields.{split, fields_of}
 use Rattle.passage_lines.specs.Hex.{bytes_of_hex, is_hex, hex_length}
-use Rattle.texts.specs.Output.{digits_in, decimal_text, hex_text}
-use Rattle.passage_lines.specs.Reply.{bytes_text, reply_text, value_text}
+use Rattle.passage_lines.specs.Output.{digits_in, decimal_text, hex_text, bytes_text}
+use Rattle.passage_lines.specs.Reply.{reply_text, value_text}
 use Rattle.passage_lines.specs.Text.{digit_of, spelled, number_in, duration_of, layout_of, tick_length_of, lifetime_of}
 use Rattle.passage_lines.specs.declared.command.Command.{Command}
 use Rattle.passage_lines.specs.declared.command.Command.TheVariants.{Open, Put, Close, Get, Bad}

@@ -5,4 +5,5 @@ pub mod Lines
 pub mod Numbers
 pub mod Replies
 pub mod Search
+pub mod Spelling
 pub mod Splitting

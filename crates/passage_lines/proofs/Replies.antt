@@ -9,14 +9,20 @@ use lib.ListN.{length, take, drop, length-append, length-take, length-drop}
 use lib.Seq.{length-take-le, take_at, drop_at, drop-drop}
 use Rattle.records.specs.Area.{over, pasted}
 use Rattle.records.proofs.Area.{Writing, fits, next}
-use Rattle.texts.specs.Ascii.{ascii}
-use Rattle.texts.specs.Output.{hex_text, output, appended}
-use Rattle.passage_lines.specs.Reply.{bytes_text, word_text, line_feed, number_field, refused_text, accepted_text, value_text}
+use Rattle.passage_lines.specs.Output.{bytes_text, Output, output, appended}
+use Rattle.passage_lines.specs.Reply.{word_text, line_feed, number_field, refused_text, accepted_text, value_text}
 use Rattle.passage_lines.specs.declared.reply.Word.{Word}
 use Rattle.passage_lines.specs.declared.reply.Word.TheVariants.{Open, Put, Close, Get}
-use Rattle.texts.proofs.Spelling.{appended_parts, decimal_small, decimal_twenty, hex_length_law}
+use Rattle.passage_lines.proofs.Spelling.{decimal_small, decimal_twenty, hex_length_law}
 
 -- ---- a piece more
+
+-- what was written where it fits
+pub appended_parts : (at : ℕ) (s area out : List ℕ) (n : ℕ) → output n out ≡ appended at s area → at + length s ≤ length area → (n ≡ at + length s) × (out ≡ pasted at s area)
+unfolding appended
+appended_parts at s area out n e h =
+    let q : output n out ≡ output (at + length s) (pasted at s area) = rw (le-leb (at + length s) (length area) h) at e in
+    (ap (λ (o : Output). o.at) q, ap (λ (o : Output). o.area) q)
 
 -- a text more
 pub next_text : {whole rest area out out' : List ℕ} {at n : ℕ} (s : List ℕ) → Writing whole (s ++ rest) area out at
@@ -48,16 +54,6 @@ pub accepted_short : (w : Word) (a b : ℕ) → a < 2 ^ 64 → b < 2 ^ 64 → le
 accepted_short w a b h k =
     simp length-append (omega (arith, word_short w, ap length (decimal_small 0 (omega arith)), decimal_twenty a h, decimal_twenty b k))
 
-pub bytes_none : (bytes : List ℕ) → length bytes ≡ 0 → bytes_text bytes ≡ ascii "-"
-unfolding bytes_text
-bytes_none [] h = refl
-bytes_none (b ∷ s) h = absurd (omega arith)
-
-pub bytes_some : (bytes : List ℕ) → (length bytes ≡ 0 → ⊥) → bytes_text bytes ≡ hex_text bytes
-unfolding bytes_text
-bytes_some [] h = absurd (h refl)
-bytes_some (b ∷ s) h = refl
-
 bytes_length : (value : List ℕ) → length (bytes_text value) ≡ max 1 (2 * length value)
 unfolding bytes_text
 bytes_length [] = refl
@@ -68,6 +64,17 @@ unfolding value_text
 value_length value = omega (arith, bytes_length value, length-append (bytes_text value) line_feed)
 
 -- ---- two pieces from a position on
+
+pub pasted_length : (at : ℕ) (s area : List ℕ) → at + length s ≤ length area → length (pasted at s area) ≡ length area
+pasted_length at s area h = simp (length-append, length-take, length-drop) (omega arith)
+
+pub pasted_more : (at n : ℕ) (s t area : List ℕ) → at + length s ≤ length area → n ≡ at + length s → pasted n t (pasted at s area) ≡ pasted at (s ++ t) area
+pasted_more at n s t area h e =
+    let front : List ℕ = take at area ++ s in
+    let rest : List ℕ = drop (length s) (drop at area) in
+    let l : length front ≡ n = omega (arith, length-append (take at area) s, length-take-le at area (omega arith)) in
+    ap (λ (o : List ℕ). pasted n t o) (sym (append_assoc (take at area) s rest))
+    ∙ rw (take_at front rest n l, drop_at front rest n l) (simp (append_assoc, length-append, drop-drop, add_assoc))
 
 -- ---- the front of an area holds what was written to it
 

@@ -8,15 +8,15 @@ use Rattle.records.specs.declared.record.Span.{Span}
 use Rattle.passage_lines.specs.Hex.{hex_length}
 use Rattle.passage_lines.specs.Text.{number_in, layout_of, tick_length_of, lifetime_of}
 use Rattle.passage_lines.specs.declared.fields.BytesField.{BytesField}
-use Rattle.passage_lines.specs.declared.fields.BytesField.TheVariants as bytesField
+use Rattle.passage_lines.specs.declared.fields.BytesField.TheVariants as bytes_field
 use Rattle.passage_lines.specs.declared.fields.LayoutField.{LayoutField}
-use Rattle.passage_lines.specs.declared.fields.LayoutField.TheVariants as layoutField
+use Rattle.passage_lines.specs.declared.fields.LayoutField.TheVariants as layout_field
 use Rattle.passage_lines.specs.declared.fields.LifetimeField.{LifetimeField}
-use Rattle.passage_lines.specs.declared.fields.LifetimeField.TheVariants as lifetimeField
+use Rattle.passage_lines.specs.declared.fields.LifetimeField.TheVariants as lifetime_field
 use Rattle.passage_lines.specs.declared.fields.NumberField.{NumberField}
-use Rattle.passage_lines.specs.declared.fields.NumberField.TheVariants as numberField
+use Rattle.passage_lines.specs.declared.fields.NumberField.TheVariants as number_field
 use Rattle.passage_lines.specs.declared.fields.TickField.{TickField}
-use Rattle.passage_lines.specs.declared.fields.TickField.TheVariants as tickField
+use Rattle.passage_lines.specs.declared.fields.TickField.TheVariants as tick_field
 
 -- a field's place in the line, and its characters
 pub record Field : Type 0 where

@@ -4,7 +4,7 @@
 use Rattle.std.specs.Prelude.{ℕ, ◌+◌, ◌*◌, Bool, true, false, cond, List, [], ◌∷◌, eqb, leb, ltb, length}
 use Rattle.std.proofs.Math.Option.{Option, none, some}
 use Rattle.records.specs.Area.{over, same_bytes}
-use Rattle.texts.specs.Ascii.{ascii}
+use Rattle.passage_lines.specs.Ascii.{ascii}
 use Rattle.passage_lines.specs.Text.{digit_of}
 use Rattle.passage_lines.specs.declared.hex.DecodeAnswer.{DecodeAnswer}
 use Rattle.passage_lines.specs.declared.hex.DecodeAnswer.TheVariants as decode

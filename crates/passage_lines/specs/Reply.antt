@@ -1,10 +1,10 @@
 -- The lines of the output. Document 01, Program `passage`: "Out: the word and the refusal, or 0 and: buckets slots; slot location; segments
 -- record-bytes; value. A get without a hit prints `get none`." and "prints `bad`".
 -- Assumes nothing.
-use Rattle.std.specs.Prelude.{ℕ, List, [], ◌∷◌, ◌++◌}
+use Rattle.std.specs.Prelude.{ℕ, List, ◌∷◌, ◌++◌}
 use Rattle.hash_parts.specs.Error.{error_number}
-use Rattle.texts.specs.Ascii.{ascii}
-use Rattle.texts.specs.Output.{decimal_text, hex_text}
+use Rattle.passage_lines.specs.Ascii.{ascii}
+use Rattle.passage_lines.specs.Output.{decimal_text, bytes_text}
 use Rattle.passage_lines.specs.declared.reply.Reply.{Reply}
 use Rattle.passage_lines.specs.declared.reply.Reply.TheVariants.{Bad, Missing, Refused, Accepted}
 use Rattle.passage_lines.specs.declared.reply.Word.{Word}
@@ -37,11 +37,6 @@ reply_text Bad = ascii "bad\n"
 reply_text Missing = ascii "get none\n"
 reply_text (Refused word error) = refused_text word (error_number error)
 reply_text (Accepted word first second) = accepted_text word first second
-
--- "hexadecimal in small letters, `-` for no bytes"
-unfoldable pub bytes_text : List ℕ → List ℕ
-bytes_text [] = ascii "-"
-bytes_text (b ∷ s) = hex_text (b ∷ s)
 
 -- the line of a value that was found
 unfoldable pub value_text : List ℕ → List ℕ

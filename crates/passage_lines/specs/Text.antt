@@ -10,7 +10,7 @@ use Rattle.hash_parts.specs.declared.duration.Lifetime.TheVariants as life
 use Rattle.hash_parts.specs.declared.setting.SegmentExpiry.{SegmentExpiry}
 use Rattle.hash_parts.specs.declared.setting.SegmentExpiry.TheVariants as expiry
 use Rattle.records.specs.Area.{same_bytes}
-use Rattle.texts.specs.Ascii.{ascii}
+use Rattle.passage_lines.specs.Ascii.{ascii}
 use Rattle.passage_lines.specs.declared.text.DurationText.{DurationText}
 use Rattle.passage_lines.specs.declared.text.DurationText.TheVariants as duration
 use Rattle.passage_lines.specs.declared.text.LayoutText.{LayoutText}

@@ -1,11 +1,11 @@
 // The lines of the output.
 ghost use Rattle.std.specs.Prelude.{◌≡◌, ◌+◌, ◌≤◌, length};
 ghost use Rattle.records.specs.Area.{over, pasted};
-ghost use Rattle.texts.specs.Output.{appended, output};
-ghost use Rattle.passage_lines.specs.Reply.{accepted_text, bytes_text, number_field, refused_text, reply_text, value_text, word_text};
+ghost use Rattle.passage_lines.specs.Output.{appended, output};
+ghost use Rattle.passage_lines.specs.Reply.{accepted_text, number_field, refused_text, reply_text, value_text, word_text};
 
+use crate::output::{put_decimal, put_hex, put_text};
 use hash_parts::error::SegmentCacheBuildError;
-use texts::output::{put_decimal, put_hex, put_text};
 
 // The words of the commands.
 #[derive(Clone, Copy)]
@@ -123,16 +123,6 @@ fn write_value(line: &mut [u8], value: &[u8]) -> usize
     ensures { (result ≡ length (value_text value.now)) × (line.new ≡ over (value_text value.now) line.old) }
 {
     let text_at = put_text(line, 0, b"get 0 ");
-    let text_end = put_bytes(line, text_at, value);
+    let text_end = put_hex(line, text_at, value);
     put_text(line, text_end, b"\n")
-}
-
-// Bytes in hexadecimal, `-` where there are none.
-fn put_bytes(out: &mut [u8], at: usize, bytes: &[u8]) -> usize
-    ensures { output result out.new ≡ appended at (bytes_text bytes.now) out.old }
-{
-    if bytes.len() == 0 {
-        return put_text(out, at, b"-");
-    }
-    put_hex(out, at, bytes)
 }

@@ -14,7 +14,7 @@ use Rattle.index.specs.declared.find.FindAnswer.TheVariants as found
 use Rattle.index.specs.declared.view.SegmentView.{SegmentView}
 use Rattle.records.specs.Area.{over}
 use Rattle.records.specs.declared.record.RecordAnswer.{RecordAnswer}
-use Rattle.records.specs.declared.record.RecordAnswer.TheVariants as record-answer
+use Rattle.records.specs.declared.record.RecordAnswer.TheVariants as record_answer
 use Rattle.records.specs.declared.record.Span.{Span}
 use Rattle.records.specs.declared.varint.Varint.{Varint}
 use Rattle.records.specs.declared.varint.Varint.TheVariants as varint

@@ -8,13 +8,9 @@ use Rattle.records.specs.Record.{record_bytes}
 use Rattle.test_exports.specs.Exports.{told, outcome_told}
 use Rattle.test_exports.proofs.Answers.{told_refused, wrote_none, wrote_some, record_long}
 use Rattle.test_exports.proofs.test_append_record.Goals as goal
-use Rattle.test_exports.proofs.test_append_record.Goals.{After-append_record-bytes, Start}
+use Rattle.test_exports.proofs.test_append_record.Goals.{After-append_record-bytes}
 
--- the start, from where the record is written
-abbrev from : After-append_record-bytes → Start
-from c = c.before.before.before.before.before.before.before
-
-abbrev bytes : After-append_record-bytes → List ℕ
+abbrev bytes : (c : After-append_record-bytes) → List ℕ
 bytes c = record_bytes c.expiry_of-expiry.result c.args.key.now c.args.value.now c.args.expires_at
 
 pub returns-then-bytes-eq0 : goal.returns-then-bytes-eq0

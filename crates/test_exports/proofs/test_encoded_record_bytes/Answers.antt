@@ -18,6 +18,5 @@ returns-in-Bytes c =
 
 pub returns-in-Refused : goal.returns-in-Refused
 returns-in-Refused c =
-    let told = c.refusal.given in
-    rw (← c.expiry_of-expiry.ensures, ← c.encoded_record_bytes.ensures, told.1, c.number.ensures)
-    (told_refused told.0.0 c.args.out.now)
+    rw (← c.expiry_of-expiry.ensures, ← c.encoded_record_bytes.ensures, c.in-Refused.is, c.number.ensures)
+    (told_refused c.in-Refused.refusal c.args.out.now)

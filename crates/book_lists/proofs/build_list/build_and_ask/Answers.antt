@@ -9,7 +9,7 @@ use Rattle.book_lists.proofs.build_list.build_and_ask.Goals as goal
 
 pub returns-in_default : goal.returns-in_default
 returns-in_default c =
-    let a = c.args in
+    let a = c.before.before.before.before.before.before.before.before.before.before.before.before.before.before.before.before.before.args in
     let asked = lookup 0 a.asked_key.now a.asked_hash a.now_tick ∷ [] in
     let second = push a.second_key.now a.second_value.now a.second_hash a.second_ttl in
     let calls = push a.key.now a.value.now a.hash a.ttl ∷ second ∷ finish a.target a.scratch.now ∷ asked in
@@ -20,7 +20,7 @@ returns-in_default c =
 
 pub returns : goal.returns
 returns c =
-    let a = c.args in
+    let a = c.before.before.before.before.before.before.before.before.before.before.before.before.before.before.before.before.before.args in
     let asked = lookup 0 a.asked_key.now a.asked_hash a.now_tick ∷ [] in
     let second = push a.second_key.now a.second_value.now a.second_hash a.second_ttl in
     let calls = push a.key.now a.value.now a.hash a.ttl ∷ second ∷ finish a.target a.scratch.now ∷ asked in

@@ -18,7 +18,7 @@ returns-in_default c =
 
 pub returns : goal.returns
 returns c =
-    let a = c.args in
+    let a = c.before.before.before.before.before.before.before.before.before.before.before.before.args in
     let m = c.make_finish in
     let calls = lookup 0 a.asked_key.now a.asked_hash a.now_tick ∷ [] in
     let areas = areas_of m.new.index a.filter.now m.new.starts m.new.lengths in

@@ -8,7 +8,7 @@ use Rattle.book_lists.proofs.build_list.push_once.Goals as goal
 
 pub returns : goal.returns
 returns c =
-    let a = c.args in
+    let a = c.before.before.before.before.before.before.before.before.before.before.before.before.before.before.before.args in
     let m = c.make_push-pushed in
     let calls = finish a.target a.scratch.now ∷ lookup 0 a.asked_key.now a.asked_hash a.now_tick ∷ [] in
     let areas = areas_of m.new.index m.new.filter a.starts.now a.lengths.now in

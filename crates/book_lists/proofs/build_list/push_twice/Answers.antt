@@ -8,7 +8,7 @@ use Rattle.book_lists.proofs.build_list.push_twice.Goals as goal
 
 pub returns : goal.returns
 returns c =
-    let a = c.args in
+    let a = c.before.before.before.before.before.before.before.before.before.before.before.before.before.before.before.before.before.args in
     let m = c.make_push-pushed in
     let asked = lookup 0 a.asked_key.now a.asked_hash a.now_tick ∷ [] in
     let calls = push a.second_key.now a.second_value.now a.second_hash a.second_ttl ∷ finish a.target a.scratch.now ∷ asked in

@@ -8,7 +8,7 @@ use Rattle.book_lists.proofs.rebuild_list.copy_and_finish.Goals as goal
 
 pub returns : goal.returns
 returns c = λ source.
-    let a = c.args in
+    let a = c.before.before.before.before.before.before.before.before.before.before.before.before.before.before.before.args in
     let m = c.make_copy-pushed in
     let calls = refinish a.scratch.now ∷ lookup 1 a.asked_key.now a.asked_hash a.now_tick ∷ [] in
     let areas = areas_of m.new.index m.new.filter a.starts.now a.lengths.now in

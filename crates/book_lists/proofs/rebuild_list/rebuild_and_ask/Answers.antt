@@ -10,7 +10,7 @@ use Rattle.book_lists.proofs.rebuild_list.rebuild_and_ask.Goals as goal
 
 pub returns-in_default : goal.returns-in_default
 returns-in_default c =
-    let a = c.args in
+    let a = c.before.before.before.before.before.before.before.before.before.before.before.before.before.before.before.before.before.before.before.before.before.before.args in
     let m = c.make_reopen in
     let asked = lookup 1 a.asked_key.now a.asked_hash a.now_tick ∷ [] in
     let reused = reuse a.reused_key.now a.reused_value.now a.reused_hash a.reused_at.location a.reused_at.header_bytes in
@@ -27,7 +27,7 @@ shape_of-index c =
 
 pub returns : goal.returns
 returns c =
-    let a = c.args in
+    let a = c.before.before.before.before.before.before.before.before.before.before.before.before.before.before.before.before.before.before.before.before.before.before.args in
     let m = c.make_reopen in
     let asked = lookup 1 a.asked_key.now a.asked_hash a.now_tick ∷ [] in
     let reused = reuse a.reused_key.now a.reused_value.now a.reused_hash a.reused_at.location a.reused_at.header_bytes in

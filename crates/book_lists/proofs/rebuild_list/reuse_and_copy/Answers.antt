@@ -8,7 +8,7 @@ use Rattle.book_lists.proofs.rebuild_list.reuse_and_copy.Goals as goal
 
 pub returns : goal.returns
 returns c = λ source.
-    let a = c.args in
+    let a = c.before.before.before.before.before.before.before.before.before.before.before.before.before.before.before.before.before.args in
     let m = c.make_reuse-pushed in
     let asked = lookup 1 a.asked_key.now a.asked_hash a.now_tick ∷ [] in
     let calls = copy a.key.now a.value.now a.hash a.ttl ∷ refinish a.scratch.now ∷ asked in

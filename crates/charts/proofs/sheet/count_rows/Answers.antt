@@ -19,31 +19,21 @@ use Rattle.charts.proofs.sheet.count_rows.Goals as goal
 use Rattle.charts.proofs.sheet.count_rows.Goals.{After-record_at_location-read, At-loop-slot}
 
 -- what stands in each slot, and the rows from a slot on
-abbrev reads : At-loop-slot → ℕ → RecordAnswer
+abbrev reads : (l : At-loop-slot) → ℕ → RecordAnswer
 reads l =
-    let a = l.before.before.before.before.before.args in
+    let a = l.args in
     entry_at (record_in a.view a.arena.now a.starts.now a.lengths.now) a.packed a.buckets a.index.now
 
-abbrev rest : At-loop-slot → ℕ → List Row
-rest l = let a = l.before.before.before.before.before.args in rows_from (reads l) a.arena.now (8 * a.buckets)
+abbrev rest : (l : At-loop-slot) → ℕ → List Row
+rest l = let a = l.args in rows_from (reads l) a.arena.now (8 * a.buckets)
 
 -- what is read under a slot's location is what stands there
-named : (e : After-record_at_location-read) → let l = e.before.before.before.before.before.before in reads l l.loop-slot.slot ≡ e.record_at_location-read.result
+named : (e : After-record_at_location-read) → (let a = e.args in
+    entry_at (record_in a.view a.arena.now a.starts.now a.lengths.now) a.packed a.buckets a.index.now) e.loop-slot.slot ≡ e.record_at_location-read.result
 named e =
-    let l = e.before.before.before.before.before.before in
-    let a = l.before.before.before.before.before.args in
-    slot_used (record_in a.view a.arena.now a.starts.now a.lengths.now) a.packed a.buckets a.index.now l.loop-slot.slot _ _ e.record_at_location-read.result
-    (sym e.before.before.before.before.slot_at.ensures ∙ e.before.before.in-Used.is) e.record_at_location-read.ensures
-
--- of a slot whose record was read
-hit : (e : After-record_at_location-read) (r : RecordRef) → e.record_at_location-read.result ≡ Read r
-    → let l = e.before.before.before.before.before.before in
-    rest l l.loop-slot.slot ≡ row_of l.before.before.before.before.before.args.arena.now (record { slot = l.loop-slot.slot; entry = r }) ∷ rest l (l.loop-slot.slot + 1)
-hit e r q =
-    let l = e.before.before.before.before.before.before in
-    let a = l.before.before.before.before.before.args in
-    let below : l.loop-slot.slot < 8 * a.buckets = omega (arith, e.before.before.before.before.before.loop-slot-test.true) in
-    rows_hit (reads l) a.arena.now (8 * a.buckets) l.loop-slot.slot r below (named e ∙ q)
+    let a = e.args in
+    slot_used (record_in a.view a.arena.now a.starts.now a.lengths.now) a.packed a.buckets a.index.now e.loop-slot.slot _ _ e.record_at_location-read.result
+    (sym e.slot_at.ensures ∙ e.in-Used.is) e.record_at_location-read.ensures
 
 pub loop-slot-init : goal.loop-slot-init
 unfolding entries_in
@@ -66,15 +56,14 @@ loop-slot-preserved-in_default-read c =
     let a = c.args in
     let below : c.loop-slot.slot < 8 * a.buckets = omega (arith, c.loop-slot-test.true) in
     let missed : rest (goal.at.loop-slot-preserved-in_default-read c).At-loop-slot c.loop-slot.slot ≡ rest (goal.at.loop-slot-preserved-in_default-read c).At-loop-slot (c.loop-slot.slot + 1) =
-    rows_miss (reads (goal.at.loop-slot-preserved-in_default-read c).At-loop-slot) a.arena.now (8 * a.buckets) c.loop-slot.slot below (named (goal.at.loop-slot-preserved-in_default-read c).After-record_at_location-read ∙ c.in_default-read.is) in
+    rows_miss (reads (goal.at.loop-slot-preserved-in_default-read c).At-loop-slot) a.arena.now (8 * a.buckets) c.loop-slot.slot below ((named (goal.at.loop-slot-preserved-in_default-read c).After-record_at_location-read) ∙ c.in_default-read.is) in
     (ap (row_count c.loop-slot.rows) (sym missed) ∙ c.loop-slot.invariant.0, omega (arith, c.loop-slot.invariant.1))
 
 pub returns-then-not-entry_fits : goal.returns-then-not-entry_fits
 returns-then-not-entry_fits c =
-    let told = c.read.given in
-    let long : row_fits (row_of c.args.arena.now (record { slot = c.loop-slot.slot; entry = told.0.0 })) ≡ false =
+    let long : row_fits (row_of c.args.arena.now (record { slot = c.loop-slot.slot; entry = c.in-Read.entry })) ≡ false =
     sym c.entry_fits.ensures ∙ c.if-not-entry_fits.true in
-    sym (count_long c.loop-slot.rows _ _ long) ∙ ap (row_count c.loop-slot.rows) (sym (hit (goal.at.returns-then-not-entry_fits c).After-record_at_location-read told.0.0 told.1)) ∙ c.loop-slot.invariant.0
+    sym (count_long c.loop-slot.rows _ _ long) ∙ ap (row_count c.loop-slot.rows) (sym (hit (goal.at.returns-then-not-entry_fits c).After-record_at_location-read c.in-Read.entry c.in-Read.is)) ∙ c.loop-slot.invariant.0
 
 pub overflow_add-rows : goal.overflow_add-rows
 overflow_add-rows c =
@@ -82,10 +71,9 @@ overflow_add-rows c =
 
 pub loop-slot-preserved : goal.loop-slot-preserved
 loop-slot-preserved c =
-    let told = c.read.given in
-    let fits : row_fits (row_of c.args.arena.now (record { slot = c.loop-slot.slot; entry = told.0.0 })) ≡ true =
+    let fits : row_fits (row_of c.args.arena.now (record { slot = c.loop-slot.slot; entry = c.in-Read.entry })) ≡ true =
     sym c.entry_fits.ensures ∙ c.if-not-entry_fits.false in
-    (sym (count_fits c.loop-slot.rows _ _ fits) ∙ ap (row_count c.loop-slot.rows) (sym (hit (goal.at.loop-slot-preserved c).After-record_at_location-read told.0.0 told.1)) ∙ c.loop-slot.invariant.0, omega (arith, c.loop-slot.invariant.1))
+    (sym (count_fits c.loop-slot.rows _ _ fits) ∙ ap (row_count c.loop-slot.rows) (sym (hit (goal.at.loop-slot-preserved c).After-record_at_location-read c.in-Read.entry c.in-Read.is)) ∙ c.loop-slot.invariant.0, omega (arith, c.loop-slot.invariant.1))
 
 pub returns : goal.returns
 returns c =

@@ -18,56 +18,37 @@ use Rattle.charts.specs.declared.sheet.SheetAnswer.TheVariants.{Pages}
 use Rattle.charts.proofs.Asked.{pages_told_law, sheet_fits, sheet_refused, sheet_short, slots_few}
 use borrow.Author.Rules.{rules}
 use Rattle.charts.proofs.sheet.print_sheet.Goals as goal
-use Rattle.charts.proofs.sheet.print_sheet.Goals.{After-sheet_pages-answer, Start}
+use Rattle.charts.proofs.sheet.print_sheet.Goals.{After-sheet_pages-answer}
 
-abbrev from : After-sheet_pages-answer → Start
-from c = c.before.before.before.before.before.before
-
-abbrev rows : After-sheet_pages-answer → List Row
+abbrev rows : (c : After-sheet_pages-answer) → List Row
 rows c = let a = c.args in rows_of a.set a.index.now a.starts.now a.lengths.now a.arena.now
 
 -- what is asked before the page area
-abbrev asked : After-sheet_pages-answer → Reply ℕ (Unit {0})
+abbrev asked : (c : After-sheet_pages-answer) → Reply ℕ (Unit {0})
 asked c = let a = c.args in pages_answer a.set a.index.now a.starts.now a.lengths.now a.arena.now
-
--- what is known where pages are told
-told : (c : After-sheet_pages-answer) (n : ℕ) → c.sheet_pages-answer.result ≡ Pages n
-    → let a = c.args in
-    (areas_hold_set a.set (length a.index.now) (length a.starts.now) (length a.lengths.now) (length a.arena.now) ≡ true)
-    × (rows_fit (rows c) ≡ true)
-    × (n ≡ pages_for (length (rows c)))
-told c n e =
-    let a = c.args in
-    let said : sheet_reply c.sheet_pages-answer.result ≡ asked c = c.sheet_pages-answer.ensures in
-    let pages : accept n ≡ asked c = sym (ap sheet_reply e) ∙ said in
-    pages_told_law a.set a.index.now a.starts.now a.lengths.now a.arena.now n pages
 
 pub returns-in_default : goal.returns-in_default
 returns-in_default c =
     let a = c.args in
-    let e = c.enum_told.given in
     let said : sheet_reply c.sheet_pages-answer.result ≡ asked (goal.at.returns-in_default c).After-sheet_pages-answer = c.sheet_pages-answer.ensures in
-    ap (λ (r : SheetAnswer). sheet_result r a.page.now) e.1
-    ∙ sheet_refused a.set a.index.now a.starts.now a.lengths.now a.arena.now _ a.page.now (sym (ap sheet_reply e.1) ∙ said)
+    ap (λ (r : SheetAnswer). sheet_result r a.page.now) c.in_default.is
+    ∙ sheet_refused a.set a.index.now a.starts.now a.lengths.now a.arena.now _ a.page.now (sym (ap sheet_reply c.in_default.is) ∙ said)
 
 pub returns-then-page-pages : goal.returns-then-page-pages
 returns-then-page-pages c =
     let a = c.args in
-    let n = c.answer.given in
-    let k = told (goal.at.returns-then-page-pages c).After-sheet_pages-answer n.0.0 n.1 in
+    let k = told (goal.at.returns-then-page-pages c).After-sheet_pages-answer c.in-Pages.pages c.in-Pages.is in
     sheet_short a.set a.index.now a.starts.now a.lengths.now a.arena.now k.0 k.1 a.page.now (omega (arith, c.if-page-pages.true, k.2))
 
 pub write_sheet-requires : goal.write_sheet-requires
 write_sheet-requires c =
-    let n = c.answer.given in
-    let k = told (goal.at.write_sheet-requires c).After-sheet_pages-answer n.0.0 n.1 in
+    let k = told (goal.at.write_sheet-requires c).After-sheet_pages-answer c.in-Pages.pages c.in-Pages.is in
     rw c.view.ensures (slots_few _ _ _ _ _ k.0, (k.1, (k.2, omega (arith, c.if-page-pages.false))))
 
 pub returns : goal.returns
 returns c =
     let a = c.args in
-    let n = c.answer.given in
-    let k = told (goal.at.returns c).After-sheet_pages-answer n.0.0 n.1 in
+    let k = told (goal.at.returns c).After-sheet_pages-answer c.in-Pages.pages c.in-Pages.is in
     let short : 3250 * pages_for (length (rows (goal.at.returns c).After-sheet_pages-answer)) ≤ length a.page.now = omega (arith, c.if-page-pages.false, k.2) in
     let shown : SegmentView → List ℕ =
     λ v. over (sheet (rows_in (record_in v a.arena.now a.starts.now a.lengths.now) a.set.config.packed_bucket_index a.set.buckets a.index.now a.arena.now)) a.page.now in

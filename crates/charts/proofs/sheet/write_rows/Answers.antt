@@ -23,41 +23,25 @@ use Rattle.charts.proofs.sheet.write_rows.Goals as goal
 use Rattle.charts.proofs.sheet.write_rows.Goals.{After-record_at_location-read, At-loop-slot}
 
 -- what stands in each slot, and the rows from a slot on
-abbrev reads : At-loop-slot → ℕ → RecordAnswer
+abbrev reads : (l : At-loop-slot) → ℕ → RecordAnswer
 reads l =
-    let a = l.before.before.before.before.before.before.args in
+    let a = l.args in
     entry_at (record_in a.view a.arena.now a.starts.now a.lengths.now) a.packed a.buckets a.index.now
 
-abbrev rest : At-loop-slot → ℕ → List Row
-rest l = let a = l.before.before.before.before.before.before.args in rows_from (reads l) a.arena.now (8 * a.buckets)
+abbrev rest : (l : At-loop-slot) → ℕ → List Row
+rest l = let a = l.args in rows_from (reads l) a.arena.now (8 * a.buckets)
 
 -- the row of a slot that was read
-abbrev shown : At-loop-slot → RecordRef → Row
-shown l r = row_of l.before.before.before.before.before.before.args.arena.now (record { slot = l.loop-slot.slot; entry = r })
+abbrev shown : (l : At-loop-slot) → RecordRef → Row
+shown l r = row_of l.args.arena.now (record { slot = l.loop-slot.slot; entry = r })
 
 -- what is read under a slot's location is what stands there
-named : (e : After-record_at_location-read) → let l = e.before.before.before.before.before.before in reads l l.loop-slot.slot ≡ e.record_at_location-read.result
+named : (e : After-record_at_location-read) → (let a = e.args in
+    entry_at (record_in a.view a.arena.now a.starts.now a.lengths.now) a.packed a.buckets a.index.now) e.loop-slot.slot ≡ e.record_at_location-read.result
 named e =
-    let l = e.before.before.before.before.before.before in
-    let a = l.before.before.before.before.before.before.args in
-    slot_used (record_in a.view a.arena.now a.starts.now a.lengths.now) a.packed a.buckets a.index.now l.loop-slot.slot _ _ e.record_at_location-read.result
-    (sym e.before.before.before.before.slot_at.ensures ∙ e.before.before.in-Used.is) e.record_at_location-read.ensures
-
-hit : (e : After-record_at_location-read) (r : RecordRef) → e.record_at_location-read.result ≡ Read r
-    → let l = e.before.before.before.before.before.before in rest l l.loop-slot.slot ≡ shown l r ∷ rest l (l.loop-slot.slot + 1)
-hit e r q =
-    let l = e.before.before.before.before.before.before in
-    let a = l.before.before.before.before.before.before.args in
-    let below : l.loop-slot.slot < 8 * a.buckets = omega (arith, e.before.before.before.before.before.loop-slot-test.true) in
-    rows_hit (reads l) a.arena.now (8 * a.buckets) l.loop-slot.slot r below (named e ∙ q)
-
--- what is printed before a row that was read
-standing : (e : After-record_at_location-read) (r : RecordRef) → e.record_at_location-read.result ≡ Read r
-    → let l = e.before.before.before.before.before.before in
-    let a = l.before.before.before.before.before.before.args in
-    Printing (rows_in (record_in a.view a.arena.now a.starts.now a.lengths.now) a.packed a.buckets a.index.now a.arena.now)
-    (shown l r ∷ rest l (l.loop-slot.slot + 1)) a.page.now l.loop-slot.page l.loop-slot.rows
-standing e r q = rw (hit e r q) at e.before.before.before.before.before.before.loop-slot.invariant
+    let a = e.args in
+    slot_used (record_in a.view a.arena.now a.starts.now a.lengths.now) a.packed a.buckets a.index.now e.loop-slot.slot _ _ e.record_at_location-read.result
+    (sym e.slot_at.ensures ∙ e.in-Used.is) e.record_at_location-read.ensures
 
 pub loop-slot-init : goal.loop-slot-init
 unfolding entries_in
@@ -80,23 +64,21 @@ loop-slot-preserved-in_default-read c =
     let a = c.args in
     let below : c.loop-slot.slot < 8 * a.buckets = omega (arith, c.loop-slot-test.true) in
     let missed : rest (goal.at.loop-slot-preserved-in_default-read c).At-loop-slot c.loop-slot.slot ≡ rest (goal.at.loop-slot-preserved-in_default-read c).At-loop-slot (c.loop-slot.slot + 1) =
-    rows_miss (reads (goal.at.loop-slot-preserved-in_default-read c).At-loop-slot) a.arena.now (8 * a.buckets) c.loop-slot.slot below (named (goal.at.loop-slot-preserved-in_default-read c).After-record_at_location-read ∙ c.in_default-read.is) in
+    rows_miss (reads (goal.at.loop-slot-preserved-in_default-read c).At-loop-slot) a.arena.now (8 * a.buckets) c.loop-slot.slot below ((named (goal.at.loop-slot-preserved-in_default-read c).After-record_at_location-read) ∙ c.in_default-read.is) in
     rw missed at c.loop-slot.invariant
 
 pub put_entry-rows-requires : goal.put_entry-rows-requires
 put_entry-rows-requires c =
-    let told = c.read.given in
-    let room = print_room (shown (goal.at.put_entry-rows-requires c).At-loop-slot told.0.0) (rest (goal.at.put_entry-rows-requires c).At-loop-slot (c.loop-slot.slot + 1)) (standing (goal.at.put_entry-rows-requires c).After-record_at_location-read told.0.0 told.1) in
+    let room = print_room (shown (goal.at.put_entry-rows-requires c).At-loop-slot c.in-Read.entry) (rest (goal.at.put_entry-rows-requires c).At-loop-slot (c.loop-slot.slot + 1)) (standing (goal.at.put_entry-rows-requires c).After-record_at_location-read c.in-Read.entry c.in-Read.is) in
     let few = c.requires.0.1 in
     (room.0, omega (arith, c.loop-slot-test.true, few), room.1)
 
 pub loop-slot-preserved : goal.loop-slot-preserved
 loop-slot-preserved c =
-    let told = c.read.given in
-    let r = told.0.0 in
+    let r = c.in-Read.entry in
     let few = c.requires.0.1 in
     let small : c.loop-slot.slot < 100000000 = omega (arith, c.loop-slot-test.true, few) in
-    let stands = standing (goal.at.loop-slot-preserved c).After-record_at_location-read r told.1 in
+    let stands = standing (goal.at.loop-slot-preserved c).After-record_at_location-read r c.in-Read.is in
     let fits = fits_parts (shown (goal.at.loop-slot-preserved c).At-loop-slot r) (print_room (shown (goal.at.loop-slot-preserved c).At-loop-slot r) (rest (goal.at.loop-slot-preserved c).At-loop-slot (c.loop-slot.slot + 1)) stands).1 in
     let due = deadline_short r.expires_at (omega (arith, c.known_told2.given)) in
     let long : length (line (shown (goal.at.loop-slot-preserved c).At-loop-slot r)) ≡ 65 = length_line c.loop-slot.slot r.expires_at _ _ (decimal_short 7 c.loop-slot.slot (omega arith)) fits.0 fits.1 due in

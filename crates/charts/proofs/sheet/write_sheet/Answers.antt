@@ -12,7 +12,7 @@ use borrow.Author.Rules.{rules}
 use Rattle.charts.proofs.sheet.write_sheet.Goals as goal
 use Rattle.charts.proofs.sheet.write_sheet.Goals.{Start}
 
-abbrev rows : Start → List Row
+abbrev rows : (s : Start) → List Row
 rows s =
     let a = s.args in
     rows_in (record_in a.view a.arena.now a.starts.now a.lengths.now) a.packed a.buckets a.index.now a.arena.now

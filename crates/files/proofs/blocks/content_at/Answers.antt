@@ -20,10 +20,10 @@ room c =
     content_room a.file.now a.at next.result (omega arith) next.ensures.1 next.ensures.0
 
 pub slice_bounds-result-count-2 : goal.slice_bounds-result-count-2
-slice_bounds-result-count-2 c = room c
+slice_bounds-result-count-2 c = (room c)
 
 pub slice_bounds-result-start-2 : goal.slice_bounds-result-start-2
-slice_bounds-result-start-2 c = room c
+slice_bounds-result-start-2 c = (room c)
 
 pub returns : goal.returns
 returns c =

@@ -27,7 +27,7 @@ returns-then-not-is_whole c =
     )
 
 pub size_at-requires : goal.size_at-requires
-size_at-requires c = omega (arith, room c)
+size_at-requires c = omega (arith, (room c))
 
 pub overflow_add-result-2 : goal.overflow_add-result-2
 overflow_add-result-2 c = search rules
@@ -37,4 +37,4 @@ returns c =
     let a = c.args in
     let f = a.file.now in
     let size = c.size_at.ensures.0 in
-    (behind_at f a.at (a.at + 6 + c.size_at.result) (ap (λ (n : ℕ). a.at + 6 + n) size), omega (arith, room (goal.at.returns c).Else-not-is_whole, size))
+    (behind_at f a.at (a.at + 6 + c.size_at.result) (ap (λ (n : ℕ). a.at + 6 + n) size), omega (arith, (room (goal.at.returns c).Else-not-is_whole), size))

@@ -23,7 +23,7 @@ two : (c : Else-not-flags_fit) → flags_fit c.args.file.now ≡ true
 two c = said_yes c.flags_fit.ensures c.if-not-flags_fit.false
 
 three : (c : Else-not-fits) → set_fits (file_set c.args.file.now) ≡ true
-three c = said_yes (c.fits2.ensures ∙ ap set_fits c.set_in-set.ensures) c.if-not-fits.false
+three c = said_yes (c.fits.ensures ∙ ap set_fits c.set_in-set.ensures) c.if-not-fits.false
 
 pub returns-then-content_of-ne-COUNT_BYTES : goal.returns-then-content_of-ne-COUNT_BYTES
 returns-then-content_of-ne-COUNT_BYTES c =
@@ -38,7 +38,7 @@ returns-then-not-flags_fit c =
 pub returns-then-not-fits : goal.returns-then-not-fits
 returns-then-not-fits c =
     let f = c.args.file.now in
-    sym (content_is f ∙ rw (eq-eqb _ _ (one (goal.at.returns-then-not-fits c).Else-content_of-ne-COUNT_BYTES), two (goal.at.returns-then-not-fits c).Else-not-flags_fit, said_no (c.fits2.ensures ∙ ap set_fits c.set_in-set.ensures) c.if-not-fits.true))
+    sym (content_is f ∙ rw (eq-eqb _ _ (one (goal.at.returns-then-not-fits c).Else-content_of-ne-COUNT_BYTES), (two (goal.at.returns-then-not-fits c).Else-not-flags_fit), said_no (c.fits.ensures ∙ ap set_fits c.set_in-set.ensures) c.if-not-fits.true))
 
 pub returns : goal.returns
 returns c =
@@ -46,10 +46,10 @@ returns c =
     let e = c.set_in-set.ensures in
     c.blocks_fit.ensures
     ∙ ap₂ (λ (n m : ℕ). blocks_fit n m f) (ap (λ (s : FrozenSegmentCache). s.buckets) e) (ap (λ (s : FrozenSegmentCache). s.filter_words) e)
-    ∙ sym (content_is f ∙ rw (eq-eqb _ _ (one (goal.at.returns c).Else-content_of-ne-COUNT_BYTES), two (goal.at.returns c).Else-not-flags_fit, three (goal.at.returns c).Else-not-fits))
+    ∙ sym (content_is f ∙ rw (eq-eqb _ _ (one (goal.at.returns c).Else-content_of-ne-COUNT_BYTES), (two (goal.at.returns c).Else-not-flags_fit), (three (goal.at.returns c).Else-not-fits)))
 
 pub flags_fit-requires : goal.flags_fit-requires
-flags_fit-requires c = one c
+flags_fit-requires c = (one c)
 
 pub set_in-set-requires : goal.set_in-set-requires
-set_in-set-requires c = one (goal.at.set_in-set-requires c).Else-content_of-ne-COUNT_BYTES
+set_in-set-requires c = (one (goal.at.set_in-set-requires c).Else-content_of-ne-COUNT_BYTES)

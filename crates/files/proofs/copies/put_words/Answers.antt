@@ -13,11 +13,8 @@ use Rattle.index.specs.Packed.{word_bytes}
 use Rattle.files.specs.Copies.{masked_by}
 use Rattle.files.proofs.Copying.{begin_at, over_at}
 use Rattle.files.proofs.Low.{word_bytes_length}
+use Rattle.files.proofs.copies.put_words.Invariants.{bytes}
 use Rattle.files.proofs.copies.put_words.Goals as goal
-
--- the bytes of some words, masked
-abbrev bytes : ℕ → List ℕ → List ℕ
-bytes mask words = word_bytes (map (masked_by mask) words)
 
 bytes_length : (mask : ℕ) (words : List ℕ) → length (bytes mask words) ≡ 8 * length words
 bytes_length mask words = word_bytes_length (map (masked_by mask) words) ∙ ap (λ (n : ℕ). 8 * n) (length-map words (masked_by mask))

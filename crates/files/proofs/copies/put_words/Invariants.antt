@@ -15,6 +15,10 @@ use Rattle.files.proofs.Copying.{begin_at, over_at}
 use Rattle.files.proofs.Low.{word_bytes_length}
 use Rattle.files.proofs.copies.put_words.Given as goal
 
+-- the bytes of some words, masked
+abbrev pub bytes : ℕ → List ℕ → List ℕ
+bytes mask words = word_bytes (map (masked_by mask) words)
+
 abbrev pub invariant-loop-i : goal.invariant-loop-i
 invariant-loop-i l =
     (l.i ≤ length l.words) × (l.end ≡ l.at + 8 * l.i) × Writing (take l.at l.initial.out ++ bytes l.mask l.words) (bytes l.mask (drop l.i l.words)) l.initial.out l.out l.end

@@ -13,11 +13,8 @@ use Rattle.records.proofs.Area.{Writing, begin, complete, next_byte, room}
 use Rattle.index.specs.Packed.{words_of}
 use Rattle.files.specs.Copies.{masked_by}
 use Rattle.files.proofs.Passes.{words_of_length}
+use Rattle.files.proofs.copies.take_words.Invariants.{from}
 use Rattle.files.proofs.copies.take_words.Goals as goal
-
--- so many words from a word on
-abbrev from : List ℕ → ℕ → ℕ → List ℕ
-from bytes n i = words_of (n - i) (drop (8 * i) bytes)
 
 -- the next, and the others
 one_word : (bytes : List ℕ) (n i : ℕ) → i < n → from bytes n i ≡ number_of (part (8 * i) 8 bytes) ∷ from bytes n (i + 1)

@@ -15,6 +15,10 @@ use Rattle.files.specs.Copies.{masked_by}
 use Rattle.files.proofs.Passes.{words_of_length}
 use Rattle.files.proofs.copies.take_words.Given as goal
 
+-- so many words from a word on
+abbrev pub from : List ℕ → ℕ → ℕ → List ℕ
+from bytes n i = words_of (n - i) (drop (8 * i) bytes)
+
 abbrev pub invariant-loop-i : goal.invariant-loop-i
 invariant-loop-i l =
     (l.i ≤ length l.initial.words)

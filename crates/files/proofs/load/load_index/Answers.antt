@@ -23,7 +23,7 @@ returns-then-not-packed c =
     c.load_words.ensures.0
     ∙ ap (λ (k : ℕ). over (map (masked_by 0x7fff_ffff_ffff_ffff) (words_of k l)) a.index.now) n
     ∙ ap (λ (s : List ℕ). over s a.index.now) (index_words a.buckets l)
-    ∙ ap (λ (p : Bool). over (unmarked_index p a.buckets (words_of (8 * a.buckets) l)) a.index.now) (sym (not-true a.packed c.if-not-packed.true))
+    ∙ ap (λ (p : Bool). over (unmarked_index p a.buckets (words_of (8 * a.buckets) l)) a.index.now) (sym (c.if-not-packed.true))
 
 pub returns : goal.returns
 returns c =
@@ -39,4 +39,4 @@ returns c =
     index_two a.buckets rest l tail a.index.now u.new.area t.new.area (omega arith) all u.ensures.0
     (t.ensures.0 ∙ ap (λ (s : List ℕ). pasted a.buckets s u.new.area) t.ensures.1)
     ∙ ap (λ (p : Bool). over (unmarked_index p a.buckets (words_of (8 * a.buckets) l)) a.index.now)
-    (sym (not-false a.packed c.if-not-packed.false))
+    (sym (c.if-not-packed.false))

@@ -30,7 +30,7 @@ returns-then-not-source_holds c = rw (said_no c.source_holds.ensures c.if-not-so
 pub sum_of-bytes-requires : goal.sum_of-bytes-requires
 sum_of-bytes-requires c =
     let a = c.args in
-    let h = held c in
+    let h = (held c) in
     let each = sum_inside a.set.filled a.starts.now a.lengths.now a.set.segments (omega (arith, h.arena_short)) h.inside in
     (omega (arith, h.few, h.lengths_hold), omega (arith, each, h.few))
 
@@ -41,11 +41,13 @@ returns-then-bytes-gt-MAX_ARENA_BYTES c =
     rw (said_yes c.source_holds.ensures c.if-not-source_holds.false, lt-leb _ _ (rw sum at c.if-bytes-gt-MAX_ARENA_BYTES.true))
 
 -- the numbers that are added are small
-few : (c : Else-bytes-gt-MAX_ARENA_BYTES) → let s = c.args.set in (s.segments ≤ 256) ×
+few : (c : Else-bytes-gt-MAX_ARENA_BYTES)
+    → (let a = c.args in SourceHolds a.set a.starts.now a.lengths.now a.set.filled)
+    → let s = c.args.set in (s.segments ≤ 256) ×
     (s.buckets ≤ 1048582) × (s.filter_words ≤ 4194304)
-few c =
+few c h_held =
     let s = c.args.set in
-    let h = held c.before.before.before.before.before in
+    let h = h_held in
     let counts = set_counts s h.numbers in
     let bits : s.config.negative_filter_bits_per_entry < 256 = omega (arith, c.struct_known-3-1.given) in
     (h.few, few_buckets _ _ _ _ counts, few_words _ _ _ _ counts bits)
@@ -57,26 +59,26 @@ pub overflow_add-result : goal.overflow_add-result
 overflow_add-result c = omega (arith, (held (goal.at.overflow_add-result c).Else-not-source_holds).few)
 
 pub overflow_mul-result-2 : goal.overflow_mul-result-2
-overflow_mul-result-2 c = let h = held (goal.at.overflow_mul-result-2 c).Else-not-source_holds in omega (
+overflow_mul-result-2 c = let h = (held (goal.at.overflow_mul-result-2 c).Else-not-source_holds) in omega (
   arith,
   few_buckets _ _ _ _ (set_counts c.args.set h.numbers),
 )
 
 pub overflow_add-result-2 : goal.overflow_add-result-2
-overflow_add-result-2 c = let h = held (goal.at.overflow_add-result-2 c).Else-not-source_holds in omega (
+overflow_add-result-2 c = let h = (held (goal.at.overflow_add-result-2 c).Else-not-source_holds) in omega (
   arith,
   h.few,
   few_buckets _ _ _ _ (set_counts c.args.set h.numbers),
 )
 
 pub overflow_mul-result-3 : goal.overflow_mul-result-3
-overflow_mul-result-3 c = omega (arith, few c)
+overflow_mul-result-3 c = omega (arith, (few (goal.at.overflow_mul-result-3 c).Else-bytes-gt-MAX_ARENA_BYTES (held (goal.at.overflow_mul-result-3 c).Else-not-source_holds)))
 
 pub overflow_add-result-3 : goal.overflow_add-result-3
-overflow_add-result-3 c = omega (arith, few c)
+overflow_add-result-3 c = omega (arith, (few (goal.at.overflow_add-result-3 c).Else-bytes-gt-MAX_ARENA_BYTES (held (goal.at.overflow_add-result-3 c).Else-not-source_holds)))
 
 pub overflow_add-result-4 : goal.overflow_add-result-4
-overflow_add-result-4 c = omega (arith, few c)
+overflow_add-result-4 c = omega (arith, (few (goal.at.overflow_add-result-4 c).Else-bytes-gt-MAX_ARENA_BYTES (held (goal.at.overflow_add-result-4 c).Else-not-source_holds)))
 
 pub returns : goal.returns
 unfolding size_answer ask_size

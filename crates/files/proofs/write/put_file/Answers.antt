@@ -19,6 +19,22 @@ use Rattle.files.proofs.Pieces.{block_length}
 use Rattle.files.proofs.write.put_file.Goals as goal
 use Rattle.files.proofs.write.put_file.Goals.{After-put_counts-after_counts, After-put_front-after_filter, After-put_front-after_lengths, After-put_index-after_index, After-put_segments, Start}
 
+-- the start of the call
+abbrev from_after_put_counts_after_counts : After-put_counts-after_counts → Start
+from_after_put_counts_after_counts c = c.before.before.before.before.before.before.before.before.before
+
+abbrev from_after_put_front_after_lengths : After-put_front-after_lengths → Start
+from_after_put_front_after_lengths c = c.before.before.before.before.before.before.before.before.before.before.before.before.before
+
+abbrev from_after_put_index_after_index : After-put_index-after_index → Start
+from_after_put_index_after_index c = c.before.before.before.before.before.before.before.before.before.before.before.before.before.before.before.before.before
+
+abbrev from_after_put_front_after_filter : After-put_front-after_filter → Start
+from_after_put_front_after_filter c = c.before.before.before.before.before.before.before.before.before.before.before.before.before.before.before.before.before.before.before.before.before
+
+abbrev from_after_put_segments : After-put_segments → Start
+from_after_put_segments c = c.before.before.before.before.before.before.before.before.before.before.before.before.before.before.before.before.before.before.before.before.before.before.before.before.before
+
 -- the file's blocks, what is left to write after each, and how long they are
 module _ (s : Start) where
   abbrev set : FrozenSegmentCache
@@ -109,38 +125,27 @@ module _ (s : Start) where
       begin (one ++ left1) file
       (omega (arith, long.file_long set index filter starts lengths arena file asked, asked.room))
 
--- the start, from after each block
-abbrev from1 : After-put_counts-after_counts → Start
-from1 c = c.before.before.before.before.before.before.before.before
-
-abbrev from2 : After-put_front-after_lengths → Start
-from2 c = from1 c.before.before.before.before
-
-abbrev from3 : After-put_index-after_index → Start
-from3 c = from2 c.before.before.before.before
-
-abbrev from4 : After-put_front-after_filter → Start
-from4 c = from3 c.before.before.before.before
-
-at1 : (c : After-put_counts-after_counts) → let s = from1 c in Left s (left1 s) c.put_counts-after_counts.new.file c.put_counts-after_counts.result
+at1 : (c : After-put_counts-after_counts) → Left (from_after_put_counts_after_counts c) (left1 (from_after_put_counts_after_counts c)) c.put_counts-after_counts.new.file c.put_counts-after_counts.result
 at1 c =
-    let s = from1 c in
-    next (one s) (left1 s) _ _ (at0 s) refl (omega (arith, c.put_counts-after_counts.ensures.0, one_long s)) c.put_counts-after_counts.ensures.1
+    next (one (from_after_put_counts_after_counts c)) (left1 (from_after_put_counts_after_counts c)) _ _ (at0 (from_after_put_counts_after_counts c)) refl (omega (arith, c.put_counts-after_counts.ensures.0, one_long (from_after_put_counts_after_counts c))) c.put_counts-after_counts.ensures.1
 
-at2 : (c : After-put_front-after_lengths) → let s = from2 c in Left s (three s ++ (four s ++ five s)) c.put_front-after_lengths.new.file c.put_front-after_lengths.result
-at2 c =
-    let s = from2 c in
-    next (two s) (three s ++ (four s ++ five s)) _ _ (at1 c.before.before.before.before) refl (omega (arith, c.put_front-after_lengths.ensures.0, two_long s)) c.put_front-after_lengths.ensures.1
+at2 : (c : After-put_front-after_lengths)
+    → (Left (from_after_put_front_after_lengths c) (left1 (from_after_put_front_after_lengths c)) c.put_counts-after_counts.new.file c.put_counts-after_counts.result)
+    → Left (from_after_put_front_after_lengths c) (three (from_after_put_front_after_lengths c) ++ (four (from_after_put_front_after_lengths c) ++ five (from_after_put_front_after_lengths c))) c.put_front-after_lengths.new.file c.put_front-after_lengths.result
+at2 c h_at1 =
+    next (two (from_after_put_front_after_lengths c)) (three (from_after_put_front_after_lengths c) ++ (four (from_after_put_front_after_lengths c) ++ five (from_after_put_front_after_lengths c))) _ _ h_at1 refl (omega (arith, c.put_front-after_lengths.ensures.0, two_long (from_after_put_front_after_lengths c))) c.put_front-after_lengths.ensures.1
 
-at3 : (c : After-put_index-after_index) → let s = from3 c in Left s (four s ++ five s) c.put_index-after_index.new.file c.put_index-after_index.result
-at3 c =
-    let s = from3 c in
-    next (three s) (four s ++ five s) _ _ (at2 c.before.before.before.before) refl (omega (arith, c.put_index-after_index.ensures.0, three_long s)) c.put_index-after_index.ensures.1
+at3 : (c : After-put_index-after_index)
+    → (Left (from_after_put_index_after_index c) (three (from_after_put_index_after_index c) ++ (four (from_after_put_index_after_index c) ++ five (from_after_put_index_after_index c))) c.put_front-after_lengths.new.file c.put_front-after_lengths.result)
+    → Left (from_after_put_index_after_index c) (four (from_after_put_index_after_index c) ++ five (from_after_put_index_after_index c)) c.put_index-after_index.new.file c.put_index-after_index.result
+at3 c h_at2 =
+    next (three (from_after_put_index_after_index c)) (four (from_after_put_index_after_index c) ++ five (from_after_put_index_after_index c)) _ _ h_at2 refl (omega (arith, c.put_index-after_index.ensures.0, three_long (from_after_put_index_after_index c))) c.put_index-after_index.ensures.1
 
-at4 : (c : After-put_front-after_filter) → let s = from4 c in Left s (five s) c.put_front-after_filter.new.file c.put_front-after_filter.result
-at4 c =
-    let s = from4 c in
-    next (four s) (five s) _ _ (at3 c.before.before.before.before) refl (omega (arith, c.put_front-after_filter.ensures.0, four_long s)) c.put_front-after_filter.ensures.1
+at4 : (c : After-put_front-after_filter)
+    → (Left (from_after_put_front_after_filter c) (four (from_after_put_front_after_filter c) ++ five (from_after_put_front_after_filter c)) c.put_index-after_index.new.file c.put_index-after_index.result)
+    → Left (from_after_put_front_after_filter c) (five (from_after_put_front_after_filter c)) c.put_front-after_filter.new.file c.put_front-after_filter.result
+at4 c h_at3 =
+    next (four (from_after_put_front_after_filter c)) (five (from_after_put_front_after_filter c)) _ _ h_at3 refl (omega (arith, c.put_front-after_filter.ensures.0, four_long (from_after_put_front_after_filter c))) c.put_front-after_filter.ensures.1
 
 pub put_counts-after_counts-requires : goal.put_counts-after_counts-requires
 put_counts-after_counts-requires c = omega (arith, fits (one (goal.at.put_counts-after_counts-requires c).Start) (left1 (goal.at.put_counts-after_counts-requires c).Start) (at0 (goal.at.put_counts-after_counts-requires c).Start) refl, one_long (goal.at.put_counts-after_counts-requires c).Start)
@@ -151,28 +156,29 @@ put_front-after_lengths-requires c =
 
 pub put_index-after_index-requires : goal.put_index-after_index-requires
 put_index-after_index-requires c =
-    (omega (arith, fits (three (goal.at.put_index-after_index-requires c).Start) (four (goal.at.put_index-after_index-requires c).Start ++ five (goal.at.put_index-after_index-requires c).Start) (at2 (goal.at.put_index-after_index-requires c).After-put_front-after_lengths) refl, three_long (goal.at.put_index-after_index-requires c).Start), (asked (goal.at.put_index-after_index-requires c).Start).index_holds)
+    (omega (arith, fits (three (goal.at.put_index-after_index-requires c).Start) (four (goal.at.put_index-after_index-requires c).Start ++ five (goal.at.put_index-after_index-requires c).Start) ((at2 (goal.at.put_index-after_index-requires c).After-put_front-after_lengths (at1 (goal.at.put_index-after_index-requires c).After-put_counts-after_counts))) refl, three_long (goal.at.put_index-after_index-requires c).Start), (asked (goal.at.put_index-after_index-requires c).Start).index_holds)
 
 pub put_front-after_filter-requires : goal.put_front-after_filter-requires
 put_front-after_filter-requires c =
-    (omega (arith, fits (four (goal.at.put_front-after_filter-requires c).Start) (five (goal.at.put_front-after_filter-requires c).Start) (at3 (goal.at.put_front-after_filter-requires c).After-put_index-after_index) refl, four_long (goal.at.put_front-after_filter-requires c).Start), (asked (goal.at.put_front-after_filter-requires c).Start).filter_holds)
+    (omega (arith, fits (four (goal.at.put_front-after_filter-requires c).Start) (five (goal.at.put_front-after_filter-requires c).Start) ((at3 (goal.at.put_front-after_filter-requires c).After-put_index-after_index (at2 (goal.at.put_front-after_filter-requires c).After-put_front-after_lengths (at1 (goal.at.put_front-after_filter-requires c).After-put_counts-after_counts)))) refl, four_long (goal.at.put_front-after_filter-requires c).Start), (asked (goal.at.put_front-after_filter-requires c).Start).filter_holds)
 
 pub put_segments-requires : goal.put_segments-requires
 put_segments-requires c = (
   omega (arith, (asked (goal.at.put_segments-requires c).Start).few_segments, (asked (goal.at.put_segments-requires c).Start).starts_hold),
   omega (arith, (asked (goal.at.put_segments-requires c).Start).few_segments, (asked (goal.at.put_segments-requires c).Start).lengths_hold),
   inside (goal.at.put_segments-requires c).Start,
-  omega (arith, fits (five (goal.at.put_segments-requires c).Start) [] (at4 (goal.at.put_segments-requires c).After-put_front-after_filter) (sym (append-nil (five (goal.at.put_segments-requires c).Start))), five_long (goal.at.put_segments-requires c).Start),
+  omega (arith, fits (five (goal.at.put_segments-requires c).Start) [] ((at4 (goal.at.put_segments-requires c).After-put_front-after_filter (at3 (goal.at.put_segments-requires c).After-put_index-after_index (at2 (goal.at.put_segments-requires c).After-put_front-after_lengths (at1 (goal.at.put_segments-requires c).After-put_counts-after_counts))))) (sym (append-nil (five (goal.at.put_segments-requires c).Start))), five_long (goal.at.put_segments-requires c).Start),
 )
 
 -- all five
-at5 : (c : After-put_segments) → let s = from4 c.before.before.before.before in Left s [] c.put_segments.new.file c.put_segments.result
-at5 c =
-    let s = from4 c.before.before.before.before in
-    next (five s) [] _ _ (at4 c.before.before.before.before) (sym (append-nil (five s))) (omega (arith, c.put_segments.ensures.0, five_long s)) c.put_segments.ensures.1
+at5 : (c : After-put_segments)
+    → (Left (from_after_put_segments c) (five (from_after_put_segments c)) c.put_front-after_filter.new.file c.put_front-after_filter.result)
+    → Left (from_after_put_segments c) [] c.put_segments.new.file c.put_segments.result
+at5 c h_at4 =
+    next (five (from_after_put_segments c)) [] _ _ h_at4 (sym (append-nil (five (from_after_put_segments c)))) (omega (arith, c.put_segments.ensures.0, five_long (from_after_put_segments c))) c.put_segments.ensures.1
 
 pub shape_of-file : goal.shape_of-file
-shape_of-file c = (room (at5 (goal.at.shape_of-file c).After-put_segments)).1
+shape_of-file c = (room ((at5 (goal.at.shape_of-file c).After-put_segments (at4 (goal.at.shape_of-file c).After-put_front-after_filter (at3 (goal.at.shape_of-file c).After-put_index-after_index (at2 (goal.at.shape_of-file c).After-put_front-after_lengths (at1 (goal.at.shape_of-file c).After-put_counts-after_counts))))))).1
 
 pub returns : goal.returns
-returns c = (complete (at5 (goal.at.returns c).After-put_segments) refl).1
+returns c = (complete ((at5 (goal.at.returns c).After-put_segments (at4 (goal.at.returns c).After-put_front-after_filter (at3 (goal.at.returns c).After-put_index-after_index (at2 (goal.at.returns c).After-put_front-after_lengths (at1 (goal.at.returns c).After-put_counts-after_counts)))))) refl).1

@@ -28,7 +28,7 @@ returns-then-not-packed c =
     let long : length (take (8 * n) index) ≡ 8 * n = length-take-le (8 * n) index (omega arith) in (
       omega (arith, put.0, ap length all, long),
       put.1
-          ∙ rw (all, not-true a.packed c.if-not-packed.true) (ap (λ (s : List ℕ). pasted a.at s a.file.now) (words_unmarked n (take (8 * n) index))),
+          ∙ rw (all, c.if-not-packed.true) (ap (λ (s : List ℕ). pasted a.at s a.file.now) (words_unmarked n (take (8 * n) index))),
     )
 
 pub returns : goal.returns
@@ -51,7 +51,7 @@ returns c =
     let end : first.result ≡ a.at + length bytes = omega (arith, first.ensures.0, ap length control, count, wide) in (
       omega (arith, second.0, ap length references, length-drop n ws, long, end, wide),
       second.1
-          ∙ rw (references, first.ensures.1, control, not-false a.packed c.if-not-packed.false)
+          ∙ rw (references, first.ensures.1, control, c.if-not-packed.false)
           (paste_next a.at first.result bytes (word_bytes (map (masked_by 0xffff_ffff_ffff_ffff) (drop n ws))) a.file.now end (omega arith)
           ∙ ap (λ (s : List ℕ). pasted a.at s a.file.now) (packed_unmarked_bytes n ws)),
     )

@@ -42,7 +42,7 @@ sized : (c : In-Bytes) → let a = c.args in let n = c.in-Bytes.bytes in
 sized c =
     let a = c.args in
     asked_size a.set (length a.index.now) (length a.filter.now) (length a.arena.now) (length a.file.now) a.starts.now a.lengths.now (held
-    c.before.before.before.before)
+    c.before)
     c.in-Bytes.bytes (sym c.file_bytes.ensures ∙ ap size_reply c.in-Bytes.is)
 
 pub returns-then-file-bytes : goal.returns-then-file-bytes
@@ -55,5 +55,5 @@ put_file-requires c = (sized (goal.at.put_file-requires c).In-Bytes).1 ∙ rw (l
 pub returns : goal.returns
 unfolding after_write
 returns c =
-    let told = sized (goal.at.returns c).In-Bytes in
+    let told = (sized (goal.at.returns c).In-Bytes) in
     rw (told.1, le-leb _ _ c.if-file-bytes.false, told.0, c.put_file.ensures) refl

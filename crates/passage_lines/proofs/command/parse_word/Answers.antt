@@ -1,25 +1,25 @@
 -- `parse_word` meets its contract: the words are tried in the order of the definition. Assumes nothing.
-use mathlib.Core.Bool.{false}
+use Rattle.std.proofs.Common.{ℕ, List, false}
 use mathlib.Core.Path.{◌≡◌, sym, ◌∙◌}
 use Prim.Native.String.{String}
 use Rattle.records.specs.Area.{same_bytes}
-use Rattle.texts.specs.Ascii.{ascii}
+use Rattle.passage_lines.specs.Ascii.{ascii}
 use Rattle.passage_lines.specs.Command.{word_form}
 use borrow.Author.Rules.{rules}
 use Rattle.passage_lines.proofs.command.parse_word.Goals as goal
-use Rattle.passage_lines.proofs.command.parse_word.Goals.{After-same_bytes-2, After-same_bytes-arg-3-1, After-same_bytes-arg-4-1, After-same_bytes-arg-5-1, After-same_bytes-arg-6-1, After-same_bytes-arg-7-1, Else-same_bytes, Else-same_bytes-2, Else-same_bytes-3}
+use Rattle.passage_lines.proofs.command.parse_word.Goals.{Else-same_bytes, Else-same_bytes-2, Else-same_bytes-3}
 
 -- the word is not the one of a test that failed
-abbrev Not : Else-same_bytes → String → Type 0
-Not c w = same_bytes c.args.word.now (ascii w) ≡ false
+abbrev Not : List ℕ → String → Type 0
+Not word w = same_bytes word (ascii w) ≡ false
 
-not_open : (c : Else-same_bytes) → Not c "open"
+not_open : (c : Else-same_bytes) → Not c.args.word.now "open"
 not_open c = sym c.same_bytes.ensures ∙ c.if-same_bytes.false
 
-not_put : (c : Else-same_bytes-2) → Not c.before.before.before "put"
+not_put : (c : Else-same_bytes-2) → Not c.args.word.now "put"
 not_put c = sym c.same_bytes-2.ensures ∙ c.if-same_bytes-2.false
 
-not_close : (c : Else-same_bytes-3) → Not c.before.before.before.before.before.before "close"
+not_close : (c : Else-same_bytes-3) → Not c.args.word.now "close"
 not_close c = sym c.same_bytes-3.ensures ∙ c.if-same_bytes-3.false
 
 pub returns-then-same_bytes : goal.returns-then-same_bytes
@@ -28,16 +28,16 @@ returns-then-same_bytes c = rw (sym c.same_bytes.ensures ∙ c.if-same_bytes.tru
 
 pub returns-then-same_bytes-2 : goal.returns-then-same_bytes-2
 unfolding word_form
-returns-then-same_bytes-2 c = rw (not_open (goal.at.returns-then-same_bytes-2 c).After-same_bytes-arg-3-1, sym c.same_bytes-2.ensures ∙ c.if-same_bytes-2.true) c.parse_put.ensures
+returns-then-same_bytes-2 c = rw ((not_open (goal.at.returns-then-same_bytes-2 c).Else-same_bytes), sym c.same_bytes-2.ensures ∙ c.if-same_bytes-2.true) c.parse_put.ensures
 
 pub returns-then-same_bytes-3 : goal.returns-then-same_bytes-3
 unfolding word_form
-returns-then-same_bytes-3 c = rw (not_open (goal.at.returns-then-same_bytes-3 c).After-same_bytes-arg-4-1, not_put (goal.at.returns-then-same_bytes-3 c).After-same_bytes-arg-5-1, sym c.same_bytes-3.ensures ∙ c.if-same_bytes-3.true) c.parse_close.ensures
+returns-then-same_bytes-3 c = rw ((not_open (goal.at.returns-then-same_bytes-3 c).Else-same_bytes), (not_put (goal.at.returns-then-same_bytes-3 c).Else-same_bytes-2), sym c.same_bytes-3.ensures ∙ c.if-same_bytes-3.true) c.parse_close.ensures
 
 pub returns-then-same_bytes-4 : goal.returns-then-same_bytes-4
 unfolding word_form
-returns-then-same_bytes-4 c = rw (not_open (goal.at.returns-then-same_bytes-4 c).After-same_bytes-2, not_put (goal.at.returns-then-same_bytes-4 c).After-same_bytes-arg-6-1, not_close (goal.at.returns-then-same_bytes-4 c).After-same_bytes-arg-7-1, sym c.same_bytes-4.ensures ∙ c.if-same_bytes-4.true) c.parse_get.ensures
+returns-then-same_bytes-4 c = rw ((not_open (goal.at.returns-then-same_bytes-4 c).Else-same_bytes), (not_put (goal.at.returns-then-same_bytes-4 c).Else-same_bytes-2), (not_close (goal.at.returns-then-same_bytes-4 c).Else-same_bytes-3), sym c.same_bytes-4.ensures ∙ c.if-same_bytes-4.true) c.parse_get.ensures
 
 pub returns : goal.returns
 unfolding word_form
-returns c = rw (not_open (goal.at.returns c).After-same_bytes-2, not_put (goal.at.returns c).After-same_bytes-arg-6-1, not_close (goal.at.returns c).After-same_bytes-arg-7-1, sym c.same_bytes-4.ensures ∙ c.if-same_bytes-4.false)
+returns c = rw ((not_open (goal.at.returns c).Else-same_bytes), (not_put (goal.at.returns c).Else-same_bytes-2), (not_close (goal.at.returns c).Else-same_bytes-3), sym c.same_bytes-4.ensures ∙ c.if-same_bytes-4.false)

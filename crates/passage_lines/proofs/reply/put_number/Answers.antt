@@ -3,8 +3,8 @@ use mathlib.Core.Path.{ap}
 use mathlib.Core.List.{[], ◌∷◌}
 use native.Mathlib.Omega.{arith}
 use lib.ListN.{length}
-use Rattle.texts.specs.Output.{decimal_text}
-use Rattle.texts.proofs.Spelling.{appended_parts, pasted_length, pasted_more}
+use Rattle.passage_lines.specs.Output.{decimal_text}
+use Rattle.passage_lines.proofs.Replies.{appended_parts, pasted_length, pasted_more}
 use borrow.Author.Rules.{rules}
 use Rattle.passage_lines.proofs.reply.put_number.Goals as goal
 

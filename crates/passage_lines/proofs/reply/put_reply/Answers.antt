@@ -7,4 +7,4 @@ use Rattle.passage_lines.proofs.reply.put_reply.Goals as goal
 
 pub returns : goal.returns
 returns c = let w = c.write_reply-end in
-    c.put_text.ensures ∙ rw (over_front (reply_text c.args.reply) _ w.new.line _ w.ensures.0 w.ensures.2)
+    c.put_text.ensures ∙ rw (over_front (reply_text c.before.before.before.args.reply) _ w.new.line _ w.ensures.0 w.ensures.2)

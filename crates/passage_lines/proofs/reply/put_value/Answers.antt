@@ -2,7 +2,7 @@
 use borrow.Author.Rules.{rules}
 use native.Mathlib.Omega.{arith}
 use lib.ListN.{length-take, length-drop}
-use Rattle.texts.proofs.Spelling.{appended_in, appended_out}
+use Rattle.passage_lines.proofs.Spelling.{appended_in, appended_out}
 use Rattle.passage_lines.proofs.Replies.{value_length}
 use Rattle.passage_lines.proofs.reply.put_value.Goals as goal
 

@@ -9,7 +9,14 @@ use Rattle.passage_lines.specs.Reply.{word_text, line_feed, number_field, refuse
 use Rattle.passage_lines.proofs.Replies.{next_text, number_fits, next_number, refused_short}
 use borrow.Author.Rules.{rules}
 use Rattle.passage_lines.proofs.reply.write_refused.Goals as goal
-use Rattle.passage_lines.proofs.reply.write_refused.Goals.{After-line-2-1, After-put_number-end, After-put_word-word_end, Start}
+use Rattle.passage_lines.proofs.reply.write_refused.Goals.{After-put_number-end, After-put_word-word_end, Start}
+
+-- the start of the call
+abbrev from_after_put_word_word_end : After-put_word-word_end → Start
+from_after_put_word_word_end c = c.before.before.before
+
+abbrev from_after_put_number_end : After-put_number-end → Start
+from_after_put_number_end c = c.before.before.before.before.before.before.before
 
 -- what is left to write when so much of the line is there, with the area as it is then
 abbrev Left : (s : Start) → List ℕ → List ℕ → ℕ → Type 0
@@ -18,16 +25,20 @@ Left s left out at = Writing (refused_text s.args.word s.args.number) left s.arg
 short : (s : Start) → length (refused_text s.args.word s.args.number) ≤ 64
 short s = refused_short s.args.word s.args.number (omega arith)
 
-after_word : (c : After-put_word-word_end) → Left c.before.before.before (number_field c.args.number ++ line_feed) c.put_word-word_end.new.line c.put_word-word_end.result
-after_word c = next_text (word_text c.args.word) (begin _ _ (omega (arith, short c.before.before.before))) c.put_word-word_end.ensures
+after_word : (c : After-put_word-word_end)
+    → (length (refused_text c.args.word c.args.number) ≤ 64)
+    → Left (from_after_put_word_word_end c) (number_field c.args.number ++ line_feed) c.put_word-word_end.new.line c.put_word-word_end.result
+after_word c h_short = next_text (word_text c.args.word) (begin _ _ (omega (arith, h_short))) c.put_word-word_end.ensures
 
-after_number : (c : After-put_number-end) → Left c.before.before.before.before.before.before.before line_feed c.put_number-end.new.line c.put_number-end.result
-after_number c = next_number _ (after_word c.before.before.before.before) c.put_number-end.ensures
+after_number : (c : After-put_number-end)
+    → (Left (from_after_put_number_end c) (number_field c.args.number ++ line_feed) c.put_word-word_end.new.line c.put_word-word_end.result)
+    → Left (from_after_put_number_end c) line_feed c.put_number-end.new.line c.put_number-end.result
+after_number c h_after_word = next_number _ h_after_word c.put_number-end.ensures
 
 pub put_number-end-requires : goal.put_number-end-requires
-put_number-end-requires c = number_fits _ _ (after_word (goal.at.put_number-end-requires c).After-put_word-word_end)
+put_number-end-requires c = number_fits _ _ ((after_word (goal.at.put_number-end-requires c).After-put_word-word_end (short (goal.at.put_number-end-requires c).Start)))
 
 pub returns : goal.returns
 returns c = let t = c.put_text in
-    let w = complete (next_text line_feed (after_number (goal.at.returns c).After-line-2-1) t.ensures) refl in
-    (w.0, omega (arith, w.0, short (goal.at.returns c).Start), w.1)
+    let w = complete (next_text line_feed ((after_number (goal.at.returns c).After-put_number-end (after_word (goal.at.returns c).After-put_word-word_end (short (goal.at.returns c).Start)))) t.ensures) refl in
+    (w.0, omega (arith, w.0, (short (goal.at.returns c).Start)), w.1)

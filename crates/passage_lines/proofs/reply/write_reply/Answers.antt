@@ -1,9 +1,9 @@
 -- `write_reply` meets its contract: each kind of reply is its line. Assumes nothing.
 use borrow.Author.Rules.{rules}
 use native.Mathlib.Omega.{arith}
-use Rattle.texts.specs.Ascii.{ascii}
+use Rattle.passage_lines.specs.Ascii.{ascii}
 use Rattle.passage_lines.specs.Reply.{reply_text}
-use Rattle.texts.proofs.Spelling.{appended_parts}
+use Rattle.passage_lines.proofs.Replies.{appended_parts}
 use Rattle.passage_lines.proofs.reply.write_reply.Goals as goal
 
 pub returns-in-Bad : goal.returns-in-Bad

@@ -16,7 +16,7 @@ pub returns-then-text-point-ne46 : goal.returns-then-text-point-ne46
 returns-then-text-point-ne46 c = sym (duration_no_point _ c.if-text-lt11.false c.if-text-point-ne46.true)
 
 pub slice_bounds-parse_number-end : goal.slice_bounds-parse_number-end
-slice_bounds-parse_number-end c = let t = c.args.text.now in sym (length-take-le (length t - 10) t (omega arith))
+slice_bounds-parse_number-end c = let t = c.before.before.before.before.before.args.text.now in sym (length-take-le (length t - 10) t (omega arith))
 
 pub returns-in_default : goal.returns-in_default
 returns-in_default c = let secs = sym c.parse_number.ensures ∙ ap number_given c.in_default.is in

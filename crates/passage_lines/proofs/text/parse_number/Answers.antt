@@ -9,23 +9,20 @@ use Rattle.passage_lines.proofs.text.parse_number.Goals as goal
 use Rattle.passage_lines.proofs.text.parse_number.Goals.{Else-next-base, Else-value-max}
 
 -- one digit more
-next_of : (c : Else-next-base)
-    → let l = c.before.before.before.before.loop-i in
-    let a = c.before.before.before.before.before.before.before.args in
-    number_in a.base a.max a.text.now ≡ at_most a.max (spelled a.base (l.value * a.base + c.before.digit-next.result) (drop (l.i + 1) a.text.now))
+next_of : (c : Else-next-base) → let l = c.loop-i in
+    let a = c.args in
+    number_in a.base a.max a.text.now ≡ at_most a.max (spelled a.base (l.value * a.base + c.digit-next.result) (drop (l.i + 1) a.text.now))
 next_of c =
-    let l = c.before.before.before.before.loop-i in
-    l.invariant.0 ∙ ap (at_most _) (spelled_next _ l.value _ _ _ c.before.before.before.loop-i-test.true c.before.digit-next.ensures.0 c.if-next-base.false)
+    let l = c.loop-i in
+    l.invariant.0 ∙ ap (at_most _) (spelled_next _ l.value _ _ _ c.loop-i-test.true c.digit-next.ensures.0 c.if-next-base.false)
 
 -- it is at most the limit
-fits_of : (c : Else-value-max)
-    → let l = c.before.before.before.before.before.loop-i in
-    let a = c.before.before.before.before.before.before.before.before.args in
-    l.value * a.base + c.before.before.digit-next.result ≤ a.max
+fits_of : (c : Else-value-max) → let l = c.loop-i in
+    let a = c.args in
+    l.value * a.base + c.digit-next.result ≤ a.max
 fits_of c =
-    let l = c.before.before.before.before.before.loop-i in
-    let s = c.before.before.before.before.before.before.before.before in
-    step_in s.args.base s.args.max l.value c.before.before.digit-next.result s.requires.0 (omega arith) c.if-value-max.false
+    let l = c.loop-i in
+    step_in c.args.base c.args.max l.value c.digit-next.result c.requires.0 (omega arith) c.if-value-max.false
 
 pub returns-then-text-eq0 : goal.returns-then-text-eq0
 returns-then-text-eq0 c = sym (number_none _ _ _ c.if-text-eq0.true)
@@ -38,16 +35,16 @@ returns-then-next-base c = let l = c.loop-i in
     sym (l.invariant.0 ∙ ap (at_most _) (spelled_bad _ _ _ _ _ c.loop-i-test.true c.digit-next.ensures.0 c.if-next-base.true))
 
 pub returns-then-value-max : goal.returns-then-value-max
-returns-then-value-max c = sym (next_of (goal.at.returns-then-value-max c).Else-next-base ∙ past _ _ _ _ c.requires.0 (step_out _ _ _ _ c.requires.0 c.if-value-max.true))
+returns-then-value-max c = sym ((next_of (goal.at.returns-then-value-max c).Else-next-base) ∙ past _ _ _ _ c.requires.0 (step_out _ _ _ _ c.requires.0 c.if-value-max.true))
 
 pub overflow_mul-value : goal.overflow_mul-value
-overflow_mul-value c = omega (arith, fits_of c)
+overflow_mul-value c = omega (arith, (fits_of c))
 
 pub overflow_add-value : goal.overflow_add-value
-overflow_add-value c = omega (arith, fits_of c)
+overflow_add-value c = omega (arith, (fits_of c))
 
 pub loop-i-preserved : goal.loop-i-preserved
-loop-i-preserved c = (next_of (goal.at.loop-i-preserved c).Else-next-base, fits_of c)
+loop-i-preserved c = ((next_of (goal.at.loop-i-preserved c).Else-next-base), (fits_of c))
 
 pub returns : goal.returns
 returns c = let l = c.loop-i in sym (l.invariant.0 ∙ ap (at_most _) (spelled_end _ _ _ _ c.loop-i-test.false) ∙ in_limit _ _ l.invariant.1)
