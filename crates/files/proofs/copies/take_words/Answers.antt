@@ -13,7 +13,7 @@ use Rattle.records.proofs.Area.{Writing, begin, complete, next_byte, room}
 use Rattle.index.specs.Packed.{words_of}
 use Rattle.files.specs.Copies.{masked_by}
 use Rattle.files.proofs.Passes.{words_of_length}
-use Rattle.files.proofs.copies.take_words.Invariants.{from}
+use Rattle.files.proofs.copies.take_words.Invariants.{Fitting, from}
 use Rattle.files.proofs.copies.take_words.Goals as goal
 
 -- the next, and the others
@@ -23,10 +23,6 @@ one_word bytes n i h =
     let e : n - i ≡ suc (n - (i + 1)) = omega arith in
     let d : 8 * i + 8 ≡ 8 * (i + 1) = omega arith in
     rw e (ap (λ (l : List ℕ). number_of (part (8 * i) 8 bytes) ∷ words_of (n - (i + 1)) l) (drop-drop 8 (8 * i) bytes ∙ ap (λ (k : ℕ). drop k bytes) d))
-
--- words of 64 bits
-abbrev Fitting : List ℕ → Type 0
-Fitting l = map (masked_by (2 ^ 64 - 1)) l ≡ l
 
 fitting_more : (w : ℕ) (l : List ℕ) → w < 2 ^ 64 → Fitting l → Fitting (w ∷ l)
 fitting_more w l h e = ap₂ (λ (x : ℕ) (y : List ℕ). x ∷ y) (and_mask w 64 ∙ mod-eq_of_lt h) e

@@ -19,6 +19,10 @@ use Rattle.files.proofs.copies.take_words.Given as goal
 abbrev pub from : List ℕ → ℕ → ℕ → List ℕ
 from bytes n i = words_of (n - i) (drop (8 * i) bytes)
 
+-- words of 64 bits
+abbrev pub Fitting : List ℕ → Type 0
+Fitting l = map (masked_by (2 ^ 64 - 1)) l ≡ l
+
 abbrev pub invariant-loop-i : goal.invariant-loop-i
 invariant-loop-i l =
     (l.i ≤ length l.initial.words)

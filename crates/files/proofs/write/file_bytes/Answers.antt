@@ -49,7 +49,7 @@ few c h_held =
     let s = c.args.set in
     let h = h_held in
     let counts = set_counts s h.numbers in
-    let bits : s.config.negative_filter_bits_per_entry < 256 = omega (arith, c.struct_known-3-1.given) in
+    let bits : s.config.negative_filter_bits_per_entry < 256 = omega arith in
     (h.few, few_buckets _ _ _ _ counts, few_words _ _ _ _ counts bits)
 
 pub overflow_mul-result : goal.overflow_mul-result

@@ -16,12 +16,12 @@ use Rattle.files.proofs.write.put_counts.Goals.{After-flag_of-packed}
 -- the numbers of kind 1, as the code has them
 module _ (c : After-flag_of-packed) where
   abbrev set : FrozenSegmentCache
-  set = c.before.before.before.before.before.before.before.before.before.before.args.set
+  set = c.args.set
 
   abbrev numbers : List ℕ
   numbers =
-      c.before.before.before.expiry_flag.result ∷ c.before.before.tick_secs.result ∷ c.before.tick_nanos.result
-      ∷ set.config.target_occupied_slots ∷ c.flag_of.result ∷ set.config.negative_filter_bits_per_entry
+      c.expiry_flag-flag.result ∷ c.tick_secs-secs.result ∷ c.tick_nanos-nanos.result
+      ∷ set.config.target_occupied_slots ∷ c.flag_of-packed.result ∷ set.config.negative_filter_bits_per_entry
       ∷ set.entries ∷ set.logical_key_bytes ∷ set.logical_value_bytes ∷ set.record_header_bytes ∷ []
 
   long : length (bytes_for widths numbers) ≡ 44
@@ -30,7 +30,7 @@ module _ (c : After-flag_of-packed) where
   -- they are the set's
   same : bytes_for widths numbers ≡ count_bytes set
   same =
-      counts_same set _ _ _ _ c.before.before.before.expiry_flag.ensures c.before.before.tick_secs.ensures c.before.tick_nanos.ensures c.flag_of.ensures
+      counts_same set _ _ _ _ c.expiry_flag-flag.ensures c.tick_secs-secs.ensures c.tick_nanos-nanos.ensures c.flag_of-packed.ensures
 
 pub put_numbers-requires : goal.put_numbers-requires
 put_numbers-requires c =

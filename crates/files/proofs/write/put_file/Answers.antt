@@ -61,7 +61,7 @@ module _ (s : Start) where
   asked : WriteAsked set index filter starts lengths arena file
   asked =
       write_asked set index filter starts lengths arena
-      file s.pre
+      file s.requires
 
   abbrev one : List ℕ
   one = block 1 (count_bytes set)

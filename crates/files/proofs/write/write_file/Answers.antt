@@ -35,25 +35,26 @@ returns-in_default c =
     (goal.at.returns-in_default c).Else-not-lookup_areas_hold) _ told)
 
 -- the size, and the question that is left
-sized : (c : In-Bytes) → let a = c.args in let n = c.in-Bytes.bytes in
+sized : (c : In-Bytes)
+    → (let a = c.args in areas_hold_lookup a.set (length a.index.now) (length a.filter.now) (length a.starts.now) (length a.lengths.now) (length a.arena.now) ≡ true)
+    → let a = c.args in let n = c.in-Bytes.bytes in
     (n ≡ file_size a.set a.lengths.now)
     × (first_no (ask_write a.set (length a.index.now) (length a.filter.now) a.starts.now a.lengths.now (length a.arena.now) (length a.file.now))
     ≡ cond (leb n (length a.file.now)) 0 10)
-sized c =
+sized c held =
     let a = c.args in
-    asked_size a.set (length a.index.now) (length a.filter.now) (length a.arena.now) (length a.file.now) a.starts.now a.lengths.now (held
-    c.before)
+    asked_size a.set (length a.index.now) (length a.filter.now) (length a.arena.now) (length a.file.now) a.starts.now a.lengths.now held
     c.in-Bytes.bytes (sym c.file_bytes.ensures ∙ ap size_reply c.in-Bytes.is)
 
 pub returns-then-file-bytes : goal.returns-then-file-bytes
 unfolding after_write
-returns-then-file-bytes c = rw ((sized (goal.at.returns-then-file-bytes c).In-Bytes).1, lt-leb _ _ c.if-file-bytes.true)
+returns-then-file-bytes c = rw ((sized (goal.at.returns-then-file-bytes c).In-Bytes (held (goal.at.returns-then-file-bytes c).Else-not-lookup_areas_hold)).1, lt-leb _ _ c.if-file-bytes.true)
 
 pub put_file-requires : goal.put_file-requires
-put_file-requires c = (sized (goal.at.put_file-requires c).In-Bytes).1 ∙ rw (le-leb _ _ c.if-file-bytes.false)
+put_file-requires c = (sized (goal.at.put_file-requires c).In-Bytes (held (goal.at.put_file-requires c).Else-not-lookup_areas_hold)).1 ∙ rw (le-leb _ _ c.if-file-bytes.false)
 
 pub returns : goal.returns
 unfolding after_write
 returns c =
-    let told = (sized (goal.at.returns c).In-Bytes) in
+    let told = (sized (goal.at.returns c).In-Bytes (held (goal.at.returns c).Else-not-lookup_areas_hold)) in
     rw (told.1, le-leb _ _ c.if-file-bytes.false, told.0, c.put_file.ensures) refl
