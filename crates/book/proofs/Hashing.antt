@@ -20,7 +20,7 @@ hash_in (p ∷ l) key = cond (same_key key p.0) p.1 (hash_in l key)
 
 hash_or : (l : List (List ℕ × ℕ)) (key : List ℕ) → Memᴰ (key, hash_in l key) l ⊎ (((h : ℕ) → ¬ Memᴰ (key, h) l) × (hash_in l key ≡ 0))
 unfolding hash_in
-hash_or [] key = inr (λ h. Memᴰ.not_nil, refl)
+hash_or [] key = inr (λ h. Memᴰ.not-nil, refl)
 hash_or (p ∷ l) key = go (same_key key p.0) refl (hash_or l key)
   where
     go : (b : Bool) → same_key key p.0 ≡ b → Memᴰ (key, hash_in l key) l ⊎ (((h : ℕ) → ¬ Memᴰ (key, h) l) × (hash_in l key ≡ 0))

@@ -9,5 +9,7 @@ returns c =
     let a = c.args in
     let areas = areas_of a.index.now a.filter.now a.starts.now a.lengths.now in
     let m = c.push_copied in
-    let left = m.new.index in
-    (m.ensures, make_copy a.builder areas a.arena.now a.hash a.key.now a.value.now a.ttl m.result left.0 left.1.0 left.1.1.1.1.0 m.ensures)
+    record {
+      arena_after = m.ensures;
+      result_after = make_copy a.builder areas a.arena.now a.hash a.key.now a.value.now a.ttl m.result m.new.index m.new.filter m.new.arena m.ensures;
+    }

@@ -9,5 +9,7 @@ returns c =
     let a = c.args in
     let areas = areas_of a.index.now a.filter.now a.starts.now a.lengths.now in
     let m = c.finish in
-    let left = m.new.index in
-    (m.ensures, make_finish a.builder areas a.arena.now a.target a.scratch.now m.result left.0 left.1.0 left.1.1.0 left.1.1.1.0 m.ensures)
+    record {
+      scratch_after = m.ensures;
+      result_after = make_finish a.builder areas a.arena.now a.target a.scratch.now m.result m.new.index m.new.starts m.new.lengths m.new.scratch m.ensures;
+    }

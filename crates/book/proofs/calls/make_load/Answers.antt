@@ -9,5 +9,7 @@ returns c =
     let a = c.args in
     let areas = areas_of a.index.now a.filter.now a.starts.now a.lengths.now in
     let m = c.load_file in
-    let left = m.new.index in
-    (m.ensures, make_load a.file.now a.arena.now areas m.result left.0 left.1.0 left.1.1.0 left.1.1.1.0 left.1.1.1.1.0 m.ensures)
+    record {
+      arena_after = m.ensures;
+      where_written = make_load a.file.now a.arena.now areas m.result m.new.index m.new.filter m.new.starts m.new.lengths m.new.arena m.ensures;
+    }

@@ -9,4 +9,7 @@ returns c =
     let a = c.args in
     let areas = areas_of a.index.now a.filter.now a.starts.now a.lengths.now in
     let m = c.get_at_tick in
-    (m.ensures, make_lookup (set_with a.cache areas) a.arena.now a.hash a.key.now a.now_tick m.result m.new.index m.ensures)
+    record {
+      index_after = m.ensures;
+      wherever = make_lookup (set_with a.cache areas) a.arena.now a.hash a.key.now a.now_tick m.result m.new.index m.ensures;
+    }

@@ -9,4 +9,7 @@ returns c =
     let a = c.args in
     let areas = areas_of a.index.now a.filter.now a.starts.now a.lengths.now in
     let m = c.try_new in
-    (m.ensures, make_open a.config a.entry_count a.arena.now areas m.result m.new.index m.new.filter m.ensures)
+    record {
+      filter_after = m.ensures;
+      result_after = make_open a.config a.entry_count a.arena.now areas m.result m.new.index m.new.filter m.ensures;
+    }

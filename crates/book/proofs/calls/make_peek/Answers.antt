@@ -9,4 +9,7 @@ returns c =
     let a = c.args in
     let areas = areas_of a.index.now a.filter.now a.starts.now a.lengths.now in
     let m = c.peek_at_tick in
-    (m.ensures, make_peek (set_with a.cache areas) a.arena.now a.hash a.key.now a.now_tick m.result a.index.now m.ensures)
+    record {
+      index_value = m.ensures;
+      wherever = make_peek (set_with a.cache areas) a.arena.now a.hash a.key.now a.now_tick m.result a.index.now m.ensures;
+    }

@@ -9,4 +9,7 @@ returns c =
     let a = c.args in
     let areas = areas_of a.index.now a.filter.now a.starts.now a.lengths.now in
     let m = c.finish in
-    (m.ensures, make_refinish a.builder areas a.arena.now a.scratch.now m.result m.new.index m.new.starts m.new.lengths m.new.scratch m.ensures)
+    record {
+      scratch_after = m.ensures;
+      result_after = make_refinish a.builder areas a.arena.now a.scratch.now m.result m.new.index m.new.starts m.new.lengths m.new.scratch m.ensures;
+    }

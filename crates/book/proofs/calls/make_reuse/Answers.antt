@@ -9,4 +9,7 @@ returns c =
     let a = c.args in
     let areas = areas_of a.index.now a.filter.now a.starts.now a.lengths.now in
     let m = c.push_reused in
-    (m.ensures, make_reuse a.builder areas a.arena.now a.hash a.key.now a.value.now a.source m.result m.new.index m.new.filter m.ensures)
+    record {
+      filter_after = m.ensures;
+      result_after = make_reuse a.builder areas a.arena.now a.hash a.key.now a.value.now a.source m.result m.new.index m.new.filter m.ensures;
+    }

@@ -9,4 +9,7 @@ returns c =
     let a = c.args in
     let areas = areas_of a.index.now a.filter.now a.starts.now a.lengths.now in
     let m = c.stats in
-    (m.ensures, make_stats (set_with a.cache areas) a.arena.now m.result m.ensures)
+    record {
+      result_value = m.ensures;
+      wherever = make_stats (set_with a.cache areas) a.arena.now m.result m.ensures;
+    }

@@ -9,4 +9,7 @@ returns c =
     let a = c.args in
     let areas = areas_of a.index.now a.filter.now a.starts.now a.lengths.now in
     let m = c.next_physical_entry_at_tick in
-    (m.ensures, make_walk (set_with a.cache areas) a.arena.now a.from a.now_tick m.result m.ensures.0)
+    record {
+      result_value = m.ensures;
+      wherever = make_walk (set_with a.cache areas) a.arena.now a.from a.now_tick m.result m.ensures.0;
+    }

@@ -9,4 +9,7 @@ returns c =
     let a = c.args in
     let areas = areas_of a.index.now a.filter.now a.starts.now a.lengths.now in
     let m = c.write_file in
-    (m.ensures, make_write (set_with a.cache areas) a.arena.now a.file.now m.result m.new.file m.ensures)
+    record {
+      file_after = m.ensures;
+      wherever = make_write (set_with a.cache areas) a.arena.now a.file.now m.result m.new.file m.ensures;
+    }

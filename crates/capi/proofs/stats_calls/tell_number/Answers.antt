@@ -16,5 +16,5 @@ returns-in_default c = rw (eq-eqb _ _ c.if-out-ne1.false, ← c.load_stats.ensur
 pub returns : goal.returns
 unfolding exported_number
 returns c =
-    rw (eq-eqb _ _ c.if-out-ne1.false, ← c.load_stats.ensures, c.in-Is.is, ← c.number_of_lem.ensures)
+    rw (eq-eqb _ _ c.if-out-ne1.false, ← c.load_stats.ensures, c.in-Is.is, ← c.number_of-number.ensures)
     (ap (told 0) c.copy_words.ensures)
