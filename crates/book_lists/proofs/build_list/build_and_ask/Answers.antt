@@ -16,7 +16,7 @@ returns-in_default c =
     let m = c.make_open in
     let areas = areas_of m.new.index m.new.filter a.starts.now a.lengths.now in
     let w = unopened a.arena.now in
-    goes_on calls (open_left w a.arena.now areas) c.in_default.is (m.ensures.1 w)
+    goes_on calls (open_left w a.arena.now areas) c.in_default.is (m.ensures.result_after w)
 
 pub returns : goal.returns
 returns c =
@@ -27,4 +27,4 @@ returns c =
     let m = c.make_open in
     let areas = areas_of m.new.index m.new.filter a.starts.now a.lengths.now in
     let w = unopened a.arena.now in
-    rw c.push_twice.ensures (goes_on calls (open_left w a.arena.now areas) c.in-Opened.is (m.ensures.1 w))
+    rw c.push_twice.ensures (goes_on calls (open_left w a.arena.now areas) c.in-Opened.is (m.ensures.result_after w))

@@ -14,7 +14,7 @@ returns-in_default c =
     let m = c.make_finish in
     let calls = lookup 0 a.asked_key.now a.asked_hash a.now_tick ∷ [] in
     let areas = areas_of m.new.index a.filter.now m.new.starts m.new.lengths in
-    goes_on calls (finish_left [] [] a.arena.now areas) c.in_default.is (m.ensures.1 [] [])
+    goes_on calls (finish_left [] [] a.arena.now areas) c.in_default.is (m.ensures.result_after [] [])
 
 pub returns : goal.returns
 returns c =
@@ -22,4 +22,4 @@ returns c =
     let m = c.make_finish in
     let calls = lookup 0 a.asked_key.now a.asked_hash a.now_tick ∷ [] in
     let areas = areas_of m.new.index a.filter.now m.new.starts m.new.lengths in
-    rw (c.ask.ensures idle (set_with c.in-Finished.cache areas ∷ []) [] 0 refl) (goes_on calls (finish_left [] [] a.arena.now areas) c.in-Finished.is (m.ensures.1 [] []))
+    rw (c.ask.ensures idle (set_with c.in-Finished.cache areas ∷ []) [] 0 refl) (goes_on calls (finish_left [] [] a.arena.now areas) c.in-Finished.is (m.ensures.result_after [] []))

@@ -12,4 +12,4 @@ returns c =
     let m = c.make_push-pushed in
     let calls = finish a.target a.scratch.now ∷ lookup 0 a.asked_key.now a.asked_hash a.now_tick ∷ [] in
     let areas = areas_of m.new.index m.new.filter a.starts.now a.lengths.now in
-    rw c.finish_and_ask.ensures (push_goes_on calls [] [] m.new.arena areas m.result c.builder_after.ensures (m.ensures.1 [] []))
+    rw c.finish_and_ask.ensures (push_goes_on calls [] [] m.new.arena areas m.result c.builder_after.ensures (m.ensures.result_after [] []))

@@ -13,4 +13,4 @@ returns c =
     let asked = lookup 0 a.asked_key.now a.asked_hash a.now_tick ∷ [] in
     let calls = push a.second_key.now a.second_value.now a.second_hash a.second_ttl ∷ finish a.target a.scratch.now ∷ asked in
     let areas = areas_of m.new.index m.new.filter a.starts.now a.lengths.now in
-    rw c.push_once.ensures (push_goes_on calls [] [] m.new.arena areas m.result c.builder_after.ensures (m.ensures.1 [] []))
+    rw c.push_once.ensures (push_goes_on calls [] [] m.new.arena areas m.result c.builder_after.ensures (m.ensures.result_after [] []))

@@ -13,4 +13,4 @@ returns c = λ source.
     let calls = refinish a.scratch.now ∷ lookup 1 a.asked_key.now a.asked_hash a.now_tick ∷ [] in
     let areas = areas_of m.new.index m.new.filter a.starts.now a.lengths.now in
     rw (c.refinish_and_ask.ensures source)
-    (repush_goes_on calls (source ∷ []) [] m.new.arena areas m.result c.rebuild_after.ensures (m.ensures.1 (source ∷ []) []))
+    (repush_goes_on calls (source ∷ []) [] m.new.arena areas m.result c.rebuild_after.ensures (m.ensures.result_after (source ∷ []) []))

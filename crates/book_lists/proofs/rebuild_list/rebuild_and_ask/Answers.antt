@@ -15,11 +15,10 @@ returns-in_default c =
     let asked = lookup 1 a.asked_key.now a.asked_hash a.now_tick ∷ [] in
     let reused = reuse a.reused_key.now a.reused_value.now a.reused_hash a.reused_at.location a.reused_at.header_bytes in
     let calls = reused ∷ copy a.key.now a.value.now a.hash a.ttl ∷ refinish a.scratch.now ∷ asked in
-    let lent = m.new.index in
-    let areas = areas_of lent.0 lent.1.0 lent.1.1.0 lent.1.1.1.0 in
+    let areas = areas_of m.new.index m.new.filter m.new.starts m.new.lengths in
     let source = set_with a.source (areas_of a.source_index.now a.source_filter.now a.source_starts.now a.source_lengths.now) in
     let w = world_of a.arena.now idle (source ∷ []) [] in
-    goes_on calls (reopen_left w areas) c.in_default.is (m.ensures.1 idle (source ∷ []) [] refl)
+    goes_on calls (reopen_left w areas) c.in_default.is (m.ensures.where_newest idle (source ∷ []) [] refl)
 
 pub shape_of-index : goal.shape_of-index
 shape_of-index c =
@@ -32,8 +31,7 @@ returns c =
     let asked = lookup 1 a.asked_key.now a.asked_hash a.now_tick ∷ [] in
     let reused = reuse a.reused_key.now a.reused_value.now a.reused_hash a.reused_at.location a.reused_at.header_bytes in
     let calls = reused ∷ copy a.key.now a.value.now a.hash a.ttl ∷ refinish a.scratch.now ∷ asked in
-    let lent = m.new.index in
-    let areas = areas_of lent.0 lent.1.0 lent.1.1.0 lent.1.1.1.0 in
+    let areas = areas_of m.new.index m.new.filter m.new.starts m.new.lengths in
     let source = set_with a.source (areas_of a.source_index.now a.source_filter.now a.source_starts.now a.source_lengths.now) in
     let w = world_of a.arena.now idle (source ∷ []) [] in
-    rw (c.reuse_and_copy.ensures source) (goes_on calls (reopen_left w areas) c.in-Opened.is (m.ensures.1 idle (source ∷ []) [] refl))
+    rw (c.reuse_and_copy.ensures source) (goes_on calls (reopen_left w areas) c.in-Opened.is (m.ensures.where_newest idle (source ∷ []) [] refl))

@@ -14,7 +14,7 @@ returns-in_default c = λ source.
     let m = c.make_refinish in
     let calls = lookup 1 a.asked_key.now a.asked_hash a.now_tick ∷ [] in
     let areas = areas_of m.new.index a.filter.now m.new.starts m.new.lengths in
-    goes_on calls (refinish_left (source ∷ []) [] a.arena.now areas) c.in_default.is (m.ensures.1 (source ∷ []) [])
+    goes_on calls (refinish_left (source ∷ []) [] a.arena.now areas) c.in_default.is (m.ensures.result_after (source ∷ []) [])
 
 pub returns : goal.returns
 returns c = λ source.
@@ -23,4 +23,4 @@ returns c = λ source.
     let calls = lookup 1 a.asked_key.now a.asked_hash a.now_tick ∷ [] in
     let areas = areas_of m.new.index a.filter.now m.new.starts m.new.lengths in
     rw (c.ask.ensures idle (source ∷ set_with c.in-Finished.build.cache areas ∷ []) [] 1 refl)
-    (goes_on calls (refinish_left (source ∷ []) [] a.arena.now areas) c.in-Finished.is (m.ensures.1 (source ∷ []) []))
+    (goes_on calls (refinish_left (source ∷ []) [] a.arena.now areas) c.in-Finished.is (m.ensures.result_after (source ∷ []) []))

@@ -13,4 +13,4 @@ returns c = λ source.
     let asked = lookup 1 a.asked_key.now a.asked_hash a.now_tick ∷ [] in
     let calls = copy a.key.now a.value.now a.hash a.ttl ∷ refinish a.scratch.now ∷ asked in
     let areas = areas_of m.new.index m.new.filter a.starts.now a.lengths.now in
-    rw (c.copy_and_finish.ensures source) (repush_goes_on calls (source ∷ []) [] a.arena.now areas m.result c.rebuild_after.ensures (m.ensures.1 (source ∷ []) []))
+    rw (c.copy_and_finish.ensures source) (repush_goes_on calls (source ∷ []) [] a.arena.now areas m.result c.rebuild_after.ensures (m.ensures.result_after (source ∷ []) []))
