@@ -35,6 +35,16 @@ named e =
     slot_used (record_in a.view a.arena.now a.starts.now a.lengths.now) a.packed a.buckets a.index.now e.loop-slot.slot _ _ e.record_at_location-read.result
     (sym e.slot_at.ensures ∙ e.in-Used.is) e.record_at_location-read.ensures
 
+-- of a slot whose record was read
+hit : (e : After-record_at_location-read) (r : RecordRef) → e.record_at_location-read.result ≡ Read r
+    → let a = e.args in
+    rows_from (entry_at (record_in a.view a.arena.now a.starts.now a.lengths.now) a.packed a.buckets a.index.now) a.arena.now (8 * a.buckets) e.loop-slot.slot
+    ≡ row_of a.arena.now (record { slot = e.loop-slot.slot; entry = r }) ∷ rows_from (entry_at (record_in a.view a.arena.now a.starts.now a.lengths.now) a.packed a.buckets a.index.now) a.arena.now (8 * a.buckets) (e.loop-slot.slot + 1)
+hit e r q =
+    let a = e.args in
+    let below : e.loop-slot.slot < 8 * a.buckets = omega (arith, e.loop-slot-test.true) in
+    rows_hit (entry_at (record_in a.view a.arena.now a.starts.now a.lengths.now) a.packed a.buckets a.index.now) a.arena.now (8 * a.buckets) e.loop-slot.slot r below (named e ∙ q)
+
 pub loop-slot-init : goal.loop-slot-init
 unfolding entries_in
 loop-slot-init c = let e : 8 * c.args.buckets - 0 ≡ 8 * c.args.buckets = omega arith in

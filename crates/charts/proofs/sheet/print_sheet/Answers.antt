@@ -27,6 +27,18 @@ rows c = let a = c.args in rows_of a.set a.index.now a.starts.now a.lengths.now 
 abbrev asked : (c : After-sheet_pages-answer) → Reply ℕ (Unit {0})
 asked c = let a = c.args in pages_answer a.set a.index.now a.starts.now a.lengths.now a.arena.now
 
+-- what is known where pages are told
+told : (c : After-sheet_pages-answer) (n : ℕ) → c.sheet_pages-answer.result ≡ Pages n
+    → let a = c.args in
+    (areas_hold_set a.set (length a.index.now) (length a.starts.now) (length a.lengths.now) (length a.arena.now) ≡ true)
+    × (rows_fit (rows c) ≡ true)
+    × (n ≡ pages_for (length (rows c)))
+told c n e =
+    let a = c.args in
+    let said : sheet_reply c.sheet_pages-answer.result ≡ asked c = c.sheet_pages-answer.ensures in
+    let pages : accept n ≡ asked c = sym (ap sheet_reply e) ∙ said in
+    pages_told_law a.set a.index.now a.starts.now a.lengths.now a.arena.now n pages
+
 pub returns-in_default : goal.returns-in_default
 returns-in_default c =
     let a = c.args in
@@ -43,7 +55,7 @@ returns-then-page-pages c =
 pub write_sheet-requires : goal.write_sheet-requires
 write_sheet-requires c =
     let k = told (goal.at.write_sheet-requires c).After-sheet_pages-answer c.in-Pages.pages c.in-Pages.is in
-    rw c.view.ensures (slots_few _ _ _ _ _ k.0, (k.1, (k.2, omega (arith, c.if-page-pages.false))))
+    rw c.view.ensures (record { buckets_in_bounds = slots_few _ _ _ _ _ k.0; arena_value = k.1; pages_value = (k.2, omega (arith, c.if-page-pages.false)) })
 
 pub returns : goal.returns
 returns c =

@@ -43,10 +43,28 @@ named e =
     slot_used (record_in a.view a.arena.now a.starts.now a.lengths.now) a.packed a.buckets a.index.now e.loop-slot.slot _ _ e.record_at_location-read.result
     (sym e.slot_at.ensures ∙ e.in-Used.is) e.record_at_location-read.ensures
 
+-- of a slot whose record was read
+hit : (e : After-record_at_location-read) (r : RecordRef) → e.record_at_location-read.result ≡ Read r
+    → let a = e.args in
+    rows_from (entry_at (record_in a.view a.arena.now a.starts.now a.lengths.now) a.packed a.buckets a.index.now) a.arena.now (8 * a.buckets) e.loop-slot.slot
+    ≡ row_of a.arena.now (record { slot = e.loop-slot.slot; entry = r }) ∷ rows_from (entry_at (record_in a.view a.arena.now a.starts.now a.lengths.now) a.packed a.buckets a.index.now) a.arena.now (8 * a.buckets) (e.loop-slot.slot + 1)
+hit e r q =
+    let a = e.args in
+    let below : e.loop-slot.slot < 8 * a.buckets = omega (arith, e.loop-slot-test.true) in
+    rows_hit (entry_at (record_in a.view a.arena.now a.starts.now a.lengths.now) a.packed a.buckets a.index.now) a.arena.now (8 * a.buckets) e.loop-slot.slot r below (named e ∙ q)
+
+-- what is printed before a row that was read
+standing : (e : After-record_at_location-read) (r : RecordRef) → e.record_at_location-read.result ≡ Read r
+    → let a = e.args in
+    Printing (rows_in (record_in a.view a.arena.now a.starts.now a.lengths.now) a.packed a.buckets a.index.now a.arena.now)
+    (row_of a.arena.now (record { slot = e.loop-slot.slot; entry = r }) ∷ rows_from (entry_at (record_in a.view a.arena.now a.starts.now a.lengths.now) a.packed a.buckets a.index.now) a.arena.now (8 * a.buckets) (e.loop-slot.slot + 1))
+    a.page.now e.loop-slot.page e.loop-slot.rows
+standing e r q = rw (hit e r q) at e.loop-slot.invariant
+
 pub loop-slot-init : goal.loop-slot-init
 unfolding entries_in
 loop-slot-init c = let e : 8 * c.args.buckets - 0 ≡ 8 * c.args.buckets = omega arith in
-    rw e (print_start _ c.args.page.now c.requires.1.0 c.requires.1.1)
+    rw e (print_start _ c.args.page.now c.requires.arena_value c.requires.arena_in_bounds)
 
 -- an empty slot
 pub loop-slot-preserved-in_default : goal.loop-slot-preserved-in_default
@@ -70,17 +88,17 @@ loop-slot-preserved-in_default-read c =
 pub put_entry-rows-requires : goal.put_entry-rows-requires
 put_entry-rows-requires c =
     let room = print_room (shown (goal.at.put_entry-rows-requires c).At-loop-slot c.in-Read.entry) (rest (goal.at.put_entry-rows-requires c).At-loop-slot (c.loop-slot.slot + 1)) (standing (goal.at.put_entry-rows-requires c).After-record_at_location-read c.in-Read.entry c.in-Read.is) in
-    let few = c.requires.0.1 in
+    let few = c.requires.buckets_in_bounds.1 in
     (room.0, omega (arith, c.loop-slot-test.true, few), room.1)
 
 pub loop-slot-preserved : goal.loop-slot-preserved
 loop-slot-preserved c =
     let r = c.in-Read.entry in
-    let few = c.requires.0.1 in
+    let few = c.requires.buckets_in_bounds.1 in
     let small : c.loop-slot.slot < 100000000 = omega (arith, c.loop-slot-test.true, few) in
     let stands = standing (goal.at.loop-slot-preserved c).After-record_at_location-read r c.in-Read.is in
     let fits = fits_parts (shown (goal.at.loop-slot-preserved c).At-loop-slot r) (print_room (shown (goal.at.loop-slot-preserved c).At-loop-slot r) (rest (goal.at.loop-slot-preserved c).At-loop-slot (c.loop-slot.slot + 1)) stands).1 in
-    let due = deadline_short r.expires_at (omega (arith, c.known_told2.given)) in
+    let due = deadline_short r.expires_at (omega arith) in
     let long : length (line (shown (goal.at.loop-slot-preserved c).At-loop-slot r)) ≡ 65 = length_line c.loop-slot.slot r.expires_at _ _ (decimal_short 7 c.loop-slot.slot (omega arith)) fits.0 fits.1 due in
     let p = c.put_entry-rows in
     print_next (shown (goal.at.loop-slot-preserved c).At-loop-slot r) (rest (goal.at.loop-slot-preserved c).At-loop-slot (c.loop-slot.slot + 1)) stands p.new.page p.result long p.ensures.0 p.ensures.1
@@ -92,7 +110,8 @@ pub returns : goal.returns
 returns c =
     let a = c.args in
     let none : rest (goal.at.returns c).At-loop-slot c.loop-slot.slot ≡ [] = rows_none (reads (goal.at.returns c).At-loop-slot) a.arena.now (8 * a.buckets) c.loop-slot.slot (omega (arith, c.loop-slot-test.false)) in
-    printed (rw none at c.loop-slot.invariant)
+    let p = printed (rw none at c.loop-slot.invariant) in
+    record { value = p.0; page_after = p.1 }
 
 pub loop-slot-smaller-in_default : goal.loop-slot-smaller-in_default
 loop-slot-smaller-in_default c = omega (arith, c.loop-slot-test.true)

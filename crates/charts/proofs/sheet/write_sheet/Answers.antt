@@ -19,9 +19,9 @@ rows s =
 
 pub write_rows-rows-requires : goal.write_rows-rows-requires
 write_rows-rows-requires c =
-    (c.requires.0, (c.requires.1.0, omega (arith, c.requires.1.1)))
+    record { buckets_in_bounds = c.requires.buckets_in_bounds; arena_value = c.requires.arena_value; arena_in_bounds = omega (arith, c.requires.pages_value) }
 
 pub returns : goal.returns
 returns c =
     let e = c.write_rows-rows.ensures in
-    sheet_home (rows (goal.at.returns c).Start) c.args.page.now _ _ c.write_rows-rows.result c.args.pages e.1 e.0.0 e.0.1 c.requires.1.1.0 c.put_blanks.ensures
+    sheet_home (rows (goal.at.returns c).Start) c.args.page.now _ _ c.write_rows-rows.result c.args.pages e.page_after e.value.0 e.value.1 c.requires.pages_value.0 c.put_blanks.ensures

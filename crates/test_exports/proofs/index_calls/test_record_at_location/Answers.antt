@@ -17,5 +17,5 @@ returns c =
       ← c.expiry_of-expiry.ensures,
       ←
           c.record_at_location.ensures,
-      c.«record».given.1,
+      c.in-Read.is,
     ) (ap (told true) c.put_words.ensures)
