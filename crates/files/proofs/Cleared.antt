@@ -2,20 +2,19 @@
 use mathlib.Core.Path.{◌≡◌, refl, sym, ap, ap₂, ◌∙◌}
 use mathlib.Core.Bool.{Bool, true, false, cond}
 use mathlib.Core.Option.{Option}
-use mathlib.Core.List.{List, [], ◌∷◌, ◌++◌, map, Forall₂}
-use Prim.Native.Nat.{ℕ, ◌*◌, ◌%◌, ◌^◌, ◌≤◌}
+use mathlib.Core.List.{List, [], ◌∷◌, map, Forall₂}
+use Prim.Native.Nat.{ℕ, ◌*◌}
 use native.Mathlib.Omega.{arith}
 use lib.Dec.{eqb}
 use lib.ListN.{length, take, length-map}
-use lib.Seq.{length-take-le, take_all}
-use borrow.Author.Tests.{eqb-true, eqb-false, ne_eqb}
+use lib.Seq.{take_all}
+use borrow.Author.Tests.{eqb-true, ne_eqb}
 use Rattle.records.specs.Record.{Stored}
 use Rattle.index.specs.Slot.{word_slot}
-use Rattle.index.proofs.Contents.{word_slots}
 use Rattle.index.specs.Word.{word_tag, word_stored, unmarked}
 use Rattle.index.specs.declared.slot.IndexSlot.{IndexSlot}
 use Rattle.index.specs.declared.slot.IndexSlot.TheVariants.{Empty, Used}
-use Rattle.index.proofs.Entries.{Cell, cell_empty, cell_used}
+use Rattle.index.proofs.Entries.{Cell, cell_used}
 use Rattle.index.proofs.Flat.{index_slots}
 use Rattle.index.proofs.Words.{unmarked_tag, unmarked_stored}
 use Rattle.files.specs.Contents.{unmarked_index}

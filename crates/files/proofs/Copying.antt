@@ -1,13 +1,13 @@
 -- Laws of numbers in bytes, of writing from a position of an area on, and of words with some bits cleared. Assumes nothing.
-use mathlib.Core.Path.{◌≡◌, refl, sym, ap, ap₂, ◌∙◌}
-use mathlib.Core.List.{List, [], ◌∷◌, ◌++◌, map, append_assoc}
-use Prim.Native.Nat.{ℕ, suc, ◌+◌, ◌-◌, ◌*◌, ◌/◌, ◌%◌, ◌^◌, ◌≤◌, ◌<◌}
-use native.Mathlib.Nat.{add_assoc, pow-suc, pow-succ', pow-le-pow_right, zero-lt-suc}
+use mathlib.Core.Path.{◌≡◌, refl, sym, ap, ◌∙◌}
+use mathlib.Core.List.{List, [], ◌∷◌, ◌++◌, append_assoc}
+use Prim.Native.Nat.{ℕ, ◌+◌, ◌-◌, ◌*◌, ◌^◌, ◌≤◌, ◌<◌}
+use native.Mathlib.Nat.{add_assoc, pow-suc, pow-le-pow_right, zero-lt-suc}
 use native.Mathlib.Numerals.{add-one}
 use native.Mathlib.Omega.{arith}
-use lib.ListN.{length, take, drop, get_or, set, length-append, length-drop, take-append-drop, drop_of_length-le}
+use lib.ListN.{length, take, drop, get_or, length-append, length-drop, take-append-drop}
 use lib.Seq.{drop-cons, drop-drop, length-take-le, take_at, drop_at}
-use Rattle.hash_parts.specs.ZeroBytes.{bytes_of, number_of}
+use Rattle.hash_parts.specs.ZeroBytes.{number_of}
 use Rattle.records.specs.Area.{over, part, pasted}
 use Rattle.records.proofs.Area.{Writing, complete}
 

@@ -1,16 +1,14 @@
 -- Kind 1 of a written file gives the set's setting and counts back. Assumes nothing.
-use mathlib.Core.Path.{◌≡◌, refl, sym, ap, ap₂, ◌∙◌}
+use mathlib.Core.Path.{◌≡◌, refl, ap, ◌∙◌}
 use mathlib.Core.Bool.{Bool, true, false, cond}
-use mathlib.Core.List.{List, [], ◌∷◌}
+use mathlib.Core.List.{List}
 use Prim.Native.Nat.{ℕ}
 use lib.Dec.{eqb}
-use lib.ListN.{get_or}
-use Rattle.hash_parts.specs.declared.setting.SegmentCacheConfig.{SegmentCacheConfig}
 use Rattle.hash_parts.specs.declared.setting.SegmentExpiry.{SegmentExpiry}
 use Rattle.hash_parts.specs.declared.setting.SegmentExpiry.TheVariants.{None, Relative16}
 use Rattle.sets.specs.declared.cache.FrozenSegmentCache.{FrozenSegmentCache}
 use Rattle.files.specs.Blocks.{content_of}
-use Rattle.files.specs.Contents.{expiry_in, field, numbers_in, records_in, setting_in, widths}
+use Rattle.files.specs.Contents.{expiry_in, field, numbers_in, records_in, widths}
 use Rattle.files.specs.Write.{count_bytes, count_numbers, expiry_flag, tick_nanos, tick_secs}
 use Rattle.files.proofs.Framing.{Fit, numbers_back}
 

@@ -2,14 +2,14 @@
 use mathlib.Core.Path.{◌≡◌, refl, sym, ap, ap₂, ◌∙◌}
 use mathlib.Core.Bool.{Bool, true, false, cond}
 use mathlib.Core.List.{List, [], ◌∷◌, ◌++◌, append_assoc}
-use Prim.Native.Nat.{ℕ, zero, suc, ◌+◌, ◌*◌, ◌%◌, ◌^◌, ◌≤◌, ◌<◌}
+use Prim.Native.Nat.{ℕ, suc, ◌+◌, ◌^◌, ◌<◌}
 use native.Mathlib.Nat.{mod-eq_of_lt}
 use native.Mathlib.Omega.{arith}
-use lib.Dec.{eqb, leb}
-use lib.ListN.{length, take, drop, length-append}
+use lib.Dec.{eqb}
+use lib.ListN.{length, drop, length-append}
 use lib.Seq.{take_at, drop_at, drop-drop}
 use borrow.Author.Tests.{eq-eqb, le-leb}
-use Rattle.hash_parts.specs.ZeroBytes.{bytes_of, number_of}
+use Rattle.hash_parts.specs.ZeroBytes.{bytes_of}
 use Rattle.records.specs.Area.{part}
 use Rattle.index.specs.Packed.{word_bytes, words_of}
 use Rattle.hash_parts.proofs.Bytes.{length_bytes, number_bytes}

@@ -1,11 +1,11 @@
 -- The slots of an index are those of its words in use, whatever follows them. Assumes nothing.
 use mathlib.Core.Path.{◌≡◌, refl, sym, ap, ap₂, ◌∙◌}
 use mathlib.Core.Bool.{Bool, true, false}
-use mathlib.Core.List.{List, [], ◌∷◌, ◌++◌, map, flatten}
-use Prim.Native.Nat.{ℕ, zero, suc, ◌+◌, ◌-◌, ◌*◌, ◌%◌, ◌^◌, ◌≤◌, ◌<◌}
+use mathlib.Core.List.{List, ◌∷◌, ◌++◌, map, flatten}
+use Prim.Native.Nat.{ℕ, zero, suc, ◌+◌, ◌*◌, ◌≤◌, ◌<◌}
 use native.Mathlib.Omega.{arith}
 use lib.ListN.{length, take, drop, get_or, length-drop, get_or-append, take-append-drop}
-use lib.Seq.{take_at, drop-append-le, take-append-le, length-take-le}
+use lib.Seq.{drop-append-le, take-append-le, length-take-le}
 use Rattle.hash_parts.specs.ZeroBytes.{bytes_of}
 use Rattle.index.specs.Packed.{packed_slots_of, packed_bucket, word_bytes}
 use Rattle.index.proofs.Contents.{packed_buckets}

@@ -1,13 +1,12 @@
 -- What a set that was written and loaded reads at a location is what it read before. Assumes nothing.
 use mathlib.Core.Path.{◌≡◌, refl, sym, ap, ap₂, ◌∙◌}
 use mathlib.Core.List.{List}
-use Prim.Native.Nat.{ℕ, ◌+◌, ◌-◌, ◌≤◌, ◌<◌}
+use Prim.Native.Nat.{ℕ, ◌+◌, ◌≤◌, ◌<◌}
 use native.Mathlib.Omega.{arith}
 use lib.ListN.{length, take, drop, get_or}
 use lib.Seq.{take_at, length-take-le}
 use Rattle.hash_parts.specs.declared.setting.SegmentCacheConfig.{SegmentCacheConfig}
 use Rattle.records.specs.Area.{over, part}
-use Rattle.records.specs.declared.record.RecordAnswer.{RecordAnswer}
 use Rattle.index.specs.Segments.{padded}
 use Rattle.index.specs.View.{record_in}
 use Rattle.index.specs.declared.view.SegmentView.{SegmentView}

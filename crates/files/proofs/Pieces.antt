@@ -1,11 +1,11 @@
 -- Laws of the pieces that a file is written of: a block by its header and its content, words as bytes, the index without its marks. Assumes nothing.
 use mathlib.Core.Path.{◌≡◌, refl, sym, ap, ap₂, ◌∙◌}
-use mathlib.Core.Bool.{Bool, true, false, cond}
+use mathlib.Core.Bool.{true, false, cond}
 use mathlib.Core.List.{List, [], ◌∷◌, ◌++◌, map, flat_map, append_assoc}
-use Prim.Native.Nat.{ℕ, zero, suc, ◌+◌, ◌-◌, ◌*◌, ◌≤◌, ◌<◌}
+use Prim.Native.Nat.{ℕ, suc, ◌+◌, ◌≤◌, ◌<◌}
 use native.Mathlib.Numerals.{add-one}
 use native.Mathlib.Omega.{arith}
-use lib.ListN.{length, take, drop, get_or, length-append, length-map}
+use lib.ListN.{length, take, drop, get_or, length-append}
 use lib.Seq.{drop-cons}
 use Rattle.hash_parts.specs.ZeroBytes.{bytes_of}
 use Rattle.hash_parts.proofs.Bytes.{length_bytes}

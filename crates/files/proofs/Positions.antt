@@ -13,7 +13,7 @@ use lib.Seq.{drop-drop, take_all, take-nil}
 use Rattle.hash_parts.specs.ZeroBytes.{number_of}
 use Rattle.records.specs.Area.{part}
 use Rattle.sets.proofs.Counts.{both}
-use Rattle.files.specs.Blocks.{behind, content_of, frames_well, is_whole, kind_in, kinds_from, size_in}
+use Rattle.files.specs.Blocks.{behind, frames_well, is_whole, kind_in, kinds_from, size_in}
 
 -- ---- one block: g is the file from the block on
 

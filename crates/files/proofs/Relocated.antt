@@ -1,17 +1,16 @@
 -- Reading in a set whose segments were moved: what a location reads is what it read before. Assumes nothing.
 use mathlib.Core.Path.{◌≡◌, refl, sym, ap, ap₂, ◌∙◌}
-use mathlib.Core.Bool.{Bool, true, false, cond}
+use mathlib.Core.Bool.{true, false}
 use mathlib.Core.List.{List}
-use mathlib.Core.Option.{Option, none, some}
+use mathlib.Core.Option.{none, some}
 use Prim.Native.Nat.{ℕ, zero, suc, ◌+◌, ◌-◌, ◌/◌, ◌%◌, ◌^◌, ◌≤◌, ◌<◌}
 use native.Mathlib.Omega.{arith}
 use native.Mathlib.Decide.{dec_lt}
-use lib.Dec.{leb, ltb}
 use lib.ListN.{length, take, get_or, length-take}
 use borrow.Author.Tests.{le-leb, lt-ltb, le-ltb}
 use Rattle.hash_parts.specs.declared.setting.SegmentExpiry.{SegmentExpiry}
 use Rattle.records.specs.Area.{part}
-use Rattle.records.specs.Record.{Stored, record_at, contents, stored_at}
+use Rattle.records.specs.Record.{record_at, contents, stored_at}
 use Rattle.records.specs.declared.record.RecordAnswer.{RecordAnswer}
 use Rattle.records.specs.declared.record.RecordAnswer.TheVariants.{Read, Unreadable}
 use Rattle.records.proofs.Stored.{record_inside}

@@ -1,25 +1,23 @@
 -- What the blocks of a written file hold, read again. Assumes nothing.
-use mathlib.Core.Path.{◌≡◌, refl, sym, ap, ap₂, ◌∙◌}
+use mathlib.Core.Path.{◌≡◌, sym, ap, ap₂, ◌∙◌}
 use mathlib.Core.Bool.{Bool, true, false, cond}
 use mathlib.Core.List.{List, [], ◌∷◌, ◌++◌, map, append-nil}
-use Prim.Native.Nat.{ℕ, ◌+◌, ◌*◌, ◌/◌, ◌^◌, ◌≤◌, ◌<◌}
+use Prim.Native.Nat.{ℕ, ◌*◌, ◌/◌, ◌^◌, ◌≤◌, ◌<◌}
 use native.Mathlib.Omega.{arith}
-use lib.ListN.{length, take, drop, get_or, length-append}
-use lib.Seq.{take_at, length-take-le, get_or-take}
+use lib.ListN.{length, take, drop, get_or}
+use lib.Seq.{take_at, get_or-take}
 use borrow.Author.Tests.{ltb-true}
-use Rattle.hash_parts.specs.ZeroBytes.{bytes_of}
 use Rattle.hash_parts.specs.declared.setting.SegmentCacheConfig.{SegmentCacheConfig}
 use Rattle.hash_parts.specs.declared.setting.SegmentExpiry.{SegmentExpiry}
 use Rattle.hash_parts.specs.declared.setting.SegmentExpiry.TheVariants.{None, Relative16}
 use Rattle.index.specs.Packed.{word_bytes, words_of}
-use Rattle.hash_parts.proofs.Bytes.{length_bytes}
 use Rattle.sets.specs.Questions.{buckets_in, filter_words_in, nanoseconds_fit, setting_fits}
 use Rattle.sets.specs.Rebuild.{sum_of}
 use Rattle.sets.specs.declared.cache.FrozenSegmentCache.{FrozenSegmentCache}
 use Rattle.sets.proofs.Counts.{both, counts_buckets, counts_records, counts_setting, counts_words, setting_occupied}
 use Rattle.sets.proofs.Finding.{few_buckets, few_words}
 use Rattle.files.specs.Blocks.{block, content_of}
-use Rattle.files.specs.Contents.{buckets_of, bytes_for, file_filter, file_index, filter_words_of, records_in, segment_lengths, setting_in, sum, unmarked_index, widths}
+use Rattle.files.specs.Contents.{buckets_of, file_filter, file_index, filter_words_of, records_in, segment_lengths, setting_in, unmarked_index, widths}
 use Rattle.files.specs.Typed.{Typed, SecondsFit}
 use Rattle.files.specs.Write.{count_bytes, count_numbers, file_of, file_size, segment_bytes, expiry_flag, tick_nanos, tick_secs}
 use Rattle.files.proofs.Asked.{WriteAsked}

@@ -1,12 +1,12 @@
 -- The definitions run: document 01's example as a file. Assumes nothing.
 use mathlib.Core.Path.{◌≡◌, refl}
-use mathlib.Core.Bool.{Bool, true, false}
-use mathlib.Core.List.{List, [], ◌∷◌, ◌++◌, flat_map, map}
-use Prim.Native.Nat.{ℕ, ◌+◌, ◌^◌}
-use lib.ListN.{replicate, take, drop, set}
+use mathlib.Core.Bool.{true, false}
+use mathlib.Core.List.{List, [], ◌∷◌, ◌++◌, flat_map}
+use Prim.Native.Nat.{ℕ}
+use lib.ListN.{replicate, take, set}
 use Rattle.hash_parts.specs.declared.setting.SegmentExpiry.TheVariants.{None, Relative16}
 use Rattle.records.specs.Area.{part}
-use Rattle.sets.specs.Answers.{Reply, accept, refuse}
+use Rattle.sets.specs.Answers.{accept, refuse}
 use Rattle.sets.specs.Questions.{first_no}
 use Rattle.sets.specs.declared.cache.FrozenSegmentCache.{FrozenSegmentCache}
 use Rattle.files.specs.Contents.{ask_file}

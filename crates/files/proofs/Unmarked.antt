@@ -1,15 +1,14 @@
 -- An index with its marks cleared stands for the same slots. Assumes nothing.
-use mathlib.Core.Path.{◌≡◌, refl, sym, ap, ap₂, ◌∙◌}
-use mathlib.Core.Bool.{Bool, true, false}
+use mathlib.Core.Path.{◌≡◌, refl, ap, ◌∙◌}
+use mathlib.Core.Bool.{true}
 use mathlib.Core.List.{List, [], ◌∷◌, ◌++◌, map, flatten}
-use Prim.Native.Nat.{ℕ, zero, suc, ◌+◌, ◌-◌, ◌*◌, ◌%◌, ◌^◌, ◌≤◌, ◌<◌}
+use Prim.Native.Nat.{ℕ, zero, suc, ◌+◌, ◌*◌, ◌%◌, ◌≤◌, ◌<◌}
 use native.Mathlib.Omega.{arith}
 use lib.ListN.{length, take, drop, get_or, length-map, get_or-append, get_or-map}
 use lib.Seq.{drop-append-add, drop-drop, get_or-take, length-take-le}
 use Rattle.hash_parts.specs.ZeroBytes.{bytes_of, number_of}
 use Rattle.index.specs.Packed.{packed_slot, packed_slots_of, packed_bucket, unmarked_byte, word_bytes}
 use Rattle.index.proofs.Contents.{packed_buckets}
-use Rattle.index.specs.declared.slot.IndexSlot.{IndexSlot}
 use Rattle.hash_parts.proofs.Bytes.{Bytes, bytes_of_law, bytes_number, length_bytes, no_bytes, one_byte}
 use Rattle.index.proofs.Flat.{index_slots}
 use Rattle.files.specs.Contents.{unmarked_index}

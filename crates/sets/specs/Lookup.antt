@@ -1,6 +1,6 @@
 -- The calls on a finished set: lookup, peek, mark clearing, probe, the step of the walk, statistics. Each by the questions that it asks, in document
 -- 01's order, and by what it leaves. Assumes nothing.
-use Rattle.std.specs.Prelude.{ℕ, zero, suc, ◌-◌, ◌*◌, ◌/◌, ◌%◌, ◌^◌, Bool, false, cond, List, [], ◌∷◌, length, set, nat_le, slice_index, slice_set}
+use Rattle.std.specs.Prelude.{ℕ, zero, suc, ◌-◌, ◌*◌, ◌/◌, ◌%◌, ◌^◌, Bool, false, cond, List, [], ◌∷◌, length, nat_le, slice_index, slice_set}
 use Rattle.std.proofs.Math.Option.{Option, none, some}
 use Rattle.hash_parts.specs.Duration.{lives_at, remaining}
 use Rattle.hash_parts.specs.ZeroBytes.{bytes_of}

@@ -15,14 +15,16 @@ bytes c = record_bytes c.expiry_of-expiry.result c.args.key.now c.args.value.now
 
 pub returns-then-bytes-eq0 : goal.returns-then-bytes-eq0
 returns-then-bytes-eq0 c =
+    let known = goal.at.returns-then-bytes-eq0 c in
     let a = c.args in
-    let none = wrote_none (bytes (goal.at.returns-then-bytes-eq0 c).After-append_record-bytes) a.rest.now (record_long _ a.key.now a.value.now a.expires_at) (rw c.append_record-bytes.ensures.0 at c.if-bytes-eq0.true) in
+    let none = wrote_none (bytes known.After-append_record-bytes) a.rest.now (record_long _ a.key.now a.value.now a.expires_at) (rw c.append_record-bytes.ensures.0 at c.if-bytes-eq0.true) in
     rw (← c.expiry_of-expiry.ensures, none, c.number.ensures) (told_refused AreaTooShort a.out.now, c.append_record-bytes.ensures.1)
 
 pub returns : goal.returns
 unfolding outcome_told
 returns c =
+    let at = goal.at.returns c in
     let a = c.args in
-    let some = wrote_some (bytes (goal.at.returns c).After-append_record-bytes) a.rest.now c.append_record-bytes.result c.append_record-bytes.ensures.0 c.if-bytes-eq0.false in
+    let some = wrote_some (bytes at.After-append_record-bytes) a.rest.now c.append_record-bytes.result c.append_record-bytes.ensures.0 c.if-bytes-eq0.false in
     rw (← c.expiry_of-expiry.ensures, some)
     (ap (told 0) c.put_words.ensures, c.append_record-bytes.ensures.1)

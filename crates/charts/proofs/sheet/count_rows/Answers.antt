@@ -53,27 +53,30 @@ loop-slot-init c = let e : 8 * c.args.buckets - 0 ≡ 8 * c.args.buckets = omega
 -- an empty slot
 pub loop-slot-preserved-in_default : goal.loop-slot-preserved-in_default
 loop-slot-preserved-in_default c =
+    let at = goal.at.loop-slot-preserved-in_default c in
     let a = c.args in
     let below : c.loop-slot.slot < 8 * a.buckets = omega (arith, c.loop-slot-test.true) in
     let empty = slot_empty (record_in a.view a.arena.now a.starts.now a.lengths.now) a.packed a.buckets a.index.now c.loop-slot.slot
     (sym c.slot_at.ensures ∙ c.in_default.is) in
-    let missed : rest (goal.at.loop-slot-preserved-in_default c).At-loop-slot c.loop-slot.slot ≡ rest (goal.at.loop-slot-preserved-in_default c).At-loop-slot (c.loop-slot.slot + 1) = rows_miss (reads (goal.at.loop-slot-preserved-in_default c).At-loop-slot) a.arena.now (8 * a.buckets) c.loop-slot.slot below empty in
+    let missed : rest at.At-loop-slot c.loop-slot.slot ≡ rest at.At-loop-slot (c.loop-slot.slot + 1) = rows_miss (reads at.At-loop-slot) a.arena.now (8 * a.buckets) c.loop-slot.slot below empty in
     (ap (row_count c.loop-slot.rows) (sym missed) ∙ c.loop-slot.invariant.0, omega (arith, c.loop-slot.invariant.1))
 
 -- a record that can't be read
 pub loop-slot-preserved-in_default-read : goal.loop-slot-preserved-in_default-read
 loop-slot-preserved-in_default-read c =
+    let at = goal.at.loop-slot-preserved-in_default-read c in
     let a = c.args in
     let below : c.loop-slot.slot < 8 * a.buckets = omega (arith, c.loop-slot-test.true) in
-    let missed : rest (goal.at.loop-slot-preserved-in_default-read c).At-loop-slot c.loop-slot.slot ≡ rest (goal.at.loop-slot-preserved-in_default-read c).At-loop-slot (c.loop-slot.slot + 1) =
-    rows_miss (reads (goal.at.loop-slot-preserved-in_default-read c).At-loop-slot) a.arena.now (8 * a.buckets) c.loop-slot.slot below ((named (goal.at.loop-slot-preserved-in_default-read c).After-record_at_location-read) ∙ c.in_default-read.is) in
+    let missed : rest at.At-loop-slot c.loop-slot.slot ≡ rest at.At-loop-slot (c.loop-slot.slot + 1) =
+    rows_miss (reads at.At-loop-slot) a.arena.now (8 * a.buckets) c.loop-slot.slot below ((named at.After-record_at_location-read) ∙ c.in_default-read.is) in
     (ap (row_count c.loop-slot.rows) (sym missed) ∙ c.loop-slot.invariant.0, omega (arith, c.loop-slot.invariant.1))
 
 pub returns-then-not-entry_fits : goal.returns-then-not-entry_fits
 returns-then-not-entry_fits c =
+    let at = goal.at.returns-then-not-entry_fits c in
     let long : row_fits (row_of c.args.arena.now (record { slot = c.loop-slot.slot; entry = c.in-Read.entry })) ≡ false =
     sym c.entry_fits.ensures ∙ c.if-not-entry_fits.true in
-    sym (count_long c.loop-slot.rows _ _ long) ∙ ap (row_count c.loop-slot.rows) (sym (hit (goal.at.returns-then-not-entry_fits c).After-record_at_location-read c.in-Read.entry c.in-Read.is)) ∙ c.loop-slot.invariant.0
+    sym (count_long c.loop-slot.rows _ _ long) ∙ ap (row_count c.loop-slot.rows) (sym (hit at.After-record_at_location-read c.in-Read.entry c.in-Read.is)) ∙ c.loop-slot.invariant.0
 
 pub overflow_add-rows : goal.overflow_add-rows
 overflow_add-rows c =
@@ -81,14 +84,16 @@ overflow_add-rows c =
 
 pub loop-slot-preserved : goal.loop-slot-preserved
 loop-slot-preserved c =
+    let at = goal.at.loop-slot-preserved c in
     let fits : row_fits (row_of c.args.arena.now (record { slot = c.loop-slot.slot; entry = c.in-Read.entry })) ≡ true =
     sym c.entry_fits.ensures ∙ c.if-not-entry_fits.false in
-    (sym (count_fits c.loop-slot.rows _ _ fits) ∙ ap (row_count c.loop-slot.rows) (sym (hit (goal.at.loop-slot-preserved c).After-record_at_location-read c.in-Read.entry c.in-Read.is)) ∙ c.loop-slot.invariant.0, omega (arith, c.loop-slot.invariant.1))
+    (sym (count_fits c.loop-slot.rows _ _ fits) ∙ ap (row_count c.loop-slot.rows) (sym (hit at.After-record_at_location-read c.in-Read.entry c.in-Read.is)) ∙ c.loop-slot.invariant.0, omega (arith, c.loop-slot.invariant.1))
 
 pub returns : goal.returns
 returns c =
+    let at = goal.at.returns c in
     let a = c.args in
-    let none : rest (goal.at.returns c).At-loop-slot c.loop-slot.slot ≡ [] = rows_none (reads (goal.at.returns c).At-loop-slot) a.arena.now (8 * a.buckets) c.loop-slot.slot (omega (arith, c.loop-slot-test.false)) in
+    let none : rest at.At-loop-slot c.loop-slot.slot ≡ [] = rows_none (reads at.At-loop-slot) a.arena.now (8 * a.buckets) c.loop-slot.slot (omega (arith, c.loop-slot-test.false)) in
     sym (count_none c.loop-slot.rows) ∙ ap (row_count c.loop-slot.rows) (sym none) ∙ c.loop-slot.invariant.0
 
 pub loop-slot-smaller-in_default : goal.loop-slot-smaller-in_default

@@ -59,9 +59,10 @@ write_sheet-requires c =
 
 pub returns : goal.returns
 returns c =
+    let at = goal.at.returns c in
     let a = c.args in
-    let k = told (goal.at.returns c).After-sheet_pages-answer c.in-Pages.pages c.in-Pages.is in
-    let short : 3250 * pages_for (length (rows (goal.at.returns c).After-sheet_pages-answer)) ≤ length a.page.now = omega (arith, c.if-page-pages.false, k.2) in
+    let k = told at.After-sheet_pages-answer c.in-Pages.pages c.in-Pages.is in
+    let short : 3250 * pages_for (length (rows at.After-sheet_pages-answer)) ≤ length a.page.now = omega (arith, c.if-page-pages.false, k.2) in
     let shown : SegmentView → List ℕ =
     λ v. over (sheet (rows_in (record_in v a.arena.now a.starts.now a.lengths.now) a.set.config.packed_bucket_index a.set.buckets a.index.now a.arena.now)) a.page.now in
     let page : _ ≡ shown c.view.result = c.write_sheet.ensures in

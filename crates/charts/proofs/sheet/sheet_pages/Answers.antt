@@ -35,17 +35,20 @@ count_rows-count-requires c = (slots_few _ _ _ _ _ (held (goal.at.count_rows-cou
 pub returns-in_default : goal.returns-in_default
 unfolding pages_answer ask_pages
 returns-in_default c =
-    rw ((held (goal.at.returns-in_default c).Else-not-areas_hold), count_refused _ (sym c.in_default.is ∙ (counted (goal.at.returns-in_default c).After-count_rows-count)))
+    let at = goal.at.returns-in_default c in
+    rw ((held at.Else-not-areas_hold), count_refused _ (sym c.in_default.is ∙ (counted at.After-count_rows-count)))
 
 pub overflow_add-result : goal.overflow_add-result
 overflow_add-result c =
+    let at = goal.at.overflow_add-result c in
     let a = (c.before.before).args in
-    let p = count_passed _ c.in-Rows.rows (sym c.in-Rows.is ∙ (counted (goal.at.overflow_add-result c).After-count_rows-count)) in
+    let p = count_passed _ c.in-Rows.rows (sym c.in-Rows.is ∙ (counted at.After-count_rows-count)) in
     let few = rows_few (record_in (view_of a.set) a.arena.now a.starts.now a.lengths.now) a.set.config.packed_bucket_index a.set.buckets a.index.now a.arena.now in
-    omega (arith, p.1, few, (slots_few _ _ _ _ _ (held (goal.at.overflow_add-result c).Else-not-areas_hold)).1)
+    omega (arith, p.1, few, (slots_few _ _ _ _ _ (held at.Else-not-areas_hold)).1)
 
 pub returns : goal.returns
 unfolding pages_answer ask_pages
 returns c =
-    let p = count_passed _ c.in-Rows.rows (sym c.in-Rows.is ∙ (counted (goal.at.returns c).After-count_rows-count)) in
-    rw ((held (goal.at.returns c).Else-not-areas_hold), p.0) (ap (λ (rows : ℕ). accept (pages_for rows)) p.1)
+    let at = goal.at.returns c in
+    let p = count_passed _ c.in-Rows.rows (sym c.in-Rows.is ∙ (counted at.After-count_rows-count)) in
+    rw ((held at.Else-not-areas_hold), p.0) (ap (λ (rows : ℕ). accept (pages_for rows)) p.1)

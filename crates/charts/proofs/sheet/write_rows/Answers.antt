@@ -69,47 +69,52 @@ loop-slot-init c = let e : 8 * c.args.buckets - 0 ≡ 8 * c.args.buckets = omega
 -- an empty slot
 pub loop-slot-preserved-in_default : goal.loop-slot-preserved-in_default
 loop-slot-preserved-in_default c =
+    let known = goal.at.loop-slot-preserved-in_default c in
     let a = c.args in
     let below : c.loop-slot.slot < 8 * a.buckets = omega (arith, c.loop-slot-test.true) in
     let empty = slot_empty (record_in a.view a.arena.now a.starts.now a.lengths.now) a.packed a.buckets a.index.now c.loop-slot.slot
     (sym c.slot_at.ensures ∙ c.in_default.is) in
-    let missed : rest (goal.at.loop-slot-preserved-in_default c).At-loop-slot c.loop-slot.slot ≡ rest (goal.at.loop-slot-preserved-in_default c).At-loop-slot (c.loop-slot.slot + 1) = rows_miss (reads (goal.at.loop-slot-preserved-in_default c).At-loop-slot) a.arena.now (8 * a.buckets) c.loop-slot.slot below empty in
+    let missed : rest known.At-loop-slot c.loop-slot.slot ≡ rest known.At-loop-slot (c.loop-slot.slot + 1) = rows_miss (reads known.At-loop-slot) a.arena.now (8 * a.buckets) c.loop-slot.slot below empty in
     rw missed at c.loop-slot.invariant
 
 -- a record that can't be read
 pub loop-slot-preserved-in_default-read : goal.loop-slot-preserved-in_default-read
 loop-slot-preserved-in_default-read c =
+    let known = goal.at.loop-slot-preserved-in_default-read c in
     let a = c.args in
     let below : c.loop-slot.slot < 8 * a.buckets = omega (arith, c.loop-slot-test.true) in
-    let missed : rest (goal.at.loop-slot-preserved-in_default-read c).At-loop-slot c.loop-slot.slot ≡ rest (goal.at.loop-slot-preserved-in_default-read c).At-loop-slot (c.loop-slot.slot + 1) =
-    rows_miss (reads (goal.at.loop-slot-preserved-in_default-read c).At-loop-slot) a.arena.now (8 * a.buckets) c.loop-slot.slot below ((named (goal.at.loop-slot-preserved-in_default-read c).After-record_at_location-read) ∙ c.in_default-read.is) in
+    let missed : rest known.At-loop-slot c.loop-slot.slot ≡ rest known.At-loop-slot (c.loop-slot.slot + 1) =
+    rows_miss (reads known.At-loop-slot) a.arena.now (8 * a.buckets) c.loop-slot.slot below ((named known.After-record_at_location-read) ∙ c.in_default-read.is) in
     rw missed at c.loop-slot.invariant
 
 pub put_entry-rows-requires : goal.put_entry-rows-requires
 put_entry-rows-requires c =
-    let room = print_room (shown (goal.at.put_entry-rows-requires c).At-loop-slot c.in-Read.entry) (rest (goal.at.put_entry-rows-requires c).At-loop-slot (c.loop-slot.slot + 1)) (standing (goal.at.put_entry-rows-requires c).After-record_at_location-read c.in-Read.entry c.in-Read.is) in
+    let at = goal.at.put_entry-rows-requires c in
+    let room = print_room (shown at.At-loop-slot c.in-Read.entry) (rest at.At-loop-slot (c.loop-slot.slot + 1)) (standing at.After-record_at_location-read c.in-Read.entry c.in-Read.is) in
     let few = c.requires.buckets_in_bounds.1 in
     (room.0, omega (arith, c.loop-slot-test.true, few), room.1)
 
 pub loop-slot-preserved : goal.loop-slot-preserved
 loop-slot-preserved c =
+    let at = goal.at.loop-slot-preserved c in
     let r = c.in-Read.entry in
     let few = c.requires.buckets_in_bounds.1 in
     let small : c.loop-slot.slot < 100000000 = omega (arith, c.loop-slot-test.true, few) in
-    let stands = standing (goal.at.loop-slot-preserved c).After-record_at_location-read r c.in-Read.is in
-    let fits = fits_parts (shown (goal.at.loop-slot-preserved c).At-loop-slot r) (print_room (shown (goal.at.loop-slot-preserved c).At-loop-slot r) (rest (goal.at.loop-slot-preserved c).At-loop-slot (c.loop-slot.slot + 1)) stands).1 in
+    let stands = standing at.After-record_at_location-read r c.in-Read.is in
+    let fits = fits_parts (shown at.At-loop-slot r) (print_room (shown at.At-loop-slot r) (rest at.At-loop-slot (c.loop-slot.slot + 1)) stands).1 in
     let due = deadline_short r.expires_at (omega arith) in
-    let long : length (line (shown (goal.at.loop-slot-preserved c).At-loop-slot r)) ≡ 65 = length_line c.loop-slot.slot r.expires_at _ _ (decimal_short 7 c.loop-slot.slot (omega arith)) fits.0 fits.1 due in
+    let long : length (line (shown at.At-loop-slot r)) ≡ 65 = length_line c.loop-slot.slot r.expires_at _ _ (decimal_short 7 c.loop-slot.slot (omega arith)) fits.0 fits.1 due in
     let p = c.put_entry-rows in
-    print_next (shown (goal.at.loop-slot-preserved c).At-loop-slot r) (rest (goal.at.loop-slot-preserved c).At-loop-slot (c.loop-slot.slot + 1)) stands p.new.page p.result long p.ensures.0 p.ensures.1
+    print_next (shown at.At-loop-slot r) (rest at.At-loop-slot (c.loop-slot.slot + 1)) stands p.new.page p.result long p.ensures.0 p.ensures.1
 
 pub shape_of-page : goal.shape_of-page
 shape_of-page c = c.loop-slot.invariant.long
 
 pub returns : goal.returns
 returns c =
+    let known = goal.at.returns c in
     let a = c.args in
-    let none : rest (goal.at.returns c).At-loop-slot c.loop-slot.slot ≡ [] = rows_none (reads (goal.at.returns c).At-loop-slot) a.arena.now (8 * a.buckets) c.loop-slot.slot (omega (arith, c.loop-slot-test.false)) in
+    let none : rest known.At-loop-slot c.loop-slot.slot ≡ [] = rows_none (reads known.At-loop-slot) a.arena.now (8 * a.buckets) c.loop-slot.slot (omega (arith, c.loop-slot-test.false)) in
     let p = printed (rw none at c.loop-slot.invariant) in
     record { value = p.0; page_after = p.1 }
 

@@ -23,5 +23,6 @@ write_rows-rows-requires c =
 
 pub returns : goal.returns
 returns c =
+    let at = goal.at.returns c in
     let e = c.write_rows-rows.ensures in
-    sheet_home (rows (goal.at.returns c).Start) c.args.page.now _ _ c.write_rows-rows.result c.args.pages e.page_after e.value.0 e.value.1 c.requires.pages_value.0 c.put_blanks.ensures
+    sheet_home (rows at.Start) c.args.page.now _ _ c.write_rows-rows.result c.args.pages e.page_after e.value.0 e.value.1 c.requires.pages_value.0 c.put_blanks.ensures

@@ -1,9 +1,7 @@
 -- `content_at` meets its contract: the content ends where the next block begins. Assumes nothing.
-use mathlib.Core.Path.{◌≡◌, sym, ap, ◌∙◌}
-use Prim.Native.Nat.{ℕ, ◌+◌, ◌≤◌}
+use mathlib.Core.Path.{sym}
+use Prim.Native.Nat.{◌+◌, ◌≤◌}
 use native.Mathlib.Omega.{arith}
-use borrow.Author.Rules.{rules}
-use lib.ListN.{length, drop}
 use Rattle.files.proofs.Positions.{content_is, content_none, content_room}
 use Rattle.files.proofs.blocks.content_at.Goals as goal
 use Rattle.files.proofs.blocks.content_at.Goals.{After-next_block-end}

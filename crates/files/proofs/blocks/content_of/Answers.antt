@@ -1,8 +1,8 @@
 -- `content_of` meets its contract: the blocks that are left to pass over from the position are those asked for. Assumes nothing.
-use mathlib.Core.Path.{◌≡◌, refl, sym, ap, ◌∙◌}
-use Prim.Native.Nat.{ℕ, suc, ◌-◌, ◌≤◌}
+use mathlib.Core.Path.{◌≡◌, refl, ap, ◌∙◌}
+use Prim.Native.Nat.{ℕ, suc, ◌-◌}
 use native.Mathlib.Omega.{arith}
-use lib.ListN.{length, drop}
+use lib.ListN.{drop}
 use Rattle.files.specs.Blocks.{content_of}
 use Rattle.files.proofs.blocks.content_of.Goals as goal
 

@@ -1,14 +1,8 @@
 -- What each turn of the loop keeps.
-use mathlib.Core.Path.{◌≡◌, refl, sym, ap, ◌∙◌}
-use mathlib.Core.Bool.{Bool, cond, false}
-use mathlib.Core.List.{List}
-use Prim.Native.Nat.{ℕ, suc, ◌-◌, ◌≤◌, ◌<◌}
-use native.Mathlib.Omega.{arith}
-use lib.Dec.{leb}
+use mathlib.Core.Path.{◌≡◌}
+use Prim.Native.Nat.{◌≤◌}
 use lib.ListN.{length, drop}
-use Rattle.sets.proofs.Said.{said_no, said_yes}
-use Rattle.files.specs.Blocks.{behind, frames_well, is_whole}
-use Rattle.files.proofs.Positions.{frames_last, frames_next, frames_none, from_end, length_from, rest_none}
+use Rattle.files.specs.Blocks.{frames_well}
 use Rattle.files.proofs.blocks.frames_well.Given as goal
 
 abbrev pub invariant-loop-left : goal.invariant-loop-left

@@ -1,10 +1,8 @@
 -- `put_header` meets its contract: the size, and the kind behind it. Assumes nothing.
-use mathlib.Core.Path.{◌≡◌, sym, ap, ◌∙◌}
+use mathlib.Core.Path.{ap, ◌∙◌}
 use mathlib.Core.List.{List}
-use Prim.Native.Nat.{ℕ, ◌+◌}
+use Prim.Native.Nat.{ℕ}
 use native.Mathlib.Omega.{arith}
-use borrow.Author.Rules.{rules}
-use lib.ListN.{length}
 use Rattle.hash_parts.specs.ZeroBytes.{bytes_of}
 use Rattle.hash_parts.proofs.Bytes.{length_bytes}
 use Rattle.records.specs.Area.{pasted}

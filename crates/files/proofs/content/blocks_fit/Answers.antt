@@ -11,7 +11,6 @@ use Rattle.files.specs.Blocks.{content_of}
 use Rattle.files.specs.Contents.{sum}
 use Rattle.files.specs.Plan.{blocks_fit}
 use Rattle.files.proofs.Reading.{all_words}
-use borrow.Author.Rules.{rules}
 use Rattle.files.proofs.content.blocks_fit.Goals as goal
 use Rattle.files.proofs.content.blocks_fit.Goals.{Else-lengths-ne0, Else-not-is_count_of, Else-not-is_count_of-2}
 
@@ -35,20 +34,25 @@ returns-then-lengths-ne0 c = rw (← c.content_of-lengths.ensures, ne_eqb _ _ c.
 
 pub returns-then-not-is_count_of : goal.returns-then-not-is_count_of
 unfolding blocks_fit
-returns-then-not-is_count_of c = rw ((one (goal.at.returns-then-not-is_count_of c).Else-lengths-ne0), ← c.content_of.ensures, said_no c.is_count_of.ensures c.if-not-is_count_of.true)
+returns-then-not-is_count_of c =
+    let at = goal.at.returns-then-not-is_count_of c in
+    rw ((one at.Else-lengths-ne0), ← c.content_of.ensures, said_no c.is_count_of.ensures c.if-not-is_count_of.true)
 
 pub returns-then-not-is_count_of-2 : goal.returns-then-not-is_count_of-2
 unfolding blocks_fit
 returns-then-not-is_count_of-2 c =
-    rw ((one (goal.at.returns-then-not-is_count_of-2 c).Else-lengths-ne0), (two (goal.at.returns-then-not-is_count_of-2 c).Else-not-is_count_of), ← c.content_of-2.ensures, said_no c.is_count_of-2.ensures c.if-not-is_count_of-2.true)
+    let at = goal.at.returns-then-not-is_count_of-2 c in
+    rw ((one at.Else-lengths-ne0), (two at.Else-not-is_count_of), ← c.content_of-2.ensures, said_no c.is_count_of-2.ensures c.if-not-is_count_of-2.true)
 
 pub returns-then-bytes-gt-MAX_ARENA_BYTES : goal.returns-then-bytes-gt-MAX_ARENA_BYTES
 unfolding blocks_fit
 returns-then-bytes-gt-MAX_ARENA_BYTES c =
-    rw ((one (goal.at.returns-then-bytes-gt-MAX_ARENA_BYTES c).Else-lengths-ne0), (two (goal.at.returns-then-bytes-gt-MAX_ARENA_BYTES c).Else-not-is_count_of), (three (goal.at.returns-then-bytes-gt-MAX_ARENA_BYTES c).Else-not-is_count_of-2), ← c.content_of-bytes.ensures, lt-leb _ _ c.if-bytes-gt-MAX_ARENA_BYTES.true)
+    let at = goal.at.returns-then-bytes-gt-MAX_ARENA_BYTES c in
+    rw ((one at.Else-lengths-ne0), (two at.Else-not-is_count_of), (three at.Else-not-is_count_of-2), ← c.content_of-bytes.ensures, lt-leb _ _ c.if-bytes-gt-MAX_ARENA_BYTES.true)
 
 pub returns : goal.returns
 unfolding blocks_fit
 returns c =
-    rw ((one (goal.at.returns c).Else-lengths-ne0), (two (goal.at.returns c).Else-not-is_count_of), (three (goal.at.returns c).Else-not-is_count_of-2), ← c.content_of-bytes.ensures, le-leb _ _ c.if-bytes-gt-MAX_ARENA_BYTES.false)
+    let at = goal.at.returns c in
+    rw ((one at.Else-lengths-ne0), (two at.Else-not-is_count_of), (three at.Else-not-is_count_of-2), ← c.content_of-bytes.ensures, le-leb _ _ c.if-bytes-gt-MAX_ARENA_BYTES.false)
     (c.lengths_add_up.ensures ∙ ap (λ (l : List ℕ). eqb (sum (all_words l)) (length c.content_of-bytes.result.now)) c.content_of-lengths.ensures)

@@ -11,7 +11,6 @@ use Rattle.files.specs.Blocks.{content_of}
 use Rattle.files.specs.Contents.{file_set}
 use Rattle.files.specs.Plan.{blocks_fit, flags_fit}
 use Rattle.files.proofs.Told.{content_is}
-use borrow.Author.Rules.{rules}
 use Rattle.files.proofs.content.content_fits.Goals as goal
 use Rattle.files.proofs.content.content_fits.Goals.{Else-content_of-ne-COUNT_BYTES, Else-not-fits, Else-not-flags_fit}
 
@@ -32,21 +31,24 @@ returns-then-content_of-ne-COUNT_BYTES c =
 
 pub returns-then-not-flags_fit : goal.returns-then-not-flags_fit
 returns-then-not-flags_fit c =
+    let at = goal.at.returns-then-not-flags_fit c in
     let f = c.args.file.now in
-    sym (content_is f ∙ rw (eq-eqb _ _ (one (goal.at.returns-then-not-flags_fit c).Else-content_of-ne-COUNT_BYTES), said_no c.flags_fit.ensures c.if-not-flags_fit.true))
+    sym (content_is f ∙ rw (eq-eqb _ _ (one at.Else-content_of-ne-COUNT_BYTES), said_no c.flags_fit.ensures c.if-not-flags_fit.true))
 
 pub returns-then-not-fits : goal.returns-then-not-fits
 returns-then-not-fits c =
+    let at = goal.at.returns-then-not-fits c in
     let f = c.args.file.now in
-    sym (content_is f ∙ rw (eq-eqb _ _ (one (goal.at.returns-then-not-fits c).Else-content_of-ne-COUNT_BYTES), (two (goal.at.returns-then-not-fits c).Else-not-flags_fit), said_no (c.fits.ensures ∙ ap set_fits c.set_in-set.ensures) c.if-not-fits.true))
+    sym (content_is f ∙ rw (eq-eqb _ _ (one at.Else-content_of-ne-COUNT_BYTES), (two at.Else-not-flags_fit), said_no (c.fits.ensures ∙ ap set_fits c.set_in-set.ensures) c.if-not-fits.true))
 
 pub returns : goal.returns
 returns c =
+    let at = goal.at.returns c in
     let f = c.args.file.now in
     let e = c.set_in-set.ensures in
     c.blocks_fit.ensures
     ∙ ap₂ (λ (n m : ℕ). blocks_fit n m f) (ap (λ (s : FrozenSegmentCache). s.buckets) e) (ap (λ (s : FrozenSegmentCache). s.filter_words) e)
-    ∙ sym (content_is f ∙ rw (eq-eqb _ _ (one (goal.at.returns c).Else-content_of-ne-COUNT_BYTES), (two (goal.at.returns c).Else-not-flags_fit), (three (goal.at.returns c).Else-not-fits)))
+    ∙ sym (content_is f ∙ rw (eq-eqb _ _ (one at.Else-content_of-ne-COUNT_BYTES), (two at.Else-not-flags_fit), (three at.Else-not-fits)))
 
 pub flags_fit-requires : goal.flags_fit-requires
 flags_fit-requires c = (one c)

@@ -1,6 +1,5 @@
 -- `expiry_in` meets its contract. Assumes nothing.
 use Rattle.files.proofs.Told.{expiry_off, expiry_on}
-use borrow.Author.Rules.{rules}
 use Rattle.files.proofs.content.expiry_in.Goals as goal
 
 pub returns-then-field_at-ne1 : goal.returns-then-field_at-ne1

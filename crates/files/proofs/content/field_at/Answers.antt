@@ -1,7 +1,7 @@
 -- `field_at` meets its contract: the position is the sum of the widths before the number. Assumes nothing.
 use mathlib.Core.Path.{◌≡◌, refl, sym, ap, ap₂, ◌∙◌}
 use mathlib.Core.List.{List}
-use Prim.Native.Nat.{ℕ, ◌+◌, ◌-◌, ◌≤◌}
+use Prim.Native.Nat.{ℕ, ◌+◌}
 use native.Mathlib.Omega.{arith}
 use lib.ListN.{length, take, get_or}
 use Rattle.hash_parts.specs.ZeroBytes.{number_of}

@@ -1,7 +1,6 @@
 -- `flags_fit` meets its contract. Assumes nothing.
 use mathlib.Core.Path.{sym, ◌∙◌}
 use Rattle.files.proofs.Told.{flags_first, flags_second, flags_third}
-use borrow.Author.Rules.{rules}
 use Rattle.files.proofs.content.flags_fit.Goals as goal
 
 pub returns-then-field_at-gt1 : goal.returns-then-field_at-gt1

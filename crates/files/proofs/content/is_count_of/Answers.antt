@@ -5,7 +5,6 @@ use native.Mathlib.Nat.{div-add-mod', mul_comm, mul-mod_left, mul-div_cancel}
 use native.Mathlib.Omega.{arith}
 use borrow.Author.Tests.{ne_eqb}
 use Rattle.files.proofs.Reading.{eqb_same}
-use borrow.Author.Rules.{rules}
 use Rattle.files.proofs.content.is_count_of.Goals as goal
 
 pub returns-then-bytes-size-ne0 : goal.returns-then-bytes-size-ne0

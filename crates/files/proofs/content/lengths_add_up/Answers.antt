@@ -1,8 +1,8 @@
 -- `lengths_add_up` meets its contract: what is left of the bytes is what the words from the one at hand on must add up to. Assumes nothing.
 use mathlib.Core.Path.{◌≡◌, sym}
-use Prim.Native.Nat.{◌+◌, ◌-◌, ◌/◌, ◌≤◌}
+use Prim.Native.Nat.{◌/◌}
 use native.Mathlib.Omega.{arith}
-use lib.ListN.{length, drop}
+use lib.ListN.{length}
 use borrow.Author.Tests.{ne_eqb}
 use Rattle.files.specs.Contents.{sum}
 use Rattle.files.proofs.Passes.{words_of_length}

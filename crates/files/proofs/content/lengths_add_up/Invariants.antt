@@ -1,12 +1,9 @@
 -- What each turn of the loop keeps.
-use mathlib.Core.Path.{◌≡◌, sym}
+use mathlib.Core.Path.{◌≡◌}
 use Prim.Native.Nat.{◌+◌, ◌-◌, ◌/◌, ◌≤◌}
-use native.Mathlib.Omega.{arith}
 use lib.ListN.{length, drop}
-use borrow.Author.Tests.{ne_eqb}
 use Rattle.files.specs.Contents.{sum}
-use Rattle.files.proofs.Passes.{words_of_length}
-use Rattle.files.proofs.Reading.{all_words, eqb_same, sum_none, sum_word}
+use Rattle.files.proofs.Reading.{all_words}
 use Rattle.files.proofs.content.lengths_add_up.Given as goal
 
 abbrev pub invariant-loop-i : goal.invariant-loop-i

@@ -8,7 +8,6 @@ use Rattle.files.specs.Blocks.{frames_well, kinds_from}
 use Rattle.files.specs.Contents.{ask_file, content_fits}
 use Rattle.files.specs.Plan.{file_asked}
 use Rattle.files.proofs.Told.{content_told}
-use borrow.Author.Rules.{rules}
 use Rattle.files.proofs.content.plan_file.Goals as goal
 use Rattle.files.proofs.content.plan_file.Goals.{Else-not-content_fits, Else-not-frames_well, Else-not-kinds_in_order}
 
@@ -28,16 +27,21 @@ returns-then-not-frames_well c = rw (said_no c.frames_well.ensures c.if-not-fram
 
 pub returns-then-not-kinds_in_order : goal.returns-then-not-kinds_in_order
 unfolding file_asked ask_file
-returns-then-not-kinds_in_order c = rw ((one (goal.at.returns-then-not-kinds_in_order c).Else-not-frames_well), said_no c.kinds_in_order.ensures c.if-not-kinds_in_order.true)
+returns-then-not-kinds_in_order c =
+    let at = goal.at.returns-then-not-kinds_in_order c in
+    rw ((one at.Else-not-frames_well), said_no c.kinds_in_order.ensures c.if-not-kinds_in_order.true)
 
 pub returns-then-not-content_fits : goal.returns-then-not-content_fits
 unfolding file_asked ask_file
-returns-then-not-content_fits c = rw ((one (goal.at.returns-then-not-content_fits c).Else-not-frames_well), (two (goal.at.returns-then-not-content_fits c).Else-not-kinds_in_order), said_no c.content_fits.ensures c.if-not-content_fits.true)
+returns-then-not-content_fits c =
+    let at = goal.at.returns-then-not-content_fits c in
+    rw ((one at.Else-not-frames_well), (two at.Else-not-kinds_in_order), said_no c.content_fits.ensures c.if-not-content_fits.true)
 
 pub returns : goal.returns
 unfolding file_asked ask_file
 returns c =
-    rw ((one (goal.at.returns c).Else-not-frames_well), (two (goal.at.returns c).Else-not-kinds_in_order), (three (goal.at.returns c).Else-not-content_fits)) (ap (λ (s : FrozenSegmentCache). accept s) c.set_in.ensures)
+    let at = goal.at.returns c in
+    rw ((one at.Else-not-frames_well), (two at.Else-not-kinds_in_order), (three at.Else-not-content_fits)) (ap (λ (s : FrozenSegmentCache). accept s) c.set_in.ensures)
 
 pub kinds_in_order-requires : goal.kinds_in_order-requires
 kinds_in_order-requires c = (one c)

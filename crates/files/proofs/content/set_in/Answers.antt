@@ -6,7 +6,6 @@ use lib.ListN.{length}
 use Rattle.hash_parts.specs.declared.setting.SegmentCacheConfig.{SegmentCacheConfig}
 use Rattle.sets.specs.Questions.{buckets_in, filter_words_in}
 use Rattle.files.proofs.Told.{set_is}
-use borrow.Author.Rules.{rules}
 use Rattle.files.proofs.content.set_in.Goals as goal
 
 pub returns : goal.returns

@@ -1,6 +1,5 @@
 -- `setting_in` meets its contract. Assumes nothing.
 use Rattle.files.proofs.Told.{setting_is}
-use borrow.Author.Rules.{rules}
 use Rattle.files.proofs.content.setting_in.Goals as goal
 
 pub returns : goal.returns

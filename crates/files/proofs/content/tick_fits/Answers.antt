@@ -6,7 +6,6 @@ use borrow.Author.Tests.{ne_eqb}
 use Rattle.files.specs.Contents.{field}
 use Rattle.files.proofs.Reading.{eqb_same}
 use Rattle.files.proofs.Told.{tick_off, tick_on}
-use borrow.Author.Rules.{rules}
 use Rattle.files.proofs.content.tick_fits.Goals as goal
 
 pub returns-then-field_at-ne0 : goal.returns-then-field_at-ne0

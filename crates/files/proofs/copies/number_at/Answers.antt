@@ -1,10 +1,8 @@
 -- `number_at` meets its contract: the bytes from the one at hand on are the number so far. Assumes nothing.
-use mathlib.Core.Path.{◌≡◌, refl, ap, ◌∙◌}
-use Prim.Native.Nat.{ℕ, ◌+◌, ◌-◌, ◌*◌, ◌^◌, ◌≤◌, ◌<◌}
+use mathlib.Core.Path.{◌≡◌, ◌∙◌}
+use Prim.Native.Nat.{◌+◌, ◌-◌}
 use native.Mathlib.Omega.{arith}
-use lib.ListN.{length}
 use Rattle.hash_parts.specs.ZeroBytes.{number_of}
-use Rattle.records.specs.Area.{part}
 use Rattle.files.proofs.Copying.{number_more, number_room, eight_bytes}
 use Rattle.files.proofs.copies.number_at.Goals as goal
 

@@ -1,14 +1,9 @@
 -- What each turn of the loop keeps.
-use mathlib.Core.Path.{◌≡◌, refl, sym, ap, ◌∙◌}
-use mathlib.Core.List.{List, [], ◌∷◌, ◌++◌}
-use Prim.Native.Nat.{ℕ, suc, ◌+◌, ◌-◌, ◌*◌, ◌/◌, ◌%◌, ◌^◌, ◌≤◌, ◌<◌}
-use native.Mathlib.Nat.{add_assoc}
-use native.Mathlib.Omega.{arith}
-use lib.ListN.{length, take}
+use mathlib.Core.List.{◌++◌}
+use Prim.Native.Nat.{◌+◌, ◌-◌, ◌≤◌}
+use lib.ListN.{take}
 use Rattle.hash_parts.specs.ZeroBytes.{bytes_of}
-use Rattle.hash_parts.proofs.Bytes.{length_bytes}
-use Rattle.records.proofs.Area.{Writing, complete, next_byte, room}
-use Rattle.files.proofs.Copying.{begin_at, over_at}
+use Rattle.records.proofs.Area.{Writing}
 use Rattle.files.proofs.copies.put_number.Given as goal
 
 abbrev pub invariant-loop-i : goal.invariant-loop-i

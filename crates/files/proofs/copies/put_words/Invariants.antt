@@ -1,18 +1,11 @@
 -- What each turn of the loop keeps.
-use mathlib.Core.Path.{◌≡◌, refl, sym, ap, ◌∙◌}
-use mathlib.Core.List.{List, [], ◌∷◌, ◌++◌, map}
-use Prim.Native.Nat.{ℕ, ◌+◌, ◌-◌, ◌*◌, ◌≤◌, ◌<◌}
-use native.Mathlib.Numerals.{add-one}
-use native.Mathlib.Omega.{arith}
-use lib.ListN.{length, get_or, take, drop, drop_of_length-le, length-map}
-use lib.Seq.{drop-cons}
-use Rattle.hash_parts.specs.ZeroBytes.{bytes_of}
-use Rattle.hash_parts.proofs.Bytes.{length_bytes}
-use Rattle.records.proofs.Area.{Writing, complete, fits, next, room}
+use mathlib.Core.Path.{◌≡◌}
+use mathlib.Core.List.{List, ◌++◌, map}
+use Prim.Native.Nat.{ℕ, ◌+◌, ◌-◌, ◌*◌, ◌≤◌}
+use lib.ListN.{length, take, drop}
+use Rattle.records.proofs.Area.{Writing}
 use Rattle.index.specs.Packed.{word_bytes}
 use Rattle.files.specs.Copies.{masked_by}
-use Rattle.files.proofs.Copying.{begin_at, over_at}
-use Rattle.files.proofs.Low.{word_bytes_length}
 use Rattle.files.proofs.copies.put_words.Given as goal
 
 -- the bytes of some words, masked

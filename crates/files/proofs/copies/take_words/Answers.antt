@@ -5,11 +5,11 @@ use Prim.Native.Nat.{ℕ, suc, ◌+◌, ◌-◌, ◌*◌, ◌^◌, ◌≤◌, �
 use native.Mathlib.Nat.{le_refl, mod-eq_of_lt}
 use native.Mathlib.Omega.{arith}
 use lib.Bits.{and_mask}
-use lib.ListN.{length, get_or, take, drop, drop_of_length-le, length-map}
+use lib.ListN.{length, drop, drop_of_length-le, length-map}
 use lib.Seq.{drop-drop}
 use Rattle.hash_parts.specs.ZeroBytes.{number_of}
 use Rattle.records.specs.Area.{over, part}
-use Rattle.records.proofs.Area.{Writing, begin, complete, next_byte, room}
+use Rattle.records.proofs.Area.{begin, complete, next_byte, room}
 use Rattle.index.specs.Packed.{words_of}
 use Rattle.files.specs.Copies.{masked_by}
 use Rattle.files.proofs.Passes.{words_of_length}

@@ -1,18 +1,11 @@
 -- What each turn of the loop keeps.
-use mathlib.Core.Path.{◌≡◌, refl, sym, ap, ap₂, ◌∙◌}
-use mathlib.Core.List.{List, [], ◌∷◌, ◌++◌, map, append-nil}
-use Prim.Native.Nat.{ℕ, suc, ◌+◌, ◌-◌, ◌*◌, ◌^◌, ◌≤◌, ◌<◌}
-use native.Mathlib.Nat.{le_refl, mod-eq_of_lt}
-use native.Mathlib.Omega.{arith}
-use lib.Bits.{and_mask}
-use lib.ListN.{length, get_or, take, drop, drop_of_length-le, length-map}
-use lib.Seq.{drop-drop}
-use Rattle.hash_parts.specs.ZeroBytes.{number_of}
-use Rattle.records.specs.Area.{over, part}
-use Rattle.records.proofs.Area.{Writing, begin, complete, next_byte, room}
+use mathlib.Core.Path.{◌≡◌}
+use mathlib.Core.List.{List, map}
+use Prim.Native.Nat.{ℕ, ◌-◌, ◌*◌, ◌^◌, ◌≤◌}
+use lib.ListN.{length, drop}
+use Rattle.records.proofs.Area.{Writing}
 use Rattle.index.specs.Packed.{words_of}
 use Rattle.files.specs.Copies.{masked_by}
-use Rattle.files.proofs.Passes.{words_of_length}
 use Rattle.files.proofs.copies.take_words.Given as goal
 
 -- so many words from a word on

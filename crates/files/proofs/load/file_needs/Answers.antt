@@ -5,7 +5,6 @@ use Rattle.hash_parts.specs.Error.{error_number}
 use Rattle.sets.specs.declared.cache.FrozenSegmentCache.{FrozenSegmentCache}
 use Rattle.files.specs.Plan.{plan_reply}
 use Rattle.files.proofs.Loading.{asked_refused, asked_set, few_buckets, needs_is, needs_refused}
-use borrow.Author.Rules.{rules}
 use Rattle.files.proofs.load.file_needs.Goals as goal
 
 pub overflow_mul-result : goal.overflow_mul-result

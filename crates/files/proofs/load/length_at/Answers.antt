@@ -3,7 +3,6 @@ use mathlib.Core.Path.{sym, ◌∙◌}
 use Prim.Native.Nat.{◌/◌}
 use native.Mathlib.Omega.{arith}
 use lib.ListN.{length}
-use borrow.Author.Rules.{rules}
 use Rattle.index.specs.Packed.{words_of}
 use Rattle.files.proofs.Passes.{words_of_length}
 use Rattle.files.proofs.Reading.{past_none, word_at}

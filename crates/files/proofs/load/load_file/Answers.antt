@@ -3,7 +3,6 @@ use mathlib.Core.Path.{sym, ap, ◌∙◌}
 use Rattle.hash_parts.specs.Error.{error_number}
 use Rattle.files.specs.Plan.{plan_reply}
 use Rattle.files.proofs.Loading.{asked_refused, asked_set, load_refused}
-use borrow.Author.Rules.{rules}
 use Rattle.files.proofs.load.load_file.Goals as goal
 
 pub load_set-requires : goal.load_set-requires

@@ -3,7 +3,6 @@ use mathlib.Core.List.{List}
 use mathlib.Core.Path.{ap, ◌∙◌}
 use Prim.Native.Nat.{ℕ}
 use Rattle.records.specs.Area.{over}
-use borrow.Author.Rules.{rules}
 use Rattle.files.proofs.load.load_filter.Goals as goal
 
 pub returns : goal.returns

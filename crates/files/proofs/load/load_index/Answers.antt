@@ -6,13 +6,11 @@ use Prim.Native.Nat.{ℕ, ◌-◌, ◌*◌}
 use native.Mathlib.Omega.{arith}
 use lib.ListN.{length, take, drop, length-drop}
 use lib.Seq.{take_all}
-use borrow.Author.Tests.{not-true, not-false}
 use Rattle.records.specs.Area.{over, pasted}
 use Rattle.index.specs.Packed.{words_of}
 use Rattle.files.specs.Contents.{unmarked_index}
 use Rattle.files.specs.Copies.{masked_by}
 use Rattle.files.proofs.Loading.{index_two, index_words}
-use borrow.Author.Rules.{rules}
 use Rattle.files.proofs.load.load_index.Goals as goal
 
 pub returns-then-not-packed : goal.returns-then-not-packed

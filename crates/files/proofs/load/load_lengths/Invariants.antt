@@ -1,12 +1,9 @@
 -- What each turn of the loop keeps.
-use Prim.Native.Nat.{◌+◌, ◌-◌, ◌/◌, ◌≤◌}
-use native.Mathlib.Omega.{arith}
-use lib.ListN.{length, drop, drop_of_length-le}
-use Rattle.records.proofs.Area.{Writing, begin, room, next_byte, complete}
+use Prim.Native.Nat.{◌-◌, ◌/◌, ◌≤◌}
+use lib.ListN.{length, drop}
+use Rattle.records.proofs.Area.{Writing}
 use Rattle.index.specs.Packed.{words_of}
 use Rattle.index.specs.Segments.{padded}
-use Rattle.files.proofs.Passes.{words_of_length}
-use Rattle.files.proofs.Reading.{padded_length, padded_next}
 use Rattle.files.proofs.load.load_lengths.Given as goal
 
 abbrev pub invariant-loop-i : goal.invariant-loop-i

@@ -15,7 +15,6 @@ use Rattle.files.specs.Contents.{starts_by, sum, unmarked_index}
 use Rattle.files.specs.Load.{load_areas_hold}
 use Rattle.files.proofs.Loading.{AreasHold, areas_same, areas_told, blocks_told, load_done, load_short}
 use Rattle.files.proofs.Reading.{all_words}
-use borrow.Author.Rules.{rules}
 use Rattle.files.proofs.load.load_set.Goals as goal
 use Rattle.files.proofs.load.load_set.Goals.{Else-not-lookup_areas_hold}
 
@@ -63,9 +62,10 @@ load_index-requires c =
 
 pub load_filter-requires : goal.load_filter-requires
 load_filter-requires c =
+    let at = goal.at.load_filter-requires c in
     let n = ap (λ (s : FrozenSegmentCache). s.filter_words) c.requires.0 in
     let t = (blocks_told c.args.file.now c.requires.1).filter in
-    (omega (arith, ap length c.content_of-2.ensures, t, n), subst (λ (k : ℕ). k ≤ length c.args.filter.now) (sym n) (told (goal.at.load_filter-requires c).Else-not-lookup_areas_hold).filter_holds)
+    (omega (arith, ap length c.content_of-2.ensures, t, n), subst (λ (k : ℕ). k ≤ length c.args.filter.now) (sym n) (told at.Else-not-lookup_areas_hold).filter_holds)
 
 pub load_starts-requires : goal.load_starts-requires
 load_starts-requires c =
@@ -78,20 +78,23 @@ load_starts-requires c =
 
 pub load_lengths-requires : goal.load_lengths-requires
 load_lengths-requires c =
+    let at = goal.at.load_lengths-requires c in
     let t = blocks_told c.args.file.now c.requires.1 in
-    (subst (λ (l : List ℕ). length l / 8 ≤ 256) (sym c.content_of-4.ensures) t.segments, (told (goal.at.load_lengths-requires c).Else-not-lookup_areas_hold).lengths_hold)
+    (subst (λ (l : List ℕ). length l / 8 ≤ 256) (sym c.content_of-4.ensures) t.segments, (told at.Else-not-lookup_areas_hold).lengths_hold)
 
 pub put_bytes-requires : goal.put_bytes-requires
 put_bytes-requires c =
+    let at = goal.at.put_bytes-requires c in
     let n : length c.content_of-5.result.now ≤ length c.args.arena.now =
-    subst (λ (l : List ℕ). length l ≤ length c.args.arena.now) (sym c.content_of-5.ensures) (told (goal.at.put_bytes-requires c).Else-not-lookup_areas_hold).arena_held in
+    subst (λ (l : List ℕ). length l ≤ length c.args.arena.now) (sym c.content_of-5.ensures) (told at.Else-not-lookup_areas_hold).arena_held in
     omega (arith, n)
 
 pub returns : goal.returns
 returns c =
+    let at = goal.at.returns c in
     let a = c.args in
     load_done a.file.now a.index.now a.filter.now a.starts.now a.lengths.now a.arena.now a.set c.load_index.new.index
-    c.load_filter.new.filter c.load_starts.new.starts c.load_lengths.new.lengths c.put_bytes.new.out c.requires.1 (held (goal.at.returns c).Else-not-lookup_areas_hold) c.requires.0
+    c.load_filter.new.filter c.load_starts.new.starts c.load_lengths.new.lengths c.put_bytes.new.out c.requires.1 (held at.Else-not-lookup_areas_hold) c.requires.0
     (c.load_index.ensures
     ∙ ap₂ (λ (s : FrozenSegmentCache) (l : List ℕ). over (unmarked_index s.config.packed_bucket_index s.buckets (words_of (8 * s.buckets) l)) a.index.now) c.requires.0
     c.content_of.ensures)

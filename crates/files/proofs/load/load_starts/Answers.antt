@@ -1,11 +1,11 @@
 -- `load_starts` meets its contract: the words before the one at hand are written, and the next start is the sum of the lengths before it. Assumes nothing.
-use mathlib.Core.Path.{◌≡◌, ◌∙◌}
-use Prim.Native.Nat.{◌+◌, ◌-◌, ◌/◌, ◌≤◌}
+use mathlib.Core.Path.{◌∙◌}
+use Prim.Native.Nat.{◌+◌, ◌/◌, ◌≤◌}
 use native.Mathlib.Omega.{arith}
 use lib.ListN.{length, drop, drop_of_length-le}
-use Rattle.records.proofs.Area.{Writing, begin, room, next_byte, complete}
+use Rattle.records.proofs.Area.{begin, room, next_byte, complete}
 use Rattle.index.specs.Segments.{padded}
-use Rattle.files.specs.Contents.{starts_by, sum}
+use Rattle.files.specs.Contents.{starts_by}
 use Rattle.files.proofs.Moved.{starts_length}
 use Rattle.files.proofs.Passes.{words_of_length}
 use Rattle.files.proofs.Reading.{all_words, padded_length, padded_next, start_here, sum_rest}

@@ -1,14 +1,11 @@
 -- What each turn of the loop keeps.
-use mathlib.Core.Path.{◌≡◌, ◌∙◌}
-use Prim.Native.Nat.{◌+◌, ◌-◌, ◌/◌, ◌≤◌}
-use native.Mathlib.Omega.{arith}
-use lib.ListN.{length, drop, drop_of_length-le}
-use Rattle.records.proofs.Area.{Writing, begin, room, next_byte, complete}
+use mathlib.Core.Path.{◌≡◌}
+use Prim.Native.Nat.{◌+◌, ◌-◌, ◌≤◌}
+use lib.ListN.{drop}
+use Rattle.records.proofs.Area.{Writing}
 use Rattle.index.specs.Segments.{padded}
 use Rattle.files.specs.Contents.{starts_by, sum}
-use Rattle.files.proofs.Moved.{starts_length}
-use Rattle.files.proofs.Passes.{words_of_length}
-use Rattle.files.proofs.Reading.{all_words, padded_length, padded_next, start_here, sum_rest}
+use Rattle.files.proofs.Reading.{all_words}
 use Rattle.files.proofs.load.load_starts.Given as goal
 
 abbrev pub invariant-loop-i : goal.invariant-loop-i

@@ -9,7 +9,6 @@ use Rattle.index.specs.Packed.{words_of}
 use Rattle.files.specs.Copies.{masked_by}
 use Rattle.files.proofs.Loading.{words_home}
 use Rattle.files.proofs.Passes.{words_of_length}
-use borrow.Author.Rules.{rules}
 use Rattle.files.proofs.load.load_words.Goals as goal
 
 pub returns : goal.returns

@@ -1,13 +1,8 @@
 -- `file_bytes` meets its contract: what the questions leave are numbers whose sum fits. Assumes nothing.
-use mathlib.Core.Path.{◌≡◌, refl, sym, ap, ◌∙◌}
-use mathlib.Core.Bool.{true}
-use Prim.Native.Nat.{ℕ, ◌+◌, ◌*◌, ◌^◌, ◌≤◌, ◌<◌}
+use mathlib.Core.Path.{refl}
+use Prim.Native.Nat.{◌≤◌, ◌<◌}
 use native.Mathlib.Omega.{arith}
-use borrow.Author.Rules.{rules}
 use borrow.Author.Tests.{le-leb, lt-leb}
-use lib.ListN.{length}
-use Rattle.sets.specs.Answers.{Reply, accept, refuse}
-use Rattle.sets.specs.Rebuild.{sum_of}
 use Rattle.sets.proofs.Counts.{set_counts}
 use Rattle.sets.proofs.Finding.{few_buckets, few_words}
 use Rattle.sets.proofs.RebuildAsked.{SourceHolds, source_areas_asked}
@@ -72,13 +67,19 @@ overflow_add-result-2 c = let h = (held (goal.at.overflow_add-result-2 c).Else-n
 )
 
 pub overflow_mul-result-3 : goal.overflow_mul-result-3
-overflow_mul-result-3 c = omega (arith, (few (goal.at.overflow_mul-result-3 c).Else-bytes-gt-MAX_ARENA_BYTES (held (goal.at.overflow_mul-result-3 c).Else-not-source_holds)))
+overflow_mul-result-3 c =
+    let at = goal.at.overflow_mul-result-3 c in
+    omega (arith, (few at.Else-bytes-gt-MAX_ARENA_BYTES (held at.Else-not-source_holds)))
 
 pub overflow_add-result-3 : goal.overflow_add-result-3
-overflow_add-result-3 c = omega (arith, (few (goal.at.overflow_add-result-3 c).Else-bytes-gt-MAX_ARENA_BYTES (held (goal.at.overflow_add-result-3 c).Else-not-source_holds)))
+overflow_add-result-3 c =
+    let at = goal.at.overflow_add-result-3 c in
+    omega (arith, (few at.Else-bytes-gt-MAX_ARENA_BYTES (held at.Else-not-source_holds)))
 
 pub overflow_add-result-4 : goal.overflow_add-result-4
-overflow_add-result-4 c = omega (arith, (few (goal.at.overflow_add-result-4 c).Else-bytes-gt-MAX_ARENA_BYTES (held (goal.at.overflow_add-result-4 c).Else-not-source_holds)))
+overflow_add-result-4 c =
+    let at = goal.at.overflow_add-result-4 c in
+    omega (arith, (few at.Else-bytes-gt-MAX_ARENA_BYTES (held at.Else-not-source_holds)))
 
 pub returns : goal.returns
 unfolding size_answer ask_size

@@ -1,9 +1,8 @@
 -- `put_counts` meets its contract: a header, and the numbers of kind 1 behind it. Assumes nothing.
 use mathlib.Core.Path.{◌≡◌, refl, sym, ap, ap₂, ◌∙◌}
 use mathlib.Core.List.{List, [], ◌∷◌}
-use Prim.Native.Nat.{ℕ, ◌+◌}
+use Prim.Native.Nat.{ℕ}
 use native.Mathlib.Omega.{arith}
-use borrow.Author.Rules.{rules}
 use lib.ListN.{length}
 use Rattle.records.specs.Area.{pasted}
 use Rattle.sets.specs.declared.cache.FrozenSegmentCache.{FrozenSegmentCache}
@@ -38,12 +37,13 @@ put_numbers-requires c =
 
 pub returns : goal.returns
 returns c =
+    let at = goal.at.returns c in
     let header = c.put_header-begin in
     let a = c.args in
     let put = c.put_numbers.ensures in
-    let size : 44 ≡ length (count_bytes a.set) = sym (long (goal.at.returns c).After-flag_of-packed) ∙ ap length (same (goal.at.returns c).After-flag_of-packed) in (
-      omega (arith, put.0, header.ensures.0, long (goal.at.returns c).After-flag_of-packed),
+    let size : 44 ≡ length (count_bytes a.set) = sym (long at.After-flag_of-packed) ∙ ap length (same at.After-flag_of-packed) in (
+      omega (arith, put.0, header.ensures.0, long at.After-flag_of-packed),
       put.1
-          ∙ ap₂ (λ (content out : List ℕ). pasted header.result content out) (same (goal.at.returns c).After-flag_of-packed) header.ensures.1
+          ∙ ap₂ (λ (content out : List ℕ). pasted header.result content out) (same at.After-flag_of-packed) header.ensures.1
           ∙ (block_pasted a.at header.result 44 1 (count_bytes a.set) a.file.now size header.ensures.0 (omega arith)),
     )

@@ -2,9 +2,9 @@
 use mathlib.Core.Path.{◌≡◌, refl, sym, ap, ◌∙◌}
 use mathlib.Core.Bool.{true}
 use mathlib.Core.List.{List, [], ◌++◌, append-nil}
-use Prim.Native.Nat.{ℕ, ◌+◌, ◌*◌, ◌≤◌, ◌<◌}
+use Prim.Native.Nat.{ℕ, ◌+◌, ◌*◌, ◌<◌}
 use native.Mathlib.Omega.{arith}
-use lib.ListN.{length, get_or, take}
+use lib.ListN.{length, take}
 use Rattle.records.proofs.Area.{Writing, begin, complete, fits, next, room}
 use Rattle.index.specs.Packed.{word_bytes}
 use Rattle.sets.specs.Rebuild.{segments_inside, sum_of}
@@ -148,27 +148,33 @@ at4 c h_at3 =
     next (four (from_after_put_front_after_filter c)) (five (from_after_put_front_after_filter c)) _ _ h_at3 refl (omega (arith, c.put_front-after_filter.ensures.0, four_long (from_after_put_front_after_filter c))) c.put_front-after_filter.ensures.1
 
 pub put_counts-after_counts-requires : goal.put_counts-after_counts-requires
-put_counts-after_counts-requires c = omega (arith, fits (one (goal.at.put_counts-after_counts-requires c).Start) (left1 (goal.at.put_counts-after_counts-requires c).Start) (at0 (goal.at.put_counts-after_counts-requires c).Start) refl, one_long (goal.at.put_counts-after_counts-requires c).Start)
+put_counts-after_counts-requires c =
+    let at = goal.at.put_counts-after_counts-requires c in
+    omega (arith, fits (one at.Start) (left1 at.Start) (at0 at.Start) refl, one_long at.Start)
 
 pub put_front-after_lengths-requires : goal.put_front-after_lengths-requires
 put_front-after_lengths-requires c =
-    (omega (arith, fits (two (goal.at.put_front-after_lengths-requires c).Start) (three (goal.at.put_front-after_lengths-requires c).Start ++ (four (goal.at.put_front-after_lengths-requires c).Start ++ five (goal.at.put_front-after_lengths-requires c).Start)) (at1 (goal.at.put_front-after_lengths-requires c).After-put_counts-after_counts) refl, two_long (goal.at.put_front-after_lengths-requires c).Start), omega (arith, (asked (goal.at.put_front-after_lengths-requires c).Start).few_segments, (asked (goal.at.put_front-after_lengths-requires c).Start).lengths_hold))
+    let at = goal.at.put_front-after_lengths-requires c in
+    (omega (arith, fits (two at.Start) (three at.Start ++ (four at.Start ++ five at.Start)) (at1 at.After-put_counts-after_counts) refl, two_long at.Start), omega (arith, (asked at.Start).few_segments, (asked at.Start).lengths_hold))
 
 pub put_index-after_index-requires : goal.put_index-after_index-requires
 put_index-after_index-requires c =
-    (omega (arith, fits (three (goal.at.put_index-after_index-requires c).Start) (four (goal.at.put_index-after_index-requires c).Start ++ five (goal.at.put_index-after_index-requires c).Start) ((at2 (goal.at.put_index-after_index-requires c).After-put_front-after_lengths (at1 (goal.at.put_index-after_index-requires c).After-put_counts-after_counts))) refl, three_long (goal.at.put_index-after_index-requires c).Start), (asked (goal.at.put_index-after_index-requires c).Start).index_holds)
+    let at = goal.at.put_index-after_index-requires c in
+    (omega (arith, fits (three at.Start) (four at.Start ++ five at.Start) ((at2 at.After-put_front-after_lengths (at1 at.After-put_counts-after_counts))) refl, three_long at.Start), (asked at.Start).index_holds)
 
 pub put_front-after_filter-requires : goal.put_front-after_filter-requires
 put_front-after_filter-requires c =
-    (omega (arith, fits (four (goal.at.put_front-after_filter-requires c).Start) (five (goal.at.put_front-after_filter-requires c).Start) ((at3 (goal.at.put_front-after_filter-requires c).After-put_index-after_index (at2 (goal.at.put_front-after_filter-requires c).After-put_front-after_lengths (at1 (goal.at.put_front-after_filter-requires c).After-put_counts-after_counts)))) refl, four_long (goal.at.put_front-after_filter-requires c).Start), (asked (goal.at.put_front-after_filter-requires c).Start).filter_holds)
+    let at = goal.at.put_front-after_filter-requires c in
+    (omega (arith, fits (four at.Start) (five at.Start) ((at3 at.After-put_index-after_index (at2 at.After-put_front-after_lengths (at1 at.After-put_counts-after_counts)))) refl, four_long at.Start), (asked at.Start).filter_holds)
 
 pub put_segments-requires : goal.put_segments-requires
-put_segments-requires c = (
-  omega (arith, (asked (goal.at.put_segments-requires c).Start).few_segments, (asked (goal.at.put_segments-requires c).Start).starts_hold),
-  omega (arith, (asked (goal.at.put_segments-requires c).Start).few_segments, (asked (goal.at.put_segments-requires c).Start).lengths_hold),
-  inside (goal.at.put_segments-requires c).Start,
-  omega (arith, fits (five (goal.at.put_segments-requires c).Start) [] ((at4 (goal.at.put_segments-requires c).After-put_front-after_filter (at3 (goal.at.put_segments-requires c).After-put_index-after_index (at2 (goal.at.put_segments-requires c).After-put_front-after_lengths (at1 (goal.at.put_segments-requires c).After-put_counts-after_counts))))) (sym (append-nil (five (goal.at.put_segments-requires c).Start))), five_long (goal.at.put_segments-requires c).Start),
-)
+put_segments-requires c =
+    let at = goal.at.put_segments-requires c in (
+      omega (arith, (asked at.Start).few_segments, (asked at.Start).starts_hold),
+      omega (arith, (asked at.Start).few_segments, (asked at.Start).lengths_hold),
+      inside at.Start,
+      omega (arith, fits (five at.Start) [] ((at4 at.After-put_front-after_filter (at3 at.After-put_index-after_index (at2 at.After-put_front-after_lengths (at1 at.After-put_counts-after_counts))))) (sym (append-nil (five at.Start))), five_long at.Start),
+    )
 
 -- all five
 at5 : (c : After-put_segments)
@@ -178,7 +184,11 @@ at5 c h_at4 =
     next (five (from_after_put_segments c)) [] _ _ h_at4 (sym (append-nil (five (from_after_put_segments c)))) (omega (arith, c.put_segments.ensures.0, five_long (from_after_put_segments c))) c.put_segments.ensures.1
 
 pub shape_of-file : goal.shape_of-file
-shape_of-file c = (room ((at5 (goal.at.shape_of-file c).After-put_segments (at4 (goal.at.shape_of-file c).After-put_front-after_filter (at3 (goal.at.shape_of-file c).After-put_index-after_index (at2 (goal.at.shape_of-file c).After-put_front-after_lengths (at1 (goal.at.shape_of-file c).After-put_counts-after_counts))))))).1
+shape_of-file c =
+    let at = goal.at.shape_of-file c in
+    (room ((at5 at.After-put_segments (at4 at.After-put_front-after_filter (at3 at.After-put_index-after_index (at2 at.After-put_front-after_lengths (at1 at.After-put_counts-after_counts))))))).1
 
 pub returns : goal.returns
-returns c = (complete ((at5 (goal.at.returns c).After-put_segments (at4 (goal.at.returns c).After-put_front-after_filter (at3 (goal.at.returns c).After-put_index-after_index (at2 (goal.at.returns c).After-put_front-after_lengths (at1 (goal.at.returns c).After-put_counts-after_counts)))))) refl).1
+returns c =
+    let at = goal.at.returns c in
+    (complete ((at5 at.After-put_segments (at4 at.After-put_front-after_filter (at3 at.After-put_index-after_index (at2 at.After-put_front-after_lengths (at1 at.After-put_counts-after_counts)))))) refl).1

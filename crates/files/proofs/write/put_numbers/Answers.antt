@@ -1,12 +1,12 @@
 -- `put_numbers` meets its contract: what is written and the bytes of the numbers that are left are the numbers' bytes. Assumes nothing.
-use mathlib.Core.Path.{◌≡◌, refl, sym, ap, ap₂, ◌∙◌}
-use mathlib.Core.List.{List, [], ◌++◌}
-use Prim.Native.Nat.{ℕ, ◌+◌, ◌-◌, ◌≤◌}
+use mathlib.Core.Path.{◌≡◌, ap, ◌∙◌}
+use mathlib.Core.List.{List, []}
+use Prim.Native.Nat.{ℕ, ◌+◌}
 use native.Mathlib.Omega.{arith}
-use lib.ListN.{length, get_or, take, drop, drop_of_length-le}
+use lib.ListN.{get_or, drop, drop_of_length-le}
 use Rattle.hash_parts.specs.ZeroBytes.{bytes_of}
 use Rattle.hash_parts.proofs.Bytes.{length_bytes}
-use Rattle.records.proofs.Area.{Writing, complete, fits, next, room}
+use Rattle.records.proofs.Area.{complete, fits, next, room}
 use Rattle.files.specs.Contents.{bytes_for}
 use Rattle.files.proofs.Copying.{begin_at, ended_at, over_at}
 use Rattle.files.proofs.Pieces.{one_number}

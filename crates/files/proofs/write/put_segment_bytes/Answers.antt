@@ -1,13 +1,13 @@
 -- `put_segment_bytes` meets its contract: what is written and the segments that are left are the segments' bytes. Assumes nothing.
-use mathlib.Core.Path.{◌≡◌, refl, sym, ap, ◌∙◌}
-use mathlib.Core.List.{List, [], ◌++◌}
-use Prim.Native.Nat.{ℕ, suc, ◌+◌, ◌-◌, ◌≤◌, ◌<◌}
+use mathlib.Core.Path.{◌≡◌, ap, ◌∙◌}
+use mathlib.Core.List.{List, ◌++◌}
+use Prim.Native.Nat.{ℕ, ◌+◌, ◌-◌, ◌≤◌, ◌<◌}
 use native.Mathlib.Omega.{arith}
-use lib.ListN.{length, get_or, take, drop, length-drop}
+use lib.ListN.{length, get_or, drop, length-drop}
 use lib.Seq.{length-take-le}
 use Rattle.records.specs.Area.{part}
-use Rattle.records.proofs.Area.{Writing, complete, fits, next, room}
-use Rattle.sets.specs.Rebuild.{segments_inside, sum_of}
+use Rattle.records.proofs.Area.{complete, fits, next, room}
+use Rattle.sets.specs.Rebuild.{sum_of}
 use Rattle.sets.proofs.RebuildAsked.{segments_each}
 use Rattle.sets.proofs.RebuildSteps.{sum_more}
 use Rattle.files.specs.Write.{segment_bytes}
@@ -40,9 +40,10 @@ module _ (s : Start) where
 pub loop-i-init : goal.loop-i-init
 unfolding sum_of
 loop-i-init c =
+    let at = goal.at.loop-i-init c in
     let a = c.args in
     let bytes = segment_bytes a.segments a.starts.now a.lengths.now a.arena.now in
-    let long : length bytes ≡ sum_of a.segments a.lengths.now = segments_length a.starts.now a.lengths.now a.arena.now a.segments (omega arith) (inside (goal.at.loop-i-init c).Start) in
+    let long : length bytes ≡ sum_of a.segments a.lengths.now = segments_length a.starts.now a.lengths.now a.arena.now a.segments (omega arith) (inside at.Start) in
     let held : a.at + length bytes ≤ length a.file.now = omega (arith, long) in
     let n : a.segments - 0 ≡ a.segments = omega arith in (
       omega arith,
@@ -52,21 +53,23 @@ loop-i-init c =
 
 pub put_segment-end-requires : goal.put_segment-end-requires
 put_segment-end-requires c =
+    let at = goal.at.put_segment-end-requires c in
     let l = c.loop-i in
     let i = l.i in
     let more : i < c.args.segments = c.loop-i-test.true in
-    (inside (goal.at.put_segment-end-requires c).Start i more, omega (arith, fits (piece (goal.at.put_segment-end-requires c).Start i) (left (goal.at.put_segment-end-requires c).Start (i + 1)) l.invariant.2 (one (goal.at.put_segment-end-requires c).Start i more), piece_length (goal.at.put_segment-end-requires c).Start i more))
+    (inside at.Start i more, omega (arith, fits (piece at.Start i) (left at.Start (i + 1)) l.invariant.2 (one at.Start i more), piece_length at.Start i more))
 
 pub loop-i-preserved : goal.loop-i-preserved
 loop-i-preserved c =
+    let at = goal.at.loop-i-preserved c in
     let l = c.loop-i in
     let i = l.i in
     let more : i < c.args.segments = c.loop-i-test.true in
     let put = c.put_segment-end in (
       omega arith,
       omega (arith, put.ensures.0, l.invariant.1, sum_more i c.args.lengths.now),
-      next (piece (goal.at.loop-i-preserved c).Start i) (left (goal.at.loop-i-preserved c).Start (i + 1)) put.new.file put.result l.invariant.2 (one (goal.at.loop-i-preserved c).Start i more)
-          (omega (arith, put.ensures.0, piece_length (goal.at.loop-i-preserved c).Start i more)) put.ensures.1,
+      next (piece at.Start i) (left at.Start (i + 1)) put.new.file put.result l.invariant.2 (one at.Start i more)
+          (omega (arith, put.ensures.0, piece_length at.Start i more)) put.ensures.1,
     )
 
 pub shape_of-file : goal.shape_of-file

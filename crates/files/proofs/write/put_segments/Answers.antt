@@ -1,9 +1,6 @@
 -- `put_segments` meets its contract: a header, and the segments behind it. Assumes nothing.
-use mathlib.Core.Path.{◌≡◌, sym, ap, ◌∙◌}
-use mathlib.Core.List.{List}
-use Prim.Native.Nat.{ℕ, ◌+◌}
+use mathlib.Core.Path.{◌≡◌, sym, ◌∙◌}
 use native.Mathlib.Omega.{arith}
-use borrow.Author.Rules.{rules}
 use lib.ListN.{length}
 use Rattle.sets.proofs.RebuildAsked.{segments_each}
 use Rattle.files.specs.Write.{segment_bytes}

@@ -1,18 +1,14 @@
 -- `put_unmarked` meets its contract: all words with one mask, or control words and references with one each. Assumes nothing.
-use mathlib.Core.Path.{◌≡◌, sym, ap, ap₂, ◌∙◌}
-use mathlib.Core.Bool.{true, false}
-use mathlib.Core.List.{List, ◌++◌, map}
+use mathlib.Core.Path.{◌≡◌, sym, ap, ◌∙◌}
+use mathlib.Core.List.{List, map}
 use Prim.Native.Nat.{ℕ, ◌+◌, ◌-◌, ◌*◌}
 use native.Mathlib.Omega.{arith}
-use borrow.Author.Rules.{rules}
-use borrow.Author.Tests.{not-true, not-false}
 use lib.ListN.{length, take, drop, length-drop, length-map}
 use lib.Seq.{length-take-le, take-take}
 use Rattle.records.specs.Area.{pasted}
 use Rattle.index.specs.Packed.{word_bytes}
 use Rattle.index.proofs.Walks.{drop_take}
 use Rattle.files.specs.Copies.{masked_by}
-use Rattle.files.specs.Contents.{unmarked_index}
 use Rattle.files.proofs.Copying.{part_lent, paste_next}
 use Rattle.files.proofs.Low.{word_bytes_length}
 use Rattle.files.proofs.Pieces.{packed_unmarked_bytes, words_unmarked}

@@ -1,6 +1,6 @@
 -- `sum_of` meets its contract. Assumes nothing.
 use mathlib.Core.Path.{◌≡◌, refl, ap, ◌∙◌}
-use Prim.Native.Nat.{ℕ, ◌+◌, ◌-◌, ◌≤◌}
+use Prim.Native.Nat.{ℕ, ◌+◌}
 use native.Mathlib.Omega.{arith}
 use Rattle.sets.specs.Rebuild.{sum_of}
 use Rattle.sets.proofs.RebuildSteps.{sum_more, sum_most}

@@ -1,9 +1,7 @@
 -- What each turn of the loop keeps.
-use mathlib.Core.Path.{◌≡◌, refl, ap, ◌∙◌}
-use Prim.Native.Nat.{ℕ, ◌+◌, ◌-◌, ◌≤◌}
-use native.Mathlib.Omega.{arith}
+use mathlib.Core.Path.{◌≡◌}
+use Prim.Native.Nat.{◌-◌, ◌≤◌}
 use Rattle.sets.specs.Rebuild.{sum_of}
-use Rattle.sets.proofs.RebuildSteps.{sum_more, sum_most}
 use Rattle.files.proofs.write.sum_of.Given as goal
 
 abbrev pub invariant-loop-i : goal.invariant-loop-i

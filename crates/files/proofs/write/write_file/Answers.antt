@@ -1,17 +1,13 @@
 -- `write_file` meets its contract: its questions, and the file where all are answered yes. Assumes nothing.
 use mathlib.Core.Path.{◌≡◌, refl, sym, ap, ◌∙◌}
 use mathlib.Core.Bool.{true, cond}
-use Prim.Native.Nat.{ℕ, ◌<◌, ◌≤◌}
-use native.Mathlib.Omega.{arith}
-use borrow.Author.Rules.{rules}
 use borrow.Author.Tests.{le-leb, lt-leb}
 use lib.Dec.{leb}
 use lib.ListN.{length}
-use Rattle.sets.specs.Answers.{Reply, accept, refuse}
 use Rattle.sets.specs.Lookup.{areas_hold_lookup}
 use Rattle.sets.specs.Questions.{first_no}
 use Rattle.sets.proofs.Said.{said_no, said_yes}
-use Rattle.files.specs.Write.{FileWritten, after_write, ask_write, file_size, size_answer, size_reply}
+use Rattle.files.specs.Write.{after_write, ask_write, file_size, size_reply}
 use Rattle.files.proofs.Sizes.{asked_refused, asked_size}
 use Rattle.files.proofs.write.write_file.Goals as goal
 use Rattle.files.proofs.write.write_file.Goals.{Else-not-lookup_areas_hold, In-Bytes}
@@ -48,13 +44,18 @@ sized c held =
 
 pub returns-then-file-bytes : goal.returns-then-file-bytes
 unfolding after_write
-returns-then-file-bytes c = rw ((sized (goal.at.returns-then-file-bytes c).In-Bytes (held (goal.at.returns-then-file-bytes c).Else-not-lookup_areas_hold)).1, lt-leb _ _ c.if-file-bytes.true)
+returns-then-file-bytes c =
+    let at = goal.at.returns-then-file-bytes c in
+    rw ((sized at.In-Bytes (held at.Else-not-lookup_areas_hold)).1, lt-leb _ _ c.if-file-bytes.true)
 
 pub put_file-requires : goal.put_file-requires
-put_file-requires c = (sized (goal.at.put_file-requires c).In-Bytes (held (goal.at.put_file-requires c).Else-not-lookup_areas_hold)).1 ∙ rw (le-leb _ _ c.if-file-bytes.false)
+put_file-requires c =
+    let at = goal.at.put_file-requires c in
+    (sized at.In-Bytes (held at.Else-not-lookup_areas_hold)).1 ∙ rw (le-leb _ _ c.if-file-bytes.false)
 
 pub returns : goal.returns
 unfolding after_write
 returns c =
-    let told = (sized (goal.at.returns c).In-Bytes (held (goal.at.returns c).Else-not-lookup_areas_hold)) in
+    let at = goal.at.returns c in
+    let told = (sized at.In-Bytes (held at.Else-not-lookup_areas_hold)) in
     rw (told.1, le-leb _ _ c.if-file-bytes.false, told.0, c.put_file.ensures) refl

@@ -1,5 +1,5 @@
 -- `checked_mul` meets its contract: the seconds fit exactly where they are at most the quotient. Assumes nothing.
-use Rattle.std.proofs.Common.{◌*◌, ◌/◌, arith, rules}
+use Rattle.std.proofs.Common.{◌*◌, ◌/◌, arith}
 use Rattle.hash_parts.proofs.Deadlines.{part_fits, product_out, product_in, secs_past, secs_fit}
 use Rattle.hash_parts.proofs.duration.checked_mul.Goals as goal
 

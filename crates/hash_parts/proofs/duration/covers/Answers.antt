@@ -1,5 +1,5 @@
 -- `covers` meets its contract: the product has two words again, and the upper ones decide unless they are the same. Assumes nothing.
-use Rattle.std.proofs.Common.{◌≡◌, ℕ, ◌+◌, ◌*◌, ◌/◌, ◌^◌, ltb, leb, sym, ap, ◌∙◌, arith, rules}
+use Rattle.std.proofs.Common.{◌≡◌, ℕ, ◌+◌, ◌*◌, ◌/◌, ◌^◌, ltb, leb, sym, ap, ◌∙◌, arith}
 use Rattle.hash_parts.specs.Duration.{nanos_in}
 use Rattle.hash_parts.proofs.Deadlines.{upper_fits, words_differ, words_same}
 use Rattle.hash_parts.proofs.duration.covers.Goals as goal

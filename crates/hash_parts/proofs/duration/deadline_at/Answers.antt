@@ -1,5 +1,5 @@
 -- `deadline_at` meets its contract: past the limit every number of ticks is refused. Assumes nothing.
-use Rattle.std.proofs.Common.{◌≡◌, ℕ, ◌+◌, ◌-◌, min, ap, ◌∙◌, arith, rules}
+use Rattle.std.proofs.Common.{◌≡◌, ℕ, ◌+◌, ◌-◌, min, ap, ◌∙◌, arith}
 use Rattle.hash_parts.specs.Duration.{nanos_of, nanos_in, ceil_div}
 use Rattle.hash_parts.proofs.Deadlines.{deadline_in_law, deadline_out, words_number}
 use Rattle.hash_parts.proofs.duration.deadline_at.Goals as goal
@@ -25,5 +25,6 @@ returns-then-ticks-limit c =
 
 pub returns : goal.returns
 returns c =
+    let at = goal.at.returns c in
     let a = c.args in
-    deadline_in_law a.base (nanos_of a.lifetime) (nanos_in a.tick) c.ticks_of-ticks.result (omega arith) (ticks_are (goal.at.returns c).After-ticks_of-ticks) c.if-ticks-limit.false
+    deadline_in_law a.base (nanos_of a.lifetime) (nanos_in a.tick) c.ticks_of-ticks.result (omega arith) (ticks_are at.After-ticks_of-ticks) c.if-ticks-limit.false

@@ -1,5 +1,5 @@
 -- `encode_expiry_at_tick` meets its contract, case by case. Assumes nothing.
-use Rattle.std.proofs.Common.{◌≡◌, sym, ◌∙◌, arith, rules}
+use Rattle.std.proofs.Common.{◌≡◌, sym, ◌∙◌, arith}
 use borrow.Author.Tests.{eqb-false}
 use Rattle.hash_parts.specs.Duration.{encoded_expiry, nanos_of, nanos_in}
 use Rattle.hash_parts.proofs.Deadlines.{high_small, words_number}

@@ -1,5 +1,5 @@
 -- `remaining_ttl` meets its contract, case by case. Assumes nothing.
-use Rattle.std.proofs.Common.{rules, eq-eqb, ne_eqb, le-leb}
+use Rattle.std.proofs.Common.{eq-eqb, ne_eqb, le-leb}
 use borrow.Author.Tests.{lt-leb}
 use Rattle.hash_parts.specs.Duration.{remaining}
 use Rattle.hash_parts.proofs.duration.remaining_ttl.Goals as goal

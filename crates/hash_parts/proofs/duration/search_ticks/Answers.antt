@@ -1,5 +1,5 @@
 -- `search_ticks` meets its contract: short ticks are too few, and enough ticks cover the lifetime or are past the limit. Assumes nothing.
-use Rattle.std.proofs.Common.{◌+◌, ◌-◌, ◌*◌, ◌<◌, ◌≤◌, sym, ◌∙◌, mul-zero, arith, leb-false, leb-true}
+use Rattle.std.proofs.Common.{◌+◌, ◌≤◌, sym, ◌∙◌, mul-zero, arith, leb-false, leb-true}
 use Rattle.hash_parts.specs.Duration.{nanos_in}
 use Rattle.hash_parts.proofs.Deadlines.{search_ends}
 use Rattle.hash_parts.proofs.duration.search_ticks.Goals as goal

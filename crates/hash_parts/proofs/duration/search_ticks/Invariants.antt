@@ -1,7 +1,6 @@
 -- What each turn of the loop keeps.
-use Rattle.std.proofs.Common.{◌+◌, ◌-◌, ◌*◌, ◌<◌, ◌≤◌, sym, ◌∙◌, mul-zero, arith, leb-false, leb-true}
+use Rattle.std.proofs.Common.{◌+◌, ◌-◌, ◌*◌, ◌<◌, ◌≤◌}
 use Rattle.hash_parts.specs.Duration.{nanos_in}
-use Rattle.hash_parts.proofs.Deadlines.{search_ends}
 use Rattle.hash_parts.proofs.duration.search_ticks.Given as goal
 
 abbrev pub invariant-loop-short : goal.invariant-loop-short

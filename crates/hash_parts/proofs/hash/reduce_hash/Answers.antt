@@ -1,5 +1,5 @@
 -- `reduce_hash` meets its contract: a hash is below 2^64, so its part of the buckets is below their number. Assumes nothing.
-use Rattle.std.proofs.Common.{◌≡◌, ℕ, ◌*◌, ◌/◌, ◌^◌, refl, ◌∙◌, arith, rules}
+use Rattle.std.proofs.Common.{◌≡◌, ℕ, ◌*◌, ◌/◌, ◌^◌, refl, ◌∙◌, arith}
 use Rattle.hash_parts.specs.Hash.{first_bucket}
 use Rattle.hash_parts.proofs.Products.{first_bucket_below}
 use Rattle.hash_parts.proofs.hash.reduce_hash.Goals as goal

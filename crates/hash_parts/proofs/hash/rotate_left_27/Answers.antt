@@ -1,5 +1,5 @@
 -- `rotate_left_27` meets its contract: the lower 37 bits move up, the upper 27 bits come down. Assumes nothing.
-use Rattle.std.proofs.Common.{arith, shr_lt, rules}
+use Rattle.std.proofs.Common.{arith, shr_lt}
 use Rattle.hash_parts.specs.Hash.{rotated}
 use Rattle.hash_parts.proofs.hash.rotate_left_27.Goals as goal
 

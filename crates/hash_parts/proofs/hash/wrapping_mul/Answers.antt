@@ -1,5 +1,5 @@
 -- `wrapping_mul` meets its contract: the lower columns of the halves are the product modulo 2^64. Assumes nothing.
-use Rattle.std.proofs.Common.{sym, arith, rules}
+use Rattle.std.proofs.Common.{sym, arith}
 use Rattle.hash_parts.proofs.Products.{halves, lower_half}
 use Rattle.hash_parts.proofs.hash.wrapping_mul.Goals as goal
 

@@ -1,5 +1,5 @@
 -- `without_lowest_mark` meets its contract: a number less one loses its lowest set bit and sets those below it. Assumes nothing.
-use Rattle.std.proofs.Common.{◌<◌, sym, ap, ◌∙◌, arith, rules}
+use Rattle.std.proofs.Common.{◌<◌, sym, ap, ◌∙◌, arith}
 use Rattle.hash_parts.specs.ZeroBytes.{without_lowest}
 use Rattle.hash_parts.proofs.LowestSet.{cleared_none, cleared_right}
 use Rattle.hash_parts.proofs.zero_bytes.without_lowest_mark.Goals as goal

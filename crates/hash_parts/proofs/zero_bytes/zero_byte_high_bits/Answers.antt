@@ -1,5 +1,5 @@
 -- `zero_byte_high_bits` meets its contract: no byte's sum carries, so the test is right byte by byte. Assumes nothing.
-use Rattle.std.proofs.Common.{ℕ, ◌-◌, ◌^◌, ap, ◌∙◌, rules}
+use Rattle.std.proofs.Common.{ℕ, ◌-◌, ◌^◌, ap, ◌∙◌}
 use lib.Bits.{bit_and, bit_or}
 use Rattle.hash_parts.specs.ZeroBytes.{zero_marks, zero_bytes}
 use Rattle.hash_parts.proofs.ZeroBytes.{lo, hi, test_right, no_wrap}

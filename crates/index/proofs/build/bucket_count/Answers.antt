@@ -1,5 +1,5 @@
 -- `bucket_count` meets its contract: rounding up is rounding the one less down, plus 1. Assumes nothing.
-use Rattle.std.proofs.Common.{◌≡◌, ℕ, ◌+◌, ◌-◌, ◌/◌, ◌<◌, ap, ◌∙◌, div-le_self, arith, rules, eq-eqb, ne_eqb}
+use Rattle.std.proofs.Common.{◌≡◌, ℕ, ◌+◌, ◌-◌, ◌/◌, ◌<◌, ap, ◌∙◌, div-le_self, arith, eq-eqb, ne_eqb}
 use native.Mathlib.Nat.{add-div_right, div-eq_of_lt}
 use native.Mathlib.Decide.{dec_lt}
 use Rattle.hash_parts.specs.Duration.{ceil_div}

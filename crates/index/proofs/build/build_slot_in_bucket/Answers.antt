@@ -1,8 +1,8 @@
 -- `build_slot_in_bucket` meets its contract: the slots left answer as the bucket does. Assumes nothing.
-use Rattle.std.proofs.Common.{◌≡◌, ◌+◌, ◌*◌, get_or, sym, ◌∙◌, mul_comm, arith, rules}
+use Rattle.std.proofs.Common.{◌≡◌, get_or, sym, ◌∙◌, mul_comm, arith}
 use Rattle.index.specs.Build.{holds_key, build_record}
 use Rattle.index.specs.declared.build.BuildSlot.TheVariants.{Full}
-use Rattle.index.proofs.Slots.{slots_answer, slot_vacant, slot_same, slot_passed, slot_end}
+use Rattle.index.proofs.Slots.{slot_vacant, slot_same, slot_passed, slot_end}
 use Rattle.index.proofs.build.build_slot_in_bucket.Goals as goal
 use Rattle.index.proofs.build.build_slot_in_bucket.Goals.{After-holds_key}
 

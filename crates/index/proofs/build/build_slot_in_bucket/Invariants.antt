@@ -1,8 +1,8 @@
 -- What each turn of the loop keeps.
-use Rattle.std.proofs.Common.{◌≡◌, ◌+◌, ◌*◌, get_or, sym, ◌∙◌, mul_comm, arith, rules}
+use Rattle.std.proofs.Common.{◌≡◌, ◌+◌, ◌*◌}
 use Rattle.index.specs.Build.{holds_key, build_record}
 use Rattle.index.specs.declared.build.BuildSlot.TheVariants.{Full}
-use Rattle.index.proofs.Slots.{slots_answer, slot_vacant, slot_same, slot_passed, slot_end}
+use Rattle.index.proofs.Slots.{slots_answer}
 use Rattle.index.proofs.build.build_slot_in_bucket.Given as goal
 
 abbrev pub invariant-loop-left : goal.invariant-loop-left

@@ -1,5 +1,5 @@
 -- `clear_words` meets its contract: the words passed are 0, the others as they were. Assumes nothing.
-use Rattle.std.proofs.Common.{◌≡◌, ℕ, ◌-◌, ◌≤◌, ◌++◌, length, drop, replicate, refl, ◌∙◌, arith, length-set, le-leb}
+use Rattle.std.proofs.Common.{◌≡◌, ℕ, refl, ◌∙◌, arith, length-set, le-leb}
 use lib.ListN.{length-replicate}
 use borrow.Author.Tests.{lt-leb}
 use borrow.Author.Fill.{fill_more}

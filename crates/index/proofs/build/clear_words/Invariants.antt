@@ -1,9 +1,5 @@
 -- What each turn of the loop keeps.
-use Rattle.std.proofs.Common.{◌≡◌, ℕ, ◌-◌, ◌≤◌, ◌++◌, length, drop, replicate, refl, ◌∙◌, arith, length-set, le-leb}
-use lib.ListN.{length-replicate}
-use borrow.Author.Tests.{lt-leb}
-use borrow.Author.Fill.{fill_more}
-use Rattle.index.specs.Build.{cleared}
+use Rattle.std.proofs.Common.{◌≡◌, ◌-◌, ◌≤◌, ◌++◌, length, drop, replicate}
 use Rattle.index.proofs.build.clear_words.Given as goal
 
 abbrev pub invariant-loop-i : goal.invariant-loop-i

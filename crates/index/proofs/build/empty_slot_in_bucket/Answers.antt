@@ -1,8 +1,8 @@
 -- `empty_slot_in_bucket` meets its contract: the slots left answer as the bucket does. Assumes nothing.
-use Rattle.std.proofs.Common.{◌≡◌, ◌+◌, ◌*◌, sym, refl, ◌∙◌, mul_comm, arith}
+use Rattle.std.proofs.Common.{sym, refl, ◌∙◌, mul_comm, arith}
 use Rattle.index.specs.Build.{never}
 use Rattle.index.specs.declared.build.BuildSlot.TheVariants.{Full}
-use Rattle.index.proofs.Slots.{slots_answer, slot_vacant, slot_passed, slot_end}
+use Rattle.index.proofs.Slots.{slot_vacant, slot_passed, slot_end}
 use Rattle.index.proofs.build.empty_slot_in_bucket.Goals as goal
 
 pub loop-left-init : goal.loop-left-init

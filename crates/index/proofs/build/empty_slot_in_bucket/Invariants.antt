@@ -1,8 +1,8 @@
 -- What each turn of the loop keeps.
-use Rattle.std.proofs.Common.{◌≡◌, ◌+◌, ◌*◌, sym, refl, ◌∙◌, mul_comm, arith}
+use Rattle.std.proofs.Common.{◌≡◌, ◌+◌, ◌*◌}
 use Rattle.index.specs.Build.{never}
 use Rattle.index.specs.declared.build.BuildSlot.TheVariants.{Full}
-use Rattle.index.proofs.Slots.{slots_answer, slot_vacant, slot_passed, slot_end}
+use Rattle.index.proofs.Slots.{slots_answer}
 use Rattle.index.proofs.build.empty_slot_in_bucket.Given as goal
 
 abbrev pub invariant-loop-left : goal.invariant-loop-left

@@ -1,11 +1,11 @@
 -- `find_build_slot` meets its contract: the buckets left answer as the whole walk does. Without buckets a hash's first bucket is 0, so buckets are bounded
 -- by `buckets - 1`. Assumes nothing.
-use Rattle.std.proofs.Common.{◌≡◌, ℕ, ◌-◌, ◌≤◌, sym, ap, ◌∙◌, ⊎_elim, arith, rules}
+use Rattle.std.proofs.Common.{◌≡◌, ℕ, sym, ap, ◌∙◌, arith}
 use Rattle.hash_parts.specs.Hash.{first_bucket, tag_of}
 use Rattle.index.specs.declared.build.BuildSlot.TheVariants.{Full}
 use Rattle.index.specs.Build.{holds_key, build_record, slot_for, slot_outcome}
 use Rattle.index.proofs.Walks.{next_within}
-use Rattle.index.proofs.Slots.{slots_short, bucket_answer, buckets_answer, buckets_first, buckets_end, buckets_on, buckets_found_law}
+use Rattle.index.proofs.Slots.{slots_short, bucket_answer, buckets_first, buckets_end, buckets_on, buckets_found_law}
 use Rattle.index.proofs.build.find_build_slot.Goals as goal
 use Rattle.index.proofs.build.find_build_slot.Goals.{After-build_slot_in_bucket-found}
 
@@ -36,12 +36,13 @@ loop-left-init c =
 -- the arm is left by the variants 0 and 1, and `Full` is the variant 2
 pub returns-in_default : goal.returns-in_default
 returns-in_default c =
+    let at = goal.at.returns-in_default c in
     let a = c.args in
     let t = holds_key (build_record a.expiry a.records.now) a.key.now c.hash_tag-tag.result in
     let r = c.build_slot_in_bucket-found.result in
     let other : r ≡ Full → ⊥ = c.in_default.not-Full in
-    let found = buckets_found_law t a.index.now a.buckets c.loop-left.left c.loop-left.bucket c.loop-left-test.true (λ f. other (sym (said (goal.at.returns-in_default c).After-build_slot_in_bucket-found) ∙ f)) in
-    rw (c.loop-left.invariant.2, found, said (goal.at.returns-in_default c).After-build_slot_in_bucket-found)
+    let found = buckets_found_law t a.index.now a.buckets c.loop-left.left c.loop-left.bucket c.loop-left-test.true (λ f. other (sym (said at.After-build_slot_in_bucket-found) ∙ f)) in
+    rw (c.loop-left.invariant.2, found, said at.After-build_slot_in_bucket-found)
 
 pub loop-left-preserved : goal.loop-left-preserved
 loop-left-preserved c =

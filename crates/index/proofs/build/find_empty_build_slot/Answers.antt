@@ -1,11 +1,11 @@
 -- `find_empty_build_slot` meets its contract: the buckets left answer as the whole walk does. Without buckets a hash's first bucket is 0, so buckets are bounded
 -- by `buckets - 1`. Assumes nothing.
-use Rattle.std.proofs.Common.{◌≡◌, ◌-◌, ◌≤◌, sym, ap, ◌∙◌, ⊎_elim, arith, rules}
+use Rattle.std.proofs.Common.{◌≡◌, sym, ap, ◌∙◌, arith}
 use Rattle.hash_parts.specs.Hash.{first_bucket}
 use Rattle.index.specs.declared.build.BuildSlot.TheVariants.{Full}
-use Rattle.index.specs.Build.{never, slot_for, slot_outcome}
+use Rattle.index.specs.Build.{never, slot_outcome}
 use Rattle.index.proofs.Walks.{next_within}
-use Rattle.index.proofs.Slots.{slots_short, buckets_answer, buckets_first, buckets_end, buckets_on, buckets_found_law}
+use Rattle.index.proofs.Slots.{slots_short, buckets_first, buckets_end, buckets_on, buckets_found_law}
 use Rattle.index.proofs.build.find_empty_build_slot.Goals as goal
 
 pub returns-then-index-buckets : goal.returns-then-index-buckets

@@ -1,10 +1,7 @@
 -- What each turn of the loop keeps.
-use Rattle.std.proofs.Common.{◌≡◌, ◌-◌, ◌≤◌, sym, ap, ◌∙◌, ⊎_elim, arith, rules}
-use Rattle.hash_parts.specs.Hash.{first_bucket}
-use Rattle.index.specs.declared.build.BuildSlot.TheVariants.{Full}
-use Rattle.index.specs.Build.{never, slot_for, slot_outcome}
-use Rattle.index.proofs.Walks.{next_within}
-use Rattle.index.proofs.Slots.{slots_short, buckets_answer, buckets_first, buckets_end, buckets_on, buckets_found_law}
+use Rattle.std.proofs.Common.{◌≡◌, ◌-◌, ◌≤◌}
+use Rattle.index.specs.Build.{never, slot_for}
+use Rattle.index.proofs.Slots.{buckets_answer}
 use Rattle.index.proofs.build.find_empty_build_slot.Given as goal
 
 abbrev pub invariant-loop-left : goal.invariant-loop-left

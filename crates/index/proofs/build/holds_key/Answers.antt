@@ -1,5 +1,5 @@
 -- `holds_key` meets its contract: a record that is read has its key inside the bytes. Assumes nothing.
-use Rattle.std.proofs.Common.{ℕ, List, sym, ap, ◌∙◌, arith, rules}
+use Rattle.std.proofs.Common.{ℕ, List, sym, ap, ◌∙◌, arith}
 use Rattle.records.specs.Area.{same_bytes}
 use Rattle.index.proofs.Slots.{other_tag, names_none, names_unreadable, names_record}
 use Rattle.index.proofs.build.holds_key.Goals as goal

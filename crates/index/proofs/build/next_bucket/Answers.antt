@@ -1,5 +1,5 @@
 -- `next_bucket` meets its contract by its two tests. Assumes nothing.
-use Rattle.std.proofs.Common.{sym, arith, rules}
+use Rattle.std.proofs.Common.{sym, arith}
 use Rattle.index.proofs.Walks.{next_on, next_around}
 use Rattle.index.proofs.build.next_bucket.Goals as goal
 

@@ -1,5 +1,4 @@
 -- `bit` meets its contract: a bit below 64 is not shifted out. Assumes nothing.
-use Rattle.std.proofs.Common.{rules}
 use Rattle.index.proofs.Filters.{one_shl}
 use Rattle.index.proofs.filter.bit.Goals as goal
 

@@ -1,5 +1,5 @@
 -- `bit_past` meets its contract by its two tests. Assumes nothing.
-use Rattle.std.proofs.Common.{arith, rules, eq-eqb, ne_eqb}
+use Rattle.std.proofs.Common.{arith, eq-eqb, ne_eqb}
 use Rattle.index.specs.Filter.{bit_past}
 use Rattle.index.proofs.filter.bit_past.Goals as goal
 

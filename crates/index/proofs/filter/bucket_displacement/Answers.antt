@@ -1,5 +1,5 @@
 -- `bucket_displacement` meets its contract by its two tests. Assumes nothing.
-use Rattle.std.proofs.Common.{arith, rules, le-leb}
+use Rattle.std.proofs.Common.{arith, le-leb}
 use borrow.Author.Tests.{lt-leb}
 use Rattle.index.specs.Filter.{displaced}
 use Rattle.index.proofs.filter.bucket_displacement.Goals as goal

@@ -1,5 +1,5 @@
 -- `mark_displaced` meets its contract by its one test. Assumes nothing.
-use Rattle.std.proofs.Common.{◌≡◌, ℕ, ◌/◌, ◌<◌, ◌≤◌, ap, ◌∙◌, arith, rules, le-leb}
+use Rattle.std.proofs.Common.{◌≡◌, ℕ, ◌/◌, ◌<◌, ◌≤◌, ap, ◌∙◌, arith, le-leb}
 use borrow.Author.Tests.{lt-leb}
 use Rattle.index.specs.Filter.{displaced, displaced_marked}
 use Rattle.hash_parts.specs.Hash.{first_bucket}

@@ -1,5 +1,5 @@
 -- `mark_negative_filter` meets its contract: a word of the filter lies in an area that holds them. Assumes nothing.
-use Rattle.std.proofs.Common.{sym, rules}
+use Rattle.std.proofs.Common.{sym}
 use Rattle.index.proofs.Filters.{marked_none, marked_short, marked_is}
 use Rattle.index.proofs.filter.mark_negative_filter.Goals as goal
 

@@ -1,5 +1,4 @@
 -- `negative_filter_location` meets its contract: it composes what the parts of the hash ensure. Assumes nothing.
-use Rattle.std.proofs.Common.{rules}
 use Rattle.index.specs.Filter.{filter_word, filter_mask}
 use Rattle.index.proofs.filter.negative_filter_location.Goals as goal
 

@@ -1,5 +1,5 @@
 -- `negative_filter_may_contain` meets its contract: a word of the filter lies in an area that holds them. Assumes nothing.
-use Rattle.std.proofs.Common.{sym, rules}
+use Rattle.std.proofs.Common.{sym}
 use Rattle.index.proofs.Filters.{has_none, has_short, has_is}
 use Rattle.index.proofs.filter.negative_filter_may_contain.Goals as goal
 

@@ -1,5 +1,5 @@
 -- `negative_filter_words` meets its contract: a product of 32 and 8 bits fits. Assumes nothing.
-use Rattle.std.proofs.Common.{arith, rules}
+use Rattle.std.proofs.Common.{arith}
 use Rattle.index.proofs.Filters.{bits_fit}
 use Rattle.index.proofs.filter.negative_filter_words.Goals as goal
 

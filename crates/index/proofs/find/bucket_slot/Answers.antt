@@ -1,5 +1,5 @@
 -- `bucket_slot` meets its contract, layout by layout. Assumes nothing.
-use Rattle.std.proofs.Common.{sym, ◌∙◌, arith, rules}
+use Rattle.std.proofs.Common.{sym, ◌∙◌, arith}
 use Rattle.index.proofs.SlotReads.{word_in}
 use Rattle.index.proofs.find.bucket_slot.Goals as goal
 

@@ -1,5 +1,5 @@
 -- `candidate_marks` meets its contract, layout by layout. Assumes nothing.
-use Rattle.std.proofs.Common.{ℕ, get_or, ap, ◌∙◌, rules}
+use Rattle.std.proofs.Common.{ℕ, get_or, ap, ◌∙◌}
 use Rattle.hash_parts.specs.ZeroBytes.{marks}
 use Rattle.index.specs.FindSteps.{from_on, tagged}
 use Rattle.index.proofs.find.candidate_marks.Goals as goal

@@ -1,5 +1,5 @@
 -- `ends_at_filter` meets its contract by its one test. Assumes nothing.
-use Rattle.std.proofs.Common.{rules, eq-eqb, ne_eqb}
+use Rattle.std.proofs.Common.{eq-eqb, ne_eqb}
 use Rattle.index.proofs.find.ends_at_filter.Goals as goal
 
 pub returns-then-probe-ne1 : goal.returns-then-probe-ne1

@@ -1,5 +1,5 @@
 -- `find_in_bucket` meets its contract: the candidates left say what the bucket's slots say. Assumes nothing.
-use Rattle.std.proofs.Common.{◌≡◌, ℕ, ◌+◌, ◌*◌, ◌<◌, cond, sym, refl, ◌∙◌, ⊎_elim, arith, rules}
+use Rattle.std.proofs.Common.{◌≡◌, ℕ, ◌+◌, ◌*◌, ◌<◌, cond, sym, ◌∙◌, arith}
 use Rattle.hash_parts.specs.ZeroBytes.{lowest_set}
 use Rattle.records.specs.declared.record.RecordAnswer.{RecordAnswer}
 use Rattle.index.specs.Find.{in_bucket}
@@ -28,8 +28,9 @@ bucket_says s =
 
 pub loop-candidates-init : goal.loop-candidates-init
 loop-candidates-init c =
+    let at = goal.at.loop-candidates-init c in
     let a = c.args in
-    visiting_begins (reads (goal.at.loop-candidates-init c).Start) a.arena.now a.key.now a.packed a.tag a.buckets a.index.now a.bucket _ (omega arith) c.candidate_marks-candidates.ensures
+    visiting_begins (reads at.Start) a.arena.now a.key.now a.packed a.tag a.buckets a.index.now a.bucket _ (omega arith) c.candidate_marks-candidates.ensures
 
 pub bucket_slot-requires : goal.bucket_slot-requires
 bucket_slot-requires c =
@@ -53,11 +54,12 @@ said c =
 
 pub returns-in_default : goal.returns-in_default
 returns-in_default c =
-    let s = (goal.at.returns-in_default c).Start in
+    let at = goal.at.returns-in_default c in
+    let s = at.Start in
     let a = c.args in
     let some : 0 < c.loop-candidates.candidates = omega arith in
     let r = c.find_in_slot-step.result in
-    let e = said (goal.at.returns-in_default c).After-find_in_slot-step in
+    let e = said at.After-find_in_slot-step in
     let n = c.in_default.not-Next in
     let hit : bucket_says s ≡ r = rw e (visiting_hit (bucket_says s) (slot_says s) c.loop-candidates.invariant some (λ f. n (e ∙ f))) in
     bucket_step (reads s) a.arena.now a.key.now a.packed a.tag a.buckets a.index.now a.bucket r hit n
@@ -70,11 +72,12 @@ loop-candidates-smaller c =
 
 pub loop-candidates-preserved : goal.loop-candidates-preserved
 loop-candidates-preserved c =
-    let s = (goal.at.loop-candidates-preserved c).Start in
+    let at = goal.at.loop-candidates-preserved c in
+    let s = at.Start in
     let some : 0 < c.loop-candidates.candidates = omega arith in
     rw c.without_lowest_mark-candidates.ensures
     (visiting_on (bucket_says s) (slot_says s) c.loop-candidates.invariant some
-    (sym (said (goal.at.loop-candidates-preserved c).After-find_in_slot-step) ∙ c.in-Next.is))
+    (sym (said at.After-find_in_slot-step) ∙ c.in-Next.is))
 
 -- where no mark is left, an empty slot ends the walk
 ended : (c : After-has_empty) → let a = c.args in

@@ -1,6 +1,6 @@
 -- `find_in_slot` meets its contract, case by case. Assumes nothing.
-use Rattle.std.proofs.Common.{◌≡◌, ℕ, List, sym, ap, ◌∙◌}
-use Rattle.records.specs.Area.{same_bytes, spanned}
+use Rattle.std.proofs.Common.{ℕ, List, sym, ap, ◌∙◌}
+use Rattle.records.specs.Area.{same_bytes}
 use Rattle.records.specs.declared.record.RecordAnswer.{RecordAnswer}
 use Rattle.index.specs.View.{record_in}
 use Rattle.index.proofs.Finds.{slot_empty, slot_other, slot_broken, slot_match, slot_differs}
@@ -19,13 +19,15 @@ returns-in_default c =
 
 pub returns-then-kept-tag : goal.returns-then-kept-tag
 returns-then-kept-tag c =
+    let at = goal.at.returns-then-kept-tag c in
     let a = c.args in
-    slot_other (reads (goal.at.returns-then-kept-tag c).Start) a.arena.now a.key.now a.tag a.slot a.content c.in-Used.kept c.in-Used.stored c.in-Used.is c.if-kept-tag.true
+    slot_other (reads at.Start) a.arena.now a.key.now a.tag a.slot a.content c.in-Used.kept c.in-Used.stored c.in-Used.is c.if-kept-tag.true
 
 pub returns-in_default-record_at_location : goal.returns-in_default-record_at_location
 returns-in_default-record_at_location c =
+    let at = goal.at.returns-in_default-record_at_location c in
     let a = c.args in
-    slot_broken (reads (goal.at.returns-in_default-record_at_location c).Start) a.arena.now a.key.now a.tag a.slot a.content c.in-Used.kept c.in-Used.stored c.in-Used.is
+    slot_broken (reads at.Start) a.arena.now a.key.now a.tag a.slot a.content c.in-Used.kept c.in-Used.stored c.in-Used.is
     c.if-kept-tag.false (sym c.record_at_location.ensures ∙ c.in_default-record_at_location.is)
 
 pub returns-then-same_bytes : goal.returns-then-same_bytes

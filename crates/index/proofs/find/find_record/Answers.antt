@@ -1,11 +1,9 @@
 -- `find_record` meets its contract: the buckets left answer as the whole walk does. Assumes nothing.
-use Rattle.std.proofs.Common.{◌≡◌, ℕ, ◌+◌, ◌-◌, ◌<◌, ◌≤◌, Bool, List, sym, refl, ◌∙◌, ⊎_elim, arith, rules}
+use Rattle.std.proofs.Common.{◌≡◌, ℕ, ◌+◌, ◌<◌, Bool, List, sym, refl, ◌∙◌, arith}
 use Rattle.index.specs.Filter.{filter_has}
-use Rattle.index.specs.Find.{Look, ends_at, find_in, in_bucket}
-use Rattle.index.specs.declared.find.FoundRecord.{FoundRecord}
-use Rattle.index.specs.declared.find.FindStep.TheVariants.{Hit, Next}
+use Rattle.index.specs.Find.{Look, ends_at, in_bucket}
 use Rattle.index.proofs.Walks.{next_within}
-use Rattle.index.proofs.Finds.{buckets_found, found_end, found_hit, found_stop, found_filtered, found_on, filter_late, find_short, find_walks, Looks, stops}
+use Rattle.index.proofs.Finds.{found_end, found_hit, found_stop, found_filtered, found_on, filter_late, find_short, find_walks, Looks, stops}
 use Rattle.index.proofs.find.find_record.Goals as goal
 use Rattle.index.proofs.find.find_record.Goals.{After-ends_at_filter, After-find_in_bucket-step, Start}
 
@@ -56,39 +54,43 @@ loop-left-init c =
 
 pub returns-in-Hit : goal.returns-in-Hit
 returns-in-Hit c =
-    let s = (goal.at.returns-in-Hit c).Start in
+    let at = goal.at.returns-in-Hit c in
+    let s = at.Start in
     let l = c.loop-left in
-    let said = said (goal.at.returns-in-Hit c).After-find_in_bucket-step in
+    let said = said at.After-find_in_bucket-step in
     rw l.invariant.2
     (sym (found_hit c.args.packed (may s) (looks s) c.args.buckets l.probe l.left l.bucket c.loop-left-test.true _ (sym said ∙ c.in-Hit.is)))
 
 pub returns-in_default-step : goal.returns-in_default-step
 returns-in_default-step c =
-    let s = (goal.at.returns-in_default-step c).Start in
+    let at = goal.at.returns-in_default-step c in
+    let s = at.Start in
     let l = c.loop-left in
     let r = c.find_in_bucket-step.result in
-    let said = said (goal.at.returns-in_default-step c).After-find_in_bucket-step in
+    let said = said at.After-find_in_bucket-step in
     rw l.invariant.2
     (sym (found_stop c.args.packed (may s) (looks s) c.args.buckets l.probe l.left l.bucket c.loop-left-test.true
     (sym said ∙ stops r c.in_default.not-Hit c.in_default-step.not-Next)))
 
 pub returns-then-ends_at_filter : goal.returns-then-ends_at_filter
 returns-then-ends_at_filter c =
-    let s = (goal.at.returns-then-ends_at_filter c).Start in
+    let at = goal.at.returns-then-ends_at_filter c in
+    let s = at.Start in
     let l = c.loop-left in
-    let said = said (goal.at.returns-then-ends_at_filter c).After-find_in_bucket-step in
-    let asked = asked (goal.at.returns-then-ends_at_filter c).After-ends_at_filter l.invariant.4 in
+    let said = said at.After-find_in_bucket-step in
+    let asked = asked at.After-ends_at_filter l.invariant.4 in
     rw l.invariant.2
     (sym (found_filtered c.args.packed (may s) (looks s) c.args.buckets l.probe l.left l.bucket c.loop-left-test.true
     (sym said ∙ c.in-Next.is) (asked ∙ c.if-ends_at_filter.true)))
 
 pub loop-left-preserved : goal.loop-left-preserved
 loop-left-preserved c =
-    let s = (goal.at.loop-left-preserved c).Start in
+    let at = goal.at.loop-left-preserved c in
+    let s = at.Start in
     let l = c.loop-left in
     let e = c.next_bucket-bucket.ensures in
-    let said = said (goal.at.loop-left-preserved c).After-find_in_bucket-step in
-    let asked = asked (goal.at.loop-left-preserved c).After-ends_at_filter l.invariant.4 in
+    let said = said at.After-find_in_bucket-step in
+    let asked = asked at.After-ends_at_filter l.invariant.4 in
     let on =
     found_on c.args.packed (may s) (looks s) c.args.buckets l.probe l.left l.bucket c.loop-left-test.true
     (sym said ∙ c.in-Next.is) (asked ∙ c.if-ends_at_filter.false) in

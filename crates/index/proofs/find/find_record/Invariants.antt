@@ -1,11 +1,8 @@
 -- What each turn of the loop keeps.
-use Rattle.std.proofs.Common.{◌≡◌, ℕ, ◌+◌, ◌-◌, ◌<◌, ◌≤◌, Bool, List, sym, refl, ◌∙◌, ⊎_elim, arith, rules}
+use Rattle.std.proofs.Common.{◌≡◌, ◌+◌, ◌-◌, ◌<◌, ◌≤◌}
 use Rattle.index.specs.Filter.{filter_has}
-use Rattle.index.specs.Find.{Look, ends_at, find_in, in_bucket}
-use Rattle.index.specs.declared.find.FoundRecord.{FoundRecord}
-use Rattle.index.specs.declared.find.FindStep.TheVariants.{Hit, Next}
-use Rattle.index.proofs.Walks.{next_within}
-use Rattle.index.proofs.Finds.{buckets_found, found_end, found_hit, found_stop, found_filtered, found_on, filter_late, find_short, find_walks, Looks, stops}
+use Rattle.index.specs.Find.{find_in}
+use Rattle.index.proofs.Finds.{buckets_found, Looks}
 use Rattle.index.proofs.find.find_record.Given as goal
 
 abbrev pub invariant-loop-left : goal.invariant-loop-left

@@ -1,5 +1,4 @@
 -- `has_empty` meets its contract. Assumes nothing.
-use Rattle.std.proofs.Common.{rules}
 use Rattle.index.proofs.find.has_empty.Goals as goal
 
 pub returns-then-packed : goal.returns-then-packed

@@ -1,5 +1,5 @@
 -- `kept_tag` meets its contract: the packed layout keeps a tag in two parts. Assumes nothing.
-use Rattle.std.proofs.Common.{ℕ, ◌+◌, ◌*◌, ap₂, rules}
+use Rattle.std.proofs.Common.{ℕ, ◌+◌, ◌*◌, ap₂}
 use Rattle.index.proofs.find.kept_tag.Goals as goal
 
 pub returns-then-packed : goal.returns-then-packed

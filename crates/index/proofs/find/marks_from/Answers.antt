@@ -1,5 +1,5 @@
 -- `marks_from` meets its contract: all marks, moved up by as many bytes. Assumes nothing.
-use Rattle.std.proofs.Common.{arith, rules}
+use Rattle.std.proofs.Common.{arith}
 use Rattle.index.proofs.Candidates.{from_marks, no_marks}
 use Rattle.index.proofs.find.marks_from.Goals as goal
 

@@ -1,5 +1,5 @@
 -- `packed_slot_at` meets its contract: a reference lies in the two words that end and begin it. Assumes nothing.
-use Rattle.std.proofs.Common.{◌≡◌, ◌+◌, ◌*◌, ◌%◌, ◌<◌, get_or, sym, refl, arith, rules}
+use Rattle.std.proofs.Common.{◌≡◌, ◌+◌, ◌*◌, ◌%◌, ◌<◌, get_or, sym, refl, arith}
 use Rattle.index.proofs.PackedReads.{slot_at}
 use Rattle.index.proofs.find.packed_slot_at.Goals as goal
 

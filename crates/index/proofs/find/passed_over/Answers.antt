@@ -1,8 +1,8 @@
 -- `passed_over` meets its contract: the slots before an offset and those passed over from it on are what was asked. Assumes nothing.
-use Rattle.std.proofs.Common.{◌≡◌, ℕ, ◌+◌, ◌-◌, ◌*◌, ◌≤◌, map, take, drop, sym, ap, ◌∙◌, arith}
+use Rattle.std.proofs.Common.{◌≡◌, ℕ, ◌*◌, map, take, drop, sym, ap, ◌∙◌, arith}
 use Rattle.index.specs.FindSteps.{passed_over}
 use Rattle.index.specs.Slot.{word_slot}
-use Rattle.index.proofs.Candidates.{passed_from, passed_begins, passed_ends, passed_empty, passed_own, passed_other}
+use Rattle.index.proofs.Candidates.{passed_begins, passed_ends, passed_empty, passed_own, passed_other}
 use Rattle.index.proofs.find.passed_over.Goals as goal
 
 pub loop-offset-init : goal.loop-offset-init

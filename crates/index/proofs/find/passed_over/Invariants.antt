@@ -1,8 +1,8 @@
 -- What each turn of the loop keeps.
-use Rattle.std.proofs.Common.{◌≡◌, ℕ, ◌+◌, ◌-◌, ◌*◌, ◌≤◌, map, take, drop, sym, ap, ◌∙◌, arith}
+use Rattle.std.proofs.Common.{◌≡◌, ◌+◌, ◌-◌, ◌*◌, ◌≤◌, map, take, drop}
 use Rattle.index.specs.FindSteps.{passed_over}
 use Rattle.index.specs.Slot.{word_slot}
-use Rattle.index.proofs.Candidates.{passed_from, passed_begins, passed_ends, passed_empty, passed_own, passed_other}
+use Rattle.index.proofs.Candidates.{passed_from}
 use Rattle.index.proofs.find.passed_over.Given as goal
 
 abbrev pub invariant-loop-offset : goal.invariant-loop-offset

@@ -1,5 +1,5 @@
 -- `slot_at` meets its contract. Assumes nothing.
-use Rattle.std.proofs.Common.{sym, arith, rules}
+use Rattle.std.proofs.Common.{sym, arith}
 use Rattle.index.proofs.SlotReads.{slot_short, slot_past, slot_in}
 use Rattle.index.proofs.find.slot_at.Goals as goal
 

@@ -1,5 +1,5 @@
 -- `tagged_bytes` meets its contract: a byte of the tag is zero after the exclusive or. Assumes nothing.
-use Rattle.std.proofs.Common.{◌∙◌, rules}
+use Rattle.std.proofs.Common.{◌∙◌}
 use Rattle.index.proofs.Candidates.{tagged_are}
 use Rattle.index.proofs.find.tagged_bytes.Goals as goal
 

@@ -1,5 +1,5 @@
 -- `clear_control` meets its contract: a bit cleared in a word is cleared in its byte. Assumes nothing.
-use Rattle.std.proofs.Common.{◌%◌, arith, rules}
+use Rattle.std.proofs.Common.{◌%◌, arith}
 use Rattle.index.proofs.Marks.{clear_is}
 use Rattle.index.proofs.packed.clear_control.Goals as goal
 

@@ -1,5 +1,5 @@
 -- `control_byte` meets its contract by its test. Assumes nothing.
-use Rattle.std.proofs.Common.{arith, rules, eq-eqb}
+use Rattle.std.proofs.Common.{arith, eq-eqb}
 use Rattle.index.proofs.Packing.{control_used}
 use Rattle.index.proofs.packed.control_byte.Goals as goal
 

@@ -1,6 +1,5 @@
 -- `control_word` meets its contract: the sum of the scaled bytes is their number. Assumes nothing.
 use Rattle.index.proofs.Packing.{control_word_law}
-use Rattle.std.proofs.Common.{rules}
 use Rattle.index.proofs.packed.control_word.Goals as goal
 
 pub returns : goal.returns

@@ -1,5 +1,5 @@
 -- `copy_words` meets its contract: the words copied, and those that were there after them. Assumes nothing.
-use Rattle.std.proofs.Common.{◌≡◌, ◌-◌, ◌≤◌, ◌++◌, length, take, drop, refl, arith, length-set, rules}
+use Rattle.std.proofs.Common.{◌≡◌, refl, arith, length-set}
 use Rattle.index.proofs.PackingLoop.{copy_next}
 use Rattle.index.proofs.packed.copy_words.Goals as goal
 

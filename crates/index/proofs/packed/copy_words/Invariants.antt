@@ -1,6 +1,5 @@
 -- What each turn of the loop keeps.
-use Rattle.std.proofs.Common.{◌≡◌, ◌-◌, ◌≤◌, ◌++◌, length, take, drop, refl, arith, length-set, rules}
-use Rattle.index.proofs.PackingLoop.{copy_next}
+use Rattle.std.proofs.Common.{◌≡◌, ◌-◌, ◌≤◌, ◌++◌, length, take, drop}
 use Rattle.index.proofs.packed.copy_words.Given as goal
 
 abbrev pub invariant-loop-i : goal.invariant-loop-i

@@ -1,6 +1,6 @@
 -- `finish_packed_index` meets its contract: a bucket's references never reach the words of the buckets before it. Assumes nothing.
-use Rattle.std.proofs.Common.{ℕ, ◌-◌, set, ap, arith, rules}
-use Rattle.index.proofs.PackingLoop.{Packing, packing_begins, packing_next, packing_ends, short_index, short_scratch}
+use Rattle.std.proofs.Common.{ℕ, ◌-◌, set, ap, arith}
+use Rattle.index.proofs.PackingLoop.{packing_begins, packing_next, packing_ends, short_index, short_scratch}
 use Rattle.index.proofs.packed.finish_packed_index.Goals as goal
 
 pub returns-then-index-buckets : goal.returns-then-index-buckets

@@ -1,6 +1,5 @@
 -- What each turn of the loop keeps.
-use Rattle.std.proofs.Common.{ℕ, ◌-◌, set, ap, arith, rules}
-use Rattle.index.proofs.PackingLoop.{Packing, packing_begins, packing_next, packing_ends, short_index, short_scratch}
+use Rattle.index.proofs.PackingLoop.{Packing}
 use Rattle.index.proofs.packed.finish_packed_index.Given as goal
 
 abbrev pub invariant-loop-left : goal.invariant-loop-left

@@ -1,5 +1,5 @@
 -- `mark_control` meets its contract: a bit set in a word is set in its byte. Assumes nothing.
-use Rattle.std.proofs.Common.{◌%◌, arith, rules}
+use Rattle.std.proofs.Common.{◌%◌, arith}
 use Rattle.index.proofs.Marks.{mark_is}
 use Rattle.index.proofs.packed.mark_control.Goals as goal
 

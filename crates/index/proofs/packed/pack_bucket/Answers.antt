@@ -1,5 +1,5 @@
 -- `pack_bucket` meets its contract: the bucket's eight words are read before any is written. Assumes nothing.
-use Rattle.std.proofs.Common.{arith, rules}
+use Rattle.std.proofs.Common.{arith}
 use Rattle.index.proofs.PackingLoop.{bucket_words}
 use Rattle.index.proofs.packed.pack_bucket.Goals as goal
 

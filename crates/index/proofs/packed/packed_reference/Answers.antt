@@ -1,5 +1,5 @@
 -- `packed_reference` meets its contract: the tag's two bytes stand below the location. Assumes nothing.
-use Rattle.std.proofs.Common.{arith, rules}
+use Rattle.std.proofs.Common.{arith}
 use Rattle.index.proofs.Packing.{reference_empty, reference_used}
 use Rattle.index.proofs.packed.packed_reference.Goals as goal
 

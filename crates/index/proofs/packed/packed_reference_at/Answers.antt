@@ -1,5 +1,5 @@
 -- `packed_reference_at` meets its contract: the upper bits of one word and the lower ones of the next are the reference's seven bytes. Assumes nothing.
-use Rattle.std.proofs.Common.{◌%◌, arith, rules}
+use Rattle.std.proofs.Common.{◌%◌, arith}
 use Rattle.index.proofs.Bytes.{reference_at}
 use Rattle.index.proofs.packed.packed_reference_at.Goals as goal
 

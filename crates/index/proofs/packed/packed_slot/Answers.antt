@@ -1,5 +1,5 @@
 -- `packed_slot` meets its contract: the tag and the location are the parts of the control byte and of the reference's number. Assumes nothing.
-use Rattle.std.proofs.Common.{ℕ, ◌%◌, get_or, sym, ◌∙◌, arith, rules}
+use Rattle.std.proofs.Common.{ℕ, ◌%◌, get_or, sym, ◌∙◌, arith}
 use Rattle.hash_parts.specs.ZeroBytes.{bytes_of}
 use Rattle.index.specs.Packed.{reference_in}
 use Rattle.index.proofs.Packing.{slot_empty, slot_used}

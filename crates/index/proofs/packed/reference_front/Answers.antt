@@ -1,5 +1,5 @@
 -- `reference_front` meets its contract: a shift down by the rest of the word is a shift up past it. Assumes nothing.
-use Rattle.std.proofs.Common.{arith, rules}
+use Rattle.std.proofs.Common.{arith}
 use Rattle.index.proofs.Bytes.{upper_bits}
 use Rattle.index.proofs.packed.reference_front.Goals as goal
 

@@ -1,5 +1,5 @@
 -- `write_references` meets its contract: the seven words of the eight references, one after the other. Assumes nothing.
-use Rattle.std.proofs.Common.{arith, length-set, rules}
+use Rattle.std.proofs.Common.{arith, length-set}
 use Rattle.index.proofs.Packing.{references_stored}
 use Rattle.index.proofs.packed.write_references.Goals as goal
 

@@ -1,5 +1,5 @@
 -- `clear_segments` meets its contract: 256 words of 0 are no starts, padded. Assumes nothing.
-use Rattle.std.proofs.Common.{◌∙◌, rules, le-leb}
+use Rattle.std.proofs.Common.{◌∙◌, le-leb}
 use Rattle.index.specs.Build.{cleared}
 use Rattle.index.proofs.Filling.{padded_none}
 use Rattle.index.proofs.segments.clear_segments.Goals as goal

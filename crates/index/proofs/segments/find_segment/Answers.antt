@@ -1,5 +1,5 @@
 -- `find_segment` meets its contract: the start at `low` is not above the location, the one at `high` is, or there is none. Assumes nothing.
-use Rattle.std.proofs.Common.{◌≡◌, ◌-◌, ◌<◌, ◌≤◌, ◌⊎◌, get_or, sym, refl, inl, inr, arith}
+use Rattle.std.proofs.Common.{sym, refl, inl, inr, arith}
 use Rattle.index.proofs.Splits.{segment_found}
 use Rattle.index.proofs.segments.find_segment.Goals as goal
 

@@ -1,6 +1,5 @@
 -- What each turn of the loop keeps.
-use Rattle.std.proofs.Common.{◌≡◌, ◌-◌, ◌<◌, ◌≤◌, ◌⊎◌, get_or, sym, refl, inl, inr, arith}
-use Rattle.index.proofs.Splits.{segment_found}
+use Rattle.std.proofs.Common.{◌≡◌, ◌-◌, ◌<◌, ◌≤◌, ◌⊎◌, get_or}
 use Rattle.index.proofs.segments.find_segment.Given as goal
 
 abbrev pub invariant-loop-high : goal.invariant-loop-high

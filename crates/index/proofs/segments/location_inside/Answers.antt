@@ -1,5 +1,5 @@
 -- `location_inside` meets its contract, case by case. Assumes nothing.
-use Rattle.std.proofs.Common.{◌≡◌, arith, rules, eq-eqb, ne_eqb}
+use Rattle.std.proofs.Common.{◌≡◌, arith, eq-eqb, ne_eqb}
 use Rattle.index.specs.Word.{word_stored}
 use Rattle.index.proofs.segments.location_inside.Goals as goal
 

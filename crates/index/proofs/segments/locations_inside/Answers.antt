@@ -1,6 +1,6 @@
 -- `locations_inside` meets its contract: all words are inside exactly where those left are. Assumes nothing.
-use Rattle.std.proofs.Common.{◌≡◌, ◌-◌, ◌*◌, ◌≤◌, length, take, drop, sym, refl, ap, ◌∙◌, arith, length-take-le, get_or-take}
-use Rattle.index.specs.Segments.{inside, all_inside}
+use Rattle.std.proofs.Common.{◌≡◌, ◌*◌, length, take, sym, refl, ap, ◌∙◌, arith, length-take-le, get_or-take}
+use Rattle.index.specs.Segments.{inside}
 use Rattle.index.proofs.Starts.{inside_next, inside_not, inside_end, locations_in, locations_short}
 use Rattle.index.proofs.segments.locations_inside.Goals as goal
 

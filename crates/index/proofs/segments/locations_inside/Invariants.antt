@@ -1,8 +1,6 @@
 -- What each turn of the loop keeps.
-use Rattle.std.proofs.Common.{◌≡◌, ◌-◌, ◌*◌, ◌≤◌, length, take, drop, sym, refl, ap, ◌∙◌, arith, length-take-le, get_or-take}
-use borrow.Author.Tests.{not-true, not-false}
-use Rattle.index.specs.Segments.{inside, all_inside}
-use Rattle.index.proofs.Starts.{inside_next, inside_not, inside_end, locations_in, locations_short}
+use Rattle.std.proofs.Common.{◌≡◌, ◌-◌, ◌*◌, ◌≤◌, take, drop}
+use Rattle.index.specs.Segments.{all_inside}
 use Rattle.index.proofs.segments.locations_inside.Given as goal
 
 abbrev pub invariant-loop-i : goal.invariant-loop-i

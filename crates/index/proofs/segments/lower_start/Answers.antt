@@ -1,5 +1,5 @@
 -- `lower_start` meets its contract, case by case. Assumes nothing.
-use Rattle.std.proofs.Common.{◌<◌, ◌≤◌, arith, rules, le-ltb, lt-ltb}
+use Rattle.std.proofs.Common.{◌<◌, ◌≤◌, arith, le-ltb, lt-ltb}
 use Rattle.index.specs.Word.{word_stored}
 use Rattle.index.proofs.segments.lower_start.Goals as goal
 

@@ -1,6 +1,6 @@
 -- `next_start` meets its contract: the lowest start so far, and that of the words left, give the next start. Assumes nothing.
-use Rattle.std.proofs.Common.{◌≡◌, ℕ, ◌-◌, ◌*◌, ◌≤◌, min, length, get_or, take, drop, sym, ap, ◌∙◌, arith, length-take-le, get_or-take}
-use Rattle.index.specs.Segments.{no_start, next_start}
+use Rattle.std.proofs.Common.{◌≡◌, ℕ, ◌*◌, length, get_or, take, sym, ap, ◌∙◌, arith, length-take-le, get_or-take}
+use Rattle.index.specs.Segments.{no_start}
 use Rattle.index.proofs.Starts.{lower, lower_most, next_start_most, scan_step, scan_end, start_in_law, start_short}
 use Rattle.index.proofs.segments.next_start.Goals as goal
 

@@ -1,7 +1,6 @@
 -- What each turn of the loop keeps.
-use Rattle.std.proofs.Common.{◌≡◌, ℕ, ◌-◌, ◌*◌, ◌≤◌, min, length, get_or, take, drop, sym, ap, ◌∙◌, arith, length-take-le, get_or-take}
+use Rattle.std.proofs.Common.{◌≡◌, ◌-◌, ◌*◌, ◌≤◌, min, take, drop}
 use Rattle.index.specs.Segments.{no_start, next_start}
-use Rattle.index.proofs.Starts.{lower, lower_most, next_start_most, scan_step, scan_end, start_in_law, start_short}
 use Rattle.index.proofs.segments.next_start.Given as goal
 
 abbrev pub invariant-loop-i : goal.invariant-loop-i

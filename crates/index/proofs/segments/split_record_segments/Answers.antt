@@ -1,5 +1,5 @@
 -- `split_record_segments` meets its contract, case by case: what the three writers left is what a split leaves. Assumes nothing.
-use Rattle.std.proofs.Common.{arith, rules}
+use Rattle.std.proofs.Common.{arith}
 use Rattle.index.proofs.Splits.{short_index, short_starts, short_lengths, split_refused, starts_written_law, split_whole, split_parts}
 use Rattle.index.proofs.segments.split_record_segments.Goals as goal
 

@@ -1,5 +1,5 @@
 -- `split_word` meets its contract, with the segment that the search found. Assumes nothing.
-use Rattle.std.proofs.Common.{◌≡◌, ℕ, ◌+◌, ◌-◌, ◌*◌, ◌^◌, get_or, take, sym, ap, ◌∙◌, ap₂, rules}
+use Rattle.std.proofs.Common.{◌≡◌, ℕ, ◌+◌, ◌-◌, ◌*◌, ◌^◌, get_or, take, sym, ap, ◌∙◌, ap₂}
 use Rattle.index.specs.Word.{word_of, word_stored}
 use Rattle.index.specs.Segments.{segment_of}
 use Rattle.index.proofs.Splits.{split_none, split_found}

@@ -1,5 +1,5 @@
 -- `split_words` meets its contract: the words passed are split, the others as they were. Assumes nothing.
-use Rattle.std.proofs.Common.{◌≡◌, ℕ, ◌-◌, ◌*◌, ◌<◌, ◌≤◌, List, ◌++◌, map, length, get_or, take, drop, set, refl, ap, ◌∙◌, ap₂, arith, length-set}
+use Rattle.std.proofs.Common.{◌≡◌, ℕ, ◌*◌, ◌<◌, List, length, get_or, take, set, refl, ap, ◌∙◌, ap₂, arith, length-set}
 use Rattle.index.specs.Segments.{split_word}
 use Rattle.index.proofs.Splits.{words_at, words_more}
 use Rattle.index.proofs.segments.split_words.Goals as goal

@@ -1,7 +1,6 @@
 -- What each turn of the loop keeps.
-use Rattle.std.proofs.Common.{◌≡◌, ℕ, ◌-◌, ◌*◌, ◌<◌, ◌≤◌, List, ◌++◌, map, length, get_or, take, drop, set, refl, ap, ◌∙◌, ap₂, arith, length-set}
+use Rattle.std.proofs.Common.{◌≡◌, ◌-◌, ◌*◌, ◌≤◌, ◌++◌, map, length, take, drop}
 use Rattle.index.specs.Segments.{split_word}
-use Rattle.index.proofs.Splits.{words_at, words_more}
 use Rattle.index.proofs.segments.split_words.Given as goal
 
 abbrev pub invariant-loop-i : goal.invariant-loop-i

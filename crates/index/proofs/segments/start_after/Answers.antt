@@ -1,5 +1,5 @@
 -- `start_after` meets its contract, case by case: what is left is compared before the target is added. Assumes nothing.
-use Rattle.std.proofs.Common.{◌+◌, ◌*◌, take, sym, ◌∙◌, arith, rules}
+use Rattle.std.proofs.Common.{◌+◌, ◌*◌, take, sym, ◌∙◌, arith}
 use Rattle.index.proofs.Starts.{start_in_law, after_untargeted, after_within, after_next}
 use Rattle.index.proofs.segments.start_after.Goals as goal
 

@@ -1,7 +1,7 @@
 -- `write_lengths` meets its contract: the lengths written, and those from the next start on, are the lengths. Assumes nothing.
-use Rattle.std.proofs.Common.{◌≡◌, ℕ, ◌+◌, ◌-◌, ◌≤◌, [], length, get_or, take, drop, set, refl, ap, ◌∙◌, ap₂, arith, length-set}
+use Rattle.std.proofs.Common.{◌≡◌, ℕ, ◌+◌, ◌-◌, [], length, get_or, take, drop, set, refl, ap, ◌∙◌, ap₂, arith, length-set}
 use Rattle.index.specs.Segments.{lengths_of}
-use Rattle.index.proofs.Filling.{Filling, filling_none, filling_length, filling_next, filling_end, over_padded_cleared, over_padded_length}
+use Rattle.index.proofs.Filling.{filling_none, filling_length, filling_next, filling_end, over_padded_cleared, over_padded_length}
 use Rattle.index.proofs.Splits.{start_above, lengths_next, lengths_last}
 use Rattle.index.proofs.segments.write_lengths.Goals as goal
 

@@ -1,8 +1,8 @@
 -- `write_starts` meets its contract: the starts written, and those from the next on, are the starts. Assumes nothing.
-use Rattle.std.proofs.Common.{◌+◌, ◌-◌, ◌*◌, ◌≤◌, [], length, take, ap, ◌∙◌, arith}
+use Rattle.std.proofs.Common.{◌+◌, ◌-◌, ◌*◌, [], length, take, ap, ◌∙◌, arith}
 use Rattle.index.specs.Segments.{starts_of}
 use Rattle.index.proofs.Starts.{starts_from, starts_from_law, from_none, from_next, from_last}
-use Rattle.index.proofs.Filling.{Filling, filling_none, filling_length, filling_next, filling_end, filling_over, over_padded_cleared, over_padded_length}
+use Rattle.index.proofs.Filling.{filling_none, filling_length, filling_next, filling_end, filling_over, over_padded_cleared, over_padded_length}
 use Rattle.index.proofs.segments.write_starts.Goals as goal
 
 pub loop-next-init : goal.loop-next-init

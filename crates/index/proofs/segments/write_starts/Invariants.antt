@@ -1,8 +1,8 @@
 -- What each turn of the loop keeps.
-use Rattle.std.proofs.Common.{◌+◌, ◌-◌, ◌*◌, ◌≤◌, [], length, take, ap, ◌∙◌, arith}
+use Rattle.std.proofs.Common.{◌-◌, ◌*◌, ◌≤◌, take}
 use Rattle.index.specs.Segments.{starts_of}
-use Rattle.index.proofs.Starts.{starts_from, starts_from_law, from_none, from_next, from_last}
-use Rattle.index.proofs.Filling.{Filling, filling_none, filling_length, filling_next, filling_end, filling_over, over_padded_cleared, over_padded_length}
+use Rattle.index.proofs.Starts.{starts_from}
+use Rattle.index.proofs.Filling.{Filling}
 use Rattle.index.proofs.segments.write_starts.Given as goal
 
 abbrev pub invariant-loop-next : goal.invariant-loop-next

@@ -1,5 +1,5 @@
 -- `word_slot` meets its contract by its test. Assumes nothing.
-use Rattle.std.proofs.Common.{rules, eq-eqb, ne_eqb}
+use Rattle.std.proofs.Common.{eq-eqb, ne_eqb}
 use Rattle.index.specs.Slot.{word_slot}
 use Rattle.index.proofs.slot.word_slot.Goals as goal
 

@@ -1,5 +1,5 @@
 -- `moved_record` meets its contract: what it adds up to the end. Assumes nothing.
-use Rattle.std.proofs.Common.{refl, rules}
+use Rattle.std.proofs.Common.{refl}
 use Rattle.index.proofs.view.moved_record.Goals as goal
 
 pub returns : goal.returns

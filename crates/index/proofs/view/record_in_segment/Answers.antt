@@ -1,5 +1,5 @@
 -- `record_in_segment` meets its contract: a segment inside the filled bytes is the same part of the arena. Assumes nothing.
-use Rattle.std.proofs.Common.{◌≡◌, ℕ, ◌+◌, ◌-◌, ◌≤◌, List, length, take, drop, sym, ap, ◌∙◌, arith, length-take, rules}
+use Rattle.std.proofs.Common.{◌≡◌, ℕ, ◌+◌, ◌-◌, ◌≤◌, List, length, take, drop, sym, ap, ◌∙◌, arith, length-take}
 use Rattle.records.specs.declared.record.RecordAnswer.TheVariants.{Read, Unreadable}
 use Rattle.records.proofs.Stored.{record_inside}
 use Rattle.index.proofs.Views.{part_front, segment_outside, segment_gives}

@@ -22,7 +22,9 @@ returns-in_default c = rw (decode_none _ _ _ (rw c.in_default.is at c.decode_hex
 
 pub returns-in_default-decode_hex : goal.returns-in_default-decode_hex
 unfolding answer_text reply_text
-returns-in_default-decode_hex c = rw ((key_of (goal.at.returns-in_default-decode_hex c).In-Bytes).spelled, decode_none _ _ _ (rw c.in_default-decode_hex.is at c.decode_hex-2.ensures))
+returns-in_default-decode_hex c =
+    let known = goal.at.returns-in_default-decode_hex c in
+    rw ((key_of known.In-Bytes).spelled, decode_none _ _ _ (rw c.in_default-decode_hex.is at c.decode_hex-2.ensures))
 
 pub slice_bounds-put_record-end : goal.slice_bounds-put_record-end
 slice_bounds-put_record-end c = omega (arith, (key_of (goal.at.slice_bounds-put_record-end c).In-Bytes).room)
@@ -31,6 +33,8 @@ pub slice_bounds-put_record-end-2 : goal.slice_bounds-put_record-end-2
 slice_bounds-put_record-end-2 c = omega (arith, (value_of (goal.at.slice_bounds-put_record-end-2 c).After-value-1).room)
 
 pub returns : goal.returns
-returns c = let k = key_of (goal.at.returns c).After-key-1 in
-    let v = value_of (goal.at.returns c).After-value-1 in
+returns c =
+    let at = goal.at.returns c in
+    let k = key_of at.After-key-1 in
+    let v = value_of at.After-value-1 in
     rw (k.spelled, v.spelled, ← k.front, ← v.front) c.put_record.ensures

@@ -34,13 +34,21 @@ unfolding get_form
 returns-in_default c = rw (next_none hash _ _ (sym c.number_field.ensures ∙ ap got_number c.in_default.is))
 
 pub returns-in_default-bytes_field : goal.returns-in_default-bytes_field
-returns-in_default-bytes_field c = rw ((hash_left (goal.at.returns-in_default-bytes_field c).In-Value), next_none bytes _ _ (sym c.bytes_field.ensures ∙ ap got_bytes c.in_default-bytes_field.is))
+returns-in_default-bytes_field c =
+    let at = goal.at.returns-in_default-bytes_field c in
+    rw ((hash_left at.In-Value), next_none bytes _ _ (sym c.bytes_field.ensures ∙ ap got_bytes c.in_default-bytes_field.is))
 
 pub returns-in_default-number_field : goal.returns-in_default-number_field
-returns-in_default-number_field c = rw ((key_left (goal.at.returns-in_default-number_field c).In-Spelled (hash_left (goal.at.returns-in_default-number_field c).In-Value)), next_none (decimal 64) _ _ (sym c.number_field-2.ensures ∙ ap got_number c.in_default-number_field.is))
+returns-in_default-number_field c =
+    let at = goal.at.returns-in_default-number_field c in
+    rw ((key_left at.In-Spelled (hash_left at.In-Value)), next_none (decimal 64) _ _ (sym c.number_field-2.ensures ∙ ap got_number c.in_default-number_field.is))
 
 pub returns-then-end-line : goal.returns-then-end-line
-returns-then-end-line c = rw ((tick_left (goal.at.returns-then-end-line c).In-Value-number_field (key_left (goal.at.returns-then-end-line c).In-Spelled (hash_left (goal.at.returns-then-end-line c).In-Value))), done_more _ _ _ c.if-end-line.true)
+returns-then-end-line c =
+    let at = goal.at.returns-then-end-line c in
+    rw ((tick_left at.In-Value-number_field (key_left at.In-Spelled (hash_left at.In-Value))), done_more _ _ _ c.if-end-line.true)
 
 pub returns : goal.returns
-returns c = rw ((tick_left (goal.at.returns c).In-Value-number_field (key_left (goal.at.returns c).In-Spelled (hash_left (goal.at.returns c).In-Value))), done_none _ _ _ c.if-end-line.false)
+returns c =
+    let at = goal.at.returns c in
+    rw ((tick_left at.In-Value-number_field (key_left at.In-Spelled (hash_left at.In-Value))), done_none _ _ _ c.if-end-line.false)

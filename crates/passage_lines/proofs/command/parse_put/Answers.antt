@@ -39,16 +39,26 @@ unfolding put_form
 returns-in_default c = rw (next_none hash _ _ (sym c.number_field.ensures ∙ ap got_number c.in_default.is))
 
 pub returns-in_default-bytes_field : goal.returns-in_default-bytes_field
-returns-in_default-bytes_field c = rw ((hash_left (goal.at.returns-in_default-bytes_field c).In-Value), next_none bytes _ _ (sym c.bytes_field.ensures ∙ ap got_bytes c.in_default-bytes_field.is))
+returns-in_default-bytes_field c =
+    let at = goal.at.returns-in_default-bytes_field c in
+    rw ((hash_left at.In-Value), next_none bytes _ _ (sym c.bytes_field.ensures ∙ ap got_bytes c.in_default-bytes_field.is))
 
 pub returns-in_default-bytes_field-2 : goal.returns-in_default-bytes_field-2
-returns-in_default-bytes_field-2 c = rw ((key_left (goal.at.returns-in_default-bytes_field-2 c).In-Spelled (hash_left (goal.at.returns-in_default-bytes_field-2 c).In-Value)), next_none bytes _ _ (sym c.bytes_field-2.ensures ∙ ap got_bytes c.in_default-bytes_field-2.is))
+returns-in_default-bytes_field-2 c =
+    let at = goal.at.returns-in_default-bytes_field-2 c in
+    rw ((key_left at.In-Spelled (hash_left at.In-Value)), next_none bytes _ _ (sym c.bytes_field-2.ensures ∙ ap got_bytes c.in_default-bytes_field-2.is))
 
 pub returns-in_default-lifetime_field : goal.returns-in_default-lifetime_field
-returns-in_default-lifetime_field c = rw ((value_left (goal.at.returns-in_default-lifetime_field c).In-Spelled-bytes_field (key_left (goal.at.returns-in_default-lifetime_field c).In-Spelled (hash_left (goal.at.returns-in_default-lifetime_field c).In-Value))), next_none lifetime _ _ (sym c.lifetime_field.ensures ∙ ap got_lifetime c.in_default-lifetime_field.is))
+returns-in_default-lifetime_field c =
+    let at = goal.at.returns-in_default-lifetime_field c in
+    rw ((value_left at.In-Spelled-bytes_field (key_left at.In-Spelled (hash_left at.In-Value))), next_none lifetime _ _ (sym c.lifetime_field.ensures ∙ ap got_lifetime c.in_default-lifetime_field.is))
 
 pub returns-then-end-line : goal.returns-then-end-line
-returns-then-end-line c = rw ((ttl_left (goal.at.returns-then-end-line c).In-Of (value_left (goal.at.returns-then-end-line c).In-Spelled-bytes_field (key_left (goal.at.returns-then-end-line c).In-Spelled (hash_left (goal.at.returns-then-end-line c).In-Value)))), done_more _ _ _ c.if-end-line.true)
+returns-then-end-line c =
+    let at = goal.at.returns-then-end-line c in
+    rw ((ttl_left at.In-Of (value_left at.In-Spelled-bytes_field (key_left at.In-Spelled (hash_left at.In-Value)))), done_more _ _ _ c.if-end-line.true)
 
 pub returns : goal.returns
-returns c = rw ((ttl_left (goal.at.returns c).In-Of (value_left (goal.at.returns c).In-Spelled-bytes_field (key_left (goal.at.returns c).In-Spelled (hash_left (goal.at.returns c).In-Value)))), done_none _ _ _ c.if-end-line.false)
+returns c =
+    let at = goal.at.returns c in
+    rw ((ttl_left at.In-Of (value_left at.In-Spelled-bytes_field (key_left at.In-Spelled (hash_left at.In-Value)))), done_none _ _ _ c.if-end-line.false)

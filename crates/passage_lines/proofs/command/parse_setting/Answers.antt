@@ -47,16 +47,24 @@ unfolding setting_form
 returns-in_default c = rw (next_none (decimal 8) _ _ (sym c.number_field.ensures ∙ ap got_number c.in_default.is))
 
 pub returns-in_default-layout_field : goal.returns-in_default-layout_field
-returns-in_default-layout_field c = rw ((occupancy_left (goal.at.returns-in_default-layout_field c).In-Value), next_none layout _ _ (sym c.layout_field.ensures ∙ ap got_layout c.in_default-layout_field.is))
+returns-in_default-layout_field c =
+    let at = goal.at.returns-in_default-layout_field c in
+    rw ((occupancy_left at.In-Value), next_none layout _ _ (sym c.layout_field.ensures ∙ ap got_layout c.in_default-layout_field.is))
 
 pub returns-in_default-number_field : goal.returns-in_default-number_field
-returns-in_default-number_field c = rw ((packed_left (goal.at.returns-in_default-number_field c).In-Packed (occupancy_left (goal.at.returns-in_default-number_field c).In-Value)), next_none (decimal 8) _ _ (sym c.number_field-2.ensures ∙ ap got_number c.in_default-number_field.is))
+returns-in_default-number_field c =
+    let at = goal.at.returns-in_default-number_field c in
+    rw ((packed_left at.In-Packed (occupancy_left at.In-Value)), next_none (decimal 8) _ _ (sym c.number_field-2.ensures ∙ ap got_number c.in_default-number_field.is))
 
 pub returns-in_default-tick_field : goal.returns-in_default-tick_field
-returns-in_default-tick_field c = rw ((filter_left (goal.at.returns-in_default-tick_field c).In-Value-number_field (packed_left (goal.at.returns-in_default-tick_field c).In-Packed (occupancy_left (goal.at.returns-in_default-tick_field c).In-Value))), next_none tick_length _ _ (sym c.tick_field.ensures ∙ ap got_tick c.in_default-tick_field.is))
+returns-in_default-tick_field c =
+    let at = goal.at.returns-in_default-tick_field c in
+    rw ((filter_left at.In-Value-number_field (packed_left at.In-Packed (occupancy_left at.In-Value))), next_none tick_length _ _ (sym c.tick_field.ensures ∙ ap got_tick c.in_default-tick_field.is))
 
 pub returns-then-end-line : goal.returns-then-end-line
-returns-then-end-line c = rw ((expiry_left (goal.at.returns-then-end-line c).In-Of (filter_left (goal.at.returns-then-end-line c).In-Value-number_field (packed_left (goal.at.returns-then-end-line c).In-Packed (occupancy_left (goal.at.returns-then-end-line c).In-Value)))), done_more _ _ _ c.if-end-line.true)
+returns-then-end-line c =
+    let at = goal.at.returns-then-end-line c in
+    rw ((expiry_left at.In-Of (filter_left at.In-Value-number_field (packed_left at.In-Packed (occupancy_left at.In-Value)))), done_more _ _ _ c.if-end-line.true)
 
 pub overflow_cast-result : goal.overflow_cast-result
 overflow_cast-result c = omega (arith, field_limit 10 255 _ _ (sym c.number_field.ensures ∙ ap got_number c.in-Value.is))
@@ -65,4 +73,6 @@ pub overflow_cast-result-2 : goal.overflow_cast-result-2
 overflow_cast-result-2 c = omega (arith, field_limit 10 255 _ _ (sym c.number_field-2.ensures ∙ ap got_number c.in-Value-number_field.is))
 
 pub returns : goal.returns
-returns c = rw ((expiry_left (goal.at.returns c).In-Of (filter_left (goal.at.returns c).In-Value-number_field (packed_left (goal.at.returns c).In-Packed (occupancy_left (goal.at.returns c).In-Value)))), done_none _ _ _ c.if-end-line.false)
+returns c =
+    let at = goal.at.returns c in
+    rw ((expiry_left at.In-Of (filter_left at.In-Value-number_field (packed_left at.In-Packed (occupancy_left at.In-Value)))), done_none _ _ _ c.if-end-line.false)

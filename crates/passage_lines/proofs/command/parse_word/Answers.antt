@@ -28,16 +28,24 @@ returns-then-same_bytes c = rw (sym c.same_bytes.ensures ∙ c.if-same_bytes.tru
 
 pub returns-then-same_bytes-2 : goal.returns-then-same_bytes-2
 unfolding word_form
-returns-then-same_bytes-2 c = rw ((not_open (goal.at.returns-then-same_bytes-2 c).Else-same_bytes), sym c.same_bytes-2.ensures ∙ c.if-same_bytes-2.true) c.parse_put.ensures
+returns-then-same_bytes-2 c =
+    let at = goal.at.returns-then-same_bytes-2 c in
+    rw ((not_open at.Else-same_bytes), sym c.same_bytes-2.ensures ∙ c.if-same_bytes-2.true) c.parse_put.ensures
 
 pub returns-then-same_bytes-3 : goal.returns-then-same_bytes-3
 unfolding word_form
-returns-then-same_bytes-3 c = rw ((not_open (goal.at.returns-then-same_bytes-3 c).Else-same_bytes), (not_put (goal.at.returns-then-same_bytes-3 c).Else-same_bytes-2), sym c.same_bytes-3.ensures ∙ c.if-same_bytes-3.true) c.parse_close.ensures
+returns-then-same_bytes-3 c =
+    let at = goal.at.returns-then-same_bytes-3 c in
+    rw ((not_open at.Else-same_bytes), (not_put at.Else-same_bytes-2), sym c.same_bytes-3.ensures ∙ c.if-same_bytes-3.true) c.parse_close.ensures
 
 pub returns-then-same_bytes-4 : goal.returns-then-same_bytes-4
 unfolding word_form
-returns-then-same_bytes-4 c = rw ((not_open (goal.at.returns-then-same_bytes-4 c).Else-same_bytes), (not_put (goal.at.returns-then-same_bytes-4 c).Else-same_bytes-2), (not_close (goal.at.returns-then-same_bytes-4 c).Else-same_bytes-3), sym c.same_bytes-4.ensures ∙ c.if-same_bytes-4.true) c.parse_get.ensures
+returns-then-same_bytes-4 c =
+    let at = goal.at.returns-then-same_bytes-4 c in
+    rw ((not_open at.Else-same_bytes), (not_put at.Else-same_bytes-2), (not_close at.Else-same_bytes-3), sym c.same_bytes-4.ensures ∙ c.if-same_bytes-4.true) c.parse_get.ensures
 
 pub returns : goal.returns
 unfolding word_form
-returns c = rw ((not_open (goal.at.returns c).Else-same_bytes), (not_put (goal.at.returns c).Else-same_bytes-2), (not_close (goal.at.returns c).Else-same_bytes-3), sym c.same_bytes-4.ensures ∙ c.if-same_bytes-4.false)
+returns c =
+    let at = goal.at.returns c in
+    rw ((not_open at.Else-same_bytes), (not_put at.Else-same_bytes-2), (not_close at.Else-same_bytes-3), sym c.same_bytes-4.ensures ∙ c.if-same_bytes-4.false)

@@ -68,8 +68,10 @@ pub loop-i-smaller : goal.loop-i-smaller
 loop-i-smaller c = omega (arith, (two_of (goal.at.loop-i-smaller c).In-loop-i))
 
 pub loop-i-preserved : goal.loop-i-preserved
-loop-i-preserved c = let l = c.loop-i in
-    (next_byte _ _ l.invariant.0 ((bytes_of_law c (two_of (goal.at.loop-i-preserved c).In-loop-i))), rest_hex _ l.i _ _ (two_of (goal.at.loop-i-preserved c).In-loop-i) c.digit-high.ensures.0 c.digit-low.ensures.0 l.invariant.1)
+loop-i-preserved c =
+    let at = goal.at.loop-i-preserved c in
+    let l = c.loop-i in
+    (next_byte _ _ l.invariant.0 ((bytes_of_law c (two_of at.In-loop-i))), rest_hex _ l.i _ _ (two_of at.In-loop-i) c.digit-high.ensures.0 c.digit-low.ensures.0 l.invariant.1)
 
 pub shape_of-out : goal.shape_of-out
 shape_of-out c = (room c.loop-i.invariant.0).1

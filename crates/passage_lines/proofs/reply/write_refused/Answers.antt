@@ -36,9 +36,13 @@ after_number : (c : After-put_number-end)
 after_number c h_after_word = next_number _ h_after_word c.put_number-end.ensures
 
 pub put_number-end-requires : goal.put_number-end-requires
-put_number-end-requires c = number_fits _ _ ((after_word (goal.at.put_number-end-requires c).After-put_word-word_end (short (goal.at.put_number-end-requires c).Start)))
+put_number-end-requires c =
+    let at = goal.at.put_number-end-requires c in
+    number_fits _ _ ((after_word at.After-put_word-word_end (short at.Start)))
 
 pub returns : goal.returns
-returns c = let t = c.put_text in
-    let w = complete (next_text line_feed ((after_number (goal.at.returns c).After-put_number-end (after_word (goal.at.returns c).After-put_word-word_end (short (goal.at.returns c).Start)))) t.ensures) refl in
-    (w.0, omega (arith, w.0, (short (goal.at.returns c).Start)), w.1)
+returns c =
+    let at = goal.at.returns c in
+    let t = c.put_text in
+    let w = complete (next_text line_feed ((after_number at.After-put_number-end (after_word at.After-put_word-word_end (short at.Start)))) t.ensures) refl in
+    (w.0, omega (arith, w.0, (short at.Start)), w.1)

@@ -35,7 +35,9 @@ returns-then-next-base c = let l = c.loop-i in
     sym (l.invariant.0 ∙ ap (at_most _) (spelled_bad _ _ _ _ _ c.loop-i-test.true c.digit-next.ensures.0 c.if-next-base.true))
 
 pub returns-then-value-max : goal.returns-then-value-max
-returns-then-value-max c = sym ((next_of (goal.at.returns-then-value-max c).Else-next-base) ∙ past _ _ _ _ c.requires.0 (step_out _ _ _ _ c.requires.0 c.if-value-max.true))
+returns-then-value-max c =
+    let at = goal.at.returns-then-value-max c in
+    sym ((next_of at.Else-next-base) ∙ past _ _ _ _ c.requires.0 (step_out _ _ _ _ c.requires.0 c.if-value-max.true))
 
 pub overflow_mul-value : goal.overflow_mul-value
 overflow_mul-value c = omega (arith, (fits_of c))

@@ -2,7 +2,6 @@
 use mathlib.Core.Path.{◌≡◌, refl, sym, ap, ◌∙◌}
 use mathlib.Core.List.{List}
 use Prim.Native.Nat.{ℕ, ◌^◌, ◌≤◌}
-use borrow.Author.Rules.{rules}
 use native.Mathlib.Omega.{arith}
 use lib.ListN.{length}
 use Rattle.records.specs.Record.{record_bytes, record_size, size_outcome}
@@ -31,20 +30,23 @@ sized c =
 
 pub returns-in_default : goal.returns-in_default
 returns-in_default c =
+    let at = goal.at.returns-in_default c in
     let a = c.args in
     let big : 2 ^ 64 ≤ record_size a.expiry (length a.key.now) (length a.value.now) =
     size_refused a.expiry (length a.key.now) (length a.value.now) c.in_default.field-0
     (sym (ap size_outcome c.in_default.is) ∙ c.encoded_record_bytes.ensures) in
-    rw (written_out (bytes (goal.at.returns-in_default c).Start) a.rest.now (omega (arith, bytes_size (goal.at.returns-in_default c).Start))) (refl, refl)
+    rw (written_out (bytes at.Start) a.rest.now (omega (arith, bytes_size at.Start))) (refl, refl)
 
 pub returns-then-rest-size : goal.returns-then-rest-size
 returns-then-rest-size c =
-    rw (written_out (bytes (goal.at.returns-then-rest-size c).Start) c.args.rest.now (omega (arith, sized (goal.at.returns-then-rest-size c).In-Bytes))) (refl, refl)
+    let at = goal.at.returns-then-rest-size c in
+    rw (written_out (bytes at.Start) c.args.rest.now (omega (arith, sized at.In-Bytes))) (refl, refl)
 
 pub put_record-requires : goal.put_record-requires
 put_record-requires c = omega (arith, sized (goal.at.put_record-requires c).In-Bytes)
 
 pub returns : goal.returns
 returns c =
+    let at = goal.at.returns c in
     let p = c.put_record in
-    rw (written_in_law (bytes (goal.at.returns c).Start) c.args.rest.now (omega (arith, sized (goal.at.returns c).In-Bytes))) (sized (goal.at.returns c).In-Bytes, p.ensures)
+    rw (written_in_law (bytes at.Start) c.args.rest.now (omega (arith, sized at.In-Bytes))) (sized at.In-Bytes, p.ensures)

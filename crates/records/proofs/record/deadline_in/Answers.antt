@@ -1,6 +1,5 @@
 -- `deadline_in` meets its contract: with expiry on the deadline's two bytes lie inside. Assumes nothing.
 use Prim.Native.Nat.{◌-◌, ◌≤◌}
-use borrow.Author.Rules.{rules}
 use native.Mathlib.Omega.{arith}
 use lib.ListN.{length}
 use Rattle.records.proofs.Parts.{deadline_room, deadline_get}

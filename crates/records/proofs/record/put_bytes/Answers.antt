@@ -1,6 +1,5 @@
 -- `put_bytes` meets its contract: the rest of the area that it lends comes home. Assumes nothing.
 use mathlib.Core.Path.{refl}
-use borrow.Author.Rules.{rules}
 use Rattle.records.proofs.Area.{part_home}
 use Rattle.records.proofs.record.put_bytes.Goals as goal
 

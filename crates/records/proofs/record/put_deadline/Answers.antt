@@ -1,7 +1,6 @@
 -- `put_deadline` meets its contract: the rest of the area that it lends comes home. Assumes nothing.
 use mathlib.Core.Path.{ap}
 use Prim.Native.Nat.{ℕ, ◌+◌}
-use borrow.Author.Rules.{rules}
 use Rattle.records.specs.Record.{deadline_bytes}
 use Rattle.records.proofs.Area.{part_home}
 use Rattle.records.proofs.record.put_deadline.Goals as goal

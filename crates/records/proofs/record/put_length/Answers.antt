@@ -1,7 +1,6 @@
 -- `put_length` meets its contract: the rest of the area that it lends comes home. Assumes nothing.
 use mathlib.Core.Path.{ap}
 use Prim.Native.Nat.{ℕ, ◌+◌}
-use borrow.Author.Rules.{rules}
 use Rattle.records.specs.Uleb128.{uleb128}
 use Rattle.records.proofs.Area.{part_home}
 use Rattle.records.proofs.record.put_length.Goals as goal

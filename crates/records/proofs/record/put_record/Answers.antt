@@ -2,7 +2,6 @@
 use mathlib.Core.Path.{refl, sym}
 use mathlib.Core.List.{List, [], ◌++◌, append-nil}
 use Prim.Native.Nat.{ℕ}
-use borrow.Author.Rules.{rules}
 use lib.ListN.{length}
 use Rattle.records.specs.Record.{deadline_bytes, record_bytes}
 use Rattle.records.specs.Uleb128.{uleb128}
@@ -73,22 +72,33 @@ at4 : (c : After-put_bytes-key_end) → let s = from4 c in
 at4 c h = let s = from4 c in next (key s) (value s) _ _ h refl c.put_bytes-key_end.ensures.0 c.put_bytes-key_end.ensures.1
 
 pub put_length-key_prefix-requires : goal.put_length-key_prefix-requires
-put_length-key_prefix-requires c = fits (key_prefix (goal.at.put_length-key_prefix-requires c).Start) (left1 (goal.at.put_length-key_prefix-requires c).Start) (at0 (goal.at.put_length-key_prefix-requires c).Start) refl
+put_length-key_prefix-requires c =
+    let at = goal.at.put_length-key_prefix-requires c in
+    fits (key_prefix at.Start) (left1 at.Start) (at0 at.Start) refl
 
 pub put_length-value_prefix-requires : goal.put_length-value_prefix-requires
-put_length-value_prefix-requires c = fits (value_prefix (goal.at.put_length-value_prefix-requires c).Start) (left2 (goal.at.put_length-value_prefix-requires c).Start) (at1 (goal.at.put_length-value_prefix-requires c).After-put_length-key_prefix) refl
+put_length-value_prefix-requires c =
+    let at = goal.at.put_length-value_prefix-requires c in
+    fits (value_prefix at.Start) (left2 at.Start) (at1 at.After-put_length-key_prefix) refl
 
 pub put_deadline-header-requires : goal.put_deadline-header-requires
-put_deadline-header-requires c = fits (deadline (goal.at.put_deadline-header-requires c).Start) (key (goal.at.put_deadline-header-requires c).Start ++ value (goal.at.put_deadline-header-requires c).Start) (at2 (goal.at.put_deadline-header-requires c).After-put_length-value_prefix (at1 (goal.at.put_deadline-header-requires c).After-put_length-key_prefix)) refl
+put_deadline-header-requires c =
+    let at = goal.at.put_deadline-header-requires c in
+    fits (deadline at.Start) (key at.Start ++ value at.Start) (at2 at.After-put_length-value_prefix (at1 at.After-put_length-key_prefix)) refl
 
 pub put_bytes-key_end-requires : goal.put_bytes-key_end-requires
-put_bytes-key_end-requires c = fits (key (goal.at.put_bytes-key_end-requires c).Start) (value (goal.at.put_bytes-key_end-requires c).Start) (at3 (goal.at.put_bytes-key_end-requires c).After-put_deadline-header (at2 (goal.at.put_bytes-key_end-requires c).After-put_length-value_prefix (at1 (goal.at.put_bytes-key_end-requires c).After-put_length-key_prefix))) refl
+put_bytes-key_end-requires c =
+    let at = goal.at.put_bytes-key_end-requires c in
+    fits (key at.Start) (value at.Start) (at3 at.After-put_deadline-header (at2 at.After-put_length-value_prefix (at1 at.After-put_length-key_prefix))) refl
 
 pub put_bytes-requires : goal.put_bytes-requires
-put_bytes-requires c = let v = value (goal.at.put_bytes-requires c).Start in fits v [] (at4 (goal.at.put_bytes-requires c).After-put_bytes-key_end (at3 (goal.at.put_bytes-requires c).After-put_deadline-header (at2 (goal.at.put_bytes-requires c).After-put_length-value_prefix (at1 (goal.at.put_bytes-requires c).After-put_length-key_prefix)))) (sym (append-nil v))
+put_bytes-requires c =
+    let at = goal.at.put_bytes-requires c in
+    let v = value at.Start in fits v [] (at4 at.After-put_bytes-key_end (at3 at.After-put_deadline-header (at2 at.After-put_length-value_prefix (at1 at.After-put_length-key_prefix)))) (sym (append-nil v))
 
 pub returns : goal.returns
 returns c =
-    let v = value (goal.at.returns c).Start in
+    let at = goal.at.returns c in
+    let v = value at.Start in
     let p = c.put_bytes in
-    (complete (next v [] _ _ (at4 (goal.at.returns c).After-put_bytes-key_end (at3 (goal.at.returns c).After-put_deadline-header (at2 (goal.at.returns c).After-put_length-value_prefix (at1 (goal.at.returns c).After-put_length-key_prefix)))) (sym (append-nil v)) p.ensures.0 p.ensures.1) refl).1
+    (complete (next v [] _ _ (at4 at.After-put_bytes-key_end (at3 at.After-put_deadline-header (at2 at.After-put_length-value_prefix (at1 at.After-put_length-key_prefix)))) (sym (append-nil v)) p.ensures.0 p.ensures.1) refl).1

@@ -3,7 +3,6 @@ use mathlib.Core.Path.{sym, ◌∙◌}
 use Prim.Native.Nat.{◌+◌, ◌≤◌, ◌<◌}
 use native.Mathlib.Omega.{arith}
 use lib.ListN.{length, get_or}
-use borrow.Author.Rules.{rules}
 use Rattle.records.proofs.Parts.{at_short, prefixes_short}
 use Rattle.records.proofs.record.record_at.Goals as goal
 use Rattle.records.proofs.record.record_at.Goals.{Then-one_byte_prefixes}

@@ -1,7 +1,6 @@
 -- `record_at_lengths` meets its contract: it tests by differences what the definition tests by a sum. Assumes nothing.
 use mathlib.Core.Path.{◌≡◌}
 use Prim.Native.Nat.{◌+◌, ◌<◌}
-use borrow.Author.Rules.{rules}
 use native.Mathlib.Omega.{arith}
 use lib.ListN.{length}
 use Rattle.records.specs.Record.{record_of}

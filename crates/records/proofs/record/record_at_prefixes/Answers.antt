@@ -1,7 +1,6 @@
 -- `record_at_prefixes` meets its contract: a prefix that is read lies inside, so the second ends inside and past the record's position.
 -- Assumes nothing.
 use mathlib.Core.Path.{◌≡◌, sym, ◌∙◌}
-use borrow.Author.Rules.{rules}
 use native.Mathlib.Omega.{arith}
 use Rattle.records.specs.Varint.{read_varint}
 use Rattle.records.specs.declared.varint.Varint.TheVariants.{Value}
@@ -41,8 +40,9 @@ record_at_lengths-requires c =
 
 pub returns : goal.returns
 returns c =
+    let at = goal.at.returns c in
     let a = c.args in
     rw
-    (at_is a.expiry a.records.now a.location c.in-Value.key_len c.in-Value.key_prefix (key_read (goal.at.returns c).In-Value) c.in-Value-read_varint.value_len
-    c.in-Value-read_varint.cursor (value_read (goal.at.returns c).In-Value-read_varint))
+    (at_is a.expiry a.records.now a.location c.in-Value.key_len c.in-Value.key_prefix (key_read at.In-Value) c.in-Value-read_varint.value_len
+    c.in-Value-read_varint.cursor (value_read at.In-Value-read_varint))
     c.record_at_lengths.ensures

@@ -1,9 +1,6 @@
 -- `bytes_same` meets its contract: the bytes left are the same where all are. Assumes nothing.
-use mathlib.Core.Path.{◌≡◌, refl, sym, ◌∙◌}
-use Prim.Native.Nat.{◌-◌, ◌≤◌}
+use mathlib.Core.Path.{refl, sym, ◌∙◌}
 use native.Mathlib.Omega.{arith}
-use lib.ListN.{length, drop}
-use Rattle.records.specs.Area.{same_bytes}
 use Rattle.records.proofs.Area.{same_lengths, same_words, words_differ}
 use Rattle.records.proofs.record.same_bytes.Goals as goal
 

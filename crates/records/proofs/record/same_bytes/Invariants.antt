@@ -1,10 +1,8 @@
 -- What each turn of the loop keeps.
-use mathlib.Core.Path.{◌≡◌, refl, sym, ◌∙◌}
+use mathlib.Core.Path.{◌≡◌}
 use Prim.Native.Nat.{◌-◌, ◌≤◌}
-use native.Mathlib.Omega.{arith}
 use lib.ListN.{length, drop}
 use Rattle.records.specs.Area.{same_bytes}
-use Rattle.records.proofs.Area.{same_lengths, same_words, words_differ}
 use Rattle.records.proofs.record.same_bytes.Given as goal
 
 abbrev pub invariant-loop-i : goal.invariant-loop-i

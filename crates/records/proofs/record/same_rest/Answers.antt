@@ -1,9 +1,6 @@
 -- `same_rest` meets its contract: the bytes left are the same where all are. Assumes nothing.
-use mathlib.Core.Path.{◌≡◌, refl, sym, ◌∙◌}
-use Prim.Native.Nat.{◌-◌}
+use mathlib.Core.Path.{refl, sym, ◌∙◌}
 use native.Mathlib.Omega.{arith}
-use lib.ListN.{length, drop}
-use Rattle.records.specs.Area.{same_bytes}
 use Rattle.records.proofs.Area.{same_next, same_differ, same_end}
 use Rattle.records.proofs.record.same_rest.Goals as goal
 

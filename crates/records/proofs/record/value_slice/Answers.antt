@@ -1,5 +1,4 @@
 -- `value_slice` meets its contract: it tests by differences what the definition tests by a sum. Assumes nothing.
-use borrow.Author.Rules.{rules}
 use native.Mathlib.Omega.{arith}
 use Rattle.records.proofs.Area.{spanned_in, spanned_out}
 use Rattle.records.proofs.record.value_slice.Goals as goal

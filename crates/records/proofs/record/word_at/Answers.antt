@@ -1,6 +1,5 @@
 -- `word_at` meets its contract: the sum of eight bytes, each at its place, is their number. Assumes nothing.
 use native.Mathlib.Omega.{arith}
-use borrow.Author.Rules.{rules}
 use Rattle.records.proofs.Area.{word_of}
 use Rattle.records.proofs.record.word_at.Goals as goal
 

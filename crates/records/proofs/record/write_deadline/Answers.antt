@@ -1,6 +1,5 @@
 -- `write_deadline` meets its contract: with expiry on there is room for two bytes, the deadline's. Assumes nothing.
 use Prim.Native.Nat.{◌≤◌}
-use borrow.Author.Rules.{rules}
 use native.Mathlib.Omega.{arith}
 use lib.ListN.{length, length-set}
 use Rattle.records.proofs.Parts.{deadline_length, deadline_room, deadline_set}

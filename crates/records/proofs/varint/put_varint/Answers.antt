@@ -5,7 +5,7 @@ use Prim.Native.Nat.{◌+◌, ◌/◌, ◌%◌, ◌<◌}
 use native.Mathlib.Omega.{arith}
 use lib.ListN.{length, length-set}
 use Rattle.records.specs.Uleb128.{uleb128}
-use Rattle.records.proofs.Area.{Writing, begin, room, next_byte, complete}
+use Rattle.records.proofs.Area.{begin, room, next_byte, complete}
 use Rattle.records.proofs.Uleb128.{leb_small, leb_large, leb_pos}
 use Rattle.records.proofs.varint.put_varint.Goals as goal
 use Rattle.records.proofs.varint.put_varint.Goals.{At-loop-rest}

@@ -1,12 +1,6 @@
 -- What each turn of the loop keeps.
-use mathlib.Core.List.{[]}
-use mathlib.Core.Path.{◌≡◌, refl}
-use Prim.Native.Nat.{◌+◌, ◌/◌, ◌%◌, ◌<◌}
-use native.Mathlib.Omega.{arith}
-use lib.ListN.{length, length-set}
 use Rattle.records.specs.Uleb128.{uleb128}
-use Rattle.records.proofs.Area.{Writing, begin, room, next_byte, complete}
-use Rattle.records.proofs.Uleb128.{leb_small, leb_large, leb_pos}
+use Rattle.records.proofs.Area.{Writing}
 use Rattle.records.proofs.varint.put_varint.Given as goal
 
 abbrev pub invariant-loop-rest : goal.invariant-loop-rest

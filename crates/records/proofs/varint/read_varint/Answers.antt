@@ -38,7 +38,9 @@ pub loop-left-init : goal.loop-left-init
 loop-left-init c = (answer_start c.args.input.now c.args.cursor, omega arith, refl)
 
 pub returns-then-at-input : goal.returns-then-at-input
-returns-then-at-input c = rest_is (goal.at.returns-then-at-input c).At-loop-left (byte_none (input_of (goal.at.returns-then-at-input c).At-loop-left) c.loop-left.at c.if-at-input.true)
+returns-then-at-input c =
+    let known = goal.at.returns-then-at-input c in
+    rest_is known.At-loop-left (byte_none (input_of known.At-loop-left) c.loop-left.at c.if-at-input.true)
 
 pub overflow_mul-result : goal.overflow_mul-result
 overflow_mul-result c = omega (arith, part_of (goal.at.overflow_mul-result c).After-wide-byte c.wide-byte.result c.if-byte-lt128.true)
@@ -48,10 +50,11 @@ overflow_add-result c = omega (arith, part_of (goal.at.overflow_add-result c).Af
 
 pub returns-then-byte-lt128 : goal.returns-then-byte-lt128
 returns-then-byte-lt128 c =
+    let known = goal.at.returns-then-byte-lt128 c in
     let l = c.loop-left in
     let b : ℕ = c.wide-byte.result in
-    sym (answer_last l.value l.scale l.at b l.left (omega (arith, part_of (goal.at.returns-then-byte-lt128 c).After-wide-byte b c.if-byte-lt128.true)))
-    ∙ rest_is (goal.at.returns-then-byte-lt128 c).At-loop-left (byte_last (input_of (goal.at.returns-then-byte-lt128 c).At-loop-left) l.at b c.wide-byte.ensures c.if-at-input.false c.if-byte-lt128.true)
+    sym (answer_last l.value l.scale l.at b l.left (omega (arith, part_of known.After-wide-byte b c.if-byte-lt128.true)))
+    ∙ rest_is known.At-loop-left (byte_last (input_of known.At-loop-left) l.at b c.wide-byte.ensures c.if-at-input.false c.if-byte-lt128.true)
 
 pub overflow_mul-value : goal.overflow_mul-value
 overflow_mul-value c = omega (arith, payload_of (goal.at.overflow_mul-value c).After-wide-byte)
@@ -64,24 +67,28 @@ overflow_mul-scale c = omega (arith, payload_of (goal.at.overflow_mul-scale c).A
 
 pub loop-left-preserved : goal.loop-left-preserved
 loop-left-preserved c =
+    let known = goal.at.loop-left-preserved c in
     let l = c.loop-left in
     let b : ℕ = c.wide-byte.result in
     let more = c.loop-left-test.true in (
-      sym (rest_is (goal.at.loop-left-preserved c).At-loop-left (byte_next (input_of (goal.at.loop-left-preserved c).At-loop-left) l.at b c.wide-byte.ensures c.if-at-input.false c.if-byte-lt128.false))
-          ∙ answer_next l.value l.scale l.at b l.left (decode (drop (l.at + 1) (input_of (goal.at.loop-left-preserved c).At-loop-left))) c.if-byte-lt128.false (byte_of (goal.at.loop-left-preserved c).After-wide-byte) more,
-      (payload_of (goal.at.loop-left-preserved c).After-wide-byte).1,
+      sym (rest_is known.At-loop-left (byte_next (input_of known.At-loop-left) l.at b c.wide-byte.ensures c.if-at-input.false c.if-byte-lt128.false))
+          ∙ answer_next l.value l.scale l.at b l.left (decode (drop (l.at + 1) (input_of known.At-loop-left))) c.if-byte-lt128.false (byte_of known.After-wide-byte) more,
+      (payload_of known.After-wide-byte).1,
       scale_next l.scale l.left more l.invariant.2,
     )
 
 pub returns-then-at-input-2 : goal.returns-then-at-input-2
-returns-then-at-input-2 c = rest_is (goal.at.returns-then-at-input-2 c).At-loop-left (byte_none (input_of (goal.at.returns-then-at-input-2 c).At-loop-left) c.loop-left.at c.if-at-input-2.true)
+returns-then-at-input-2 c =
+    let known = goal.at.returns-then-at-input-2 c in
+    rest_is known.At-loop-left (byte_none (input_of known.At-loop-left) c.loop-left.at c.if-at-input-2.true)
 
 pub returns-then-byte-ge128 : goal.returns-then-byte-ge128
 returns-then-byte-ge128 c =
+    let known = goal.at.returns-then-byte-ge128 c in
     let l = c.loop-left in
     let b : ℕ = c.wide-byte-2.result in
-    sym (answer_over l.value l.scale l.at b l.left (drop (l.at + 1) (input_of (goal.at.returns-then-byte-ge128 c).At-loop-left)) c.loop-left-test.false)
-    ∙ rest_is (goal.at.returns-then-byte-ge128 c).At-loop-left (byte_next (input_of (goal.at.returns-then-byte-ge128 c).At-loop-left) l.at b c.wide-byte-2.ensures c.if-at-input-2.false c.if-byte-ge128.true)
+    sym (answer_over l.value l.scale l.at b l.left (drop (l.at + 1) (input_of known.At-loop-left)) c.loop-left-test.false)
+    ∙ rest_is known.At-loop-left (byte_next (input_of known.At-loop-left) l.at b c.wide-byte-2.ensures c.if-at-input-2.false c.if-byte-ge128.true)
 
 pub overflow_add-result-2 : goal.overflow_add-result-2
 overflow_add-result-2 c =
@@ -90,10 +97,11 @@ overflow_add-result-2 c =
 
 pub returns : goal.returns
 returns c =
+    let known = goal.at.returns c in
     let l = c.loop-left in
     let b : ℕ = c.wide-byte-2.result in
     sym (answer_tenth l.value l.scale l.at b l.left (scale_last l.scale l.left c.loop-left-test.false l.invariant.2) l.invariant.1)
-    ∙ rest_is (goal.at.returns c).At-loop-left (byte_last (input_of (goal.at.returns c).At-loop-left) l.at b c.wide-byte-2.ensures c.if-at-input-2.false c.if-byte-ge128.false)
+    ∙ rest_is known.At-loop-left (byte_last (input_of known.At-loop-left) l.at b c.wide-byte-2.ensures c.if-at-input-2.false c.if-byte-ge128.false)
 
 pub wide-byte-requires : goal.wide-byte-requires
 wide-byte-requires c = tt

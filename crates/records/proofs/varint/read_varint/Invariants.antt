@@ -1,12 +1,10 @@
 -- What each turn of the loop keeps.
-use mathlib.Core.Path.{◌≡◌, refl, sym, ap, ◌∙◌}
-use mathlib.Core.List.{List}
-use Prim.Native.Nat.{ℕ, ◌+◌, ◌*◌, ◌-◌, ◌^◌, ◌≤◌, ◌<◌}
-use native.Mathlib.Omega.{arith}
+use mathlib.Core.Path.{◌≡◌}
+use Prim.Native.Nat.{◌*◌, ◌^◌, ◌<◌}
 use lib.ListN.{drop}
-use Rattle.records.specs.Uleb128.{Decoded, decode}
+use Rattle.records.specs.Uleb128.{decode}
 use Rattle.records.specs.Varint.{read_varint}
-use Rattle.records.proofs.Prefix.{byte_none, byte_last, byte_next, answer, answer_start, answer_next, answer_last, answer_tenth, answer_over, scale_next, scale_last, part_small}
+use Rattle.records.proofs.Prefix.{answer}
 use Rattle.records.proofs.varint.read_varint.Given as goal
 
 abbrev pub invariant-loop-left : goal.invariant-loop-left

@@ -1,9 +1,7 @@
 -- `varint_bytes` meets its contract: the bytes counted and those of what is left are one more than the number's. Assumes nothing.
-use mathlib.Core.Path.{◌≡◌, ap}
-use Prim.Native.Nat.{◌+◌}
+use mathlib.Core.Path.{ap}
 use native.Mathlib.Omega.{arith}
 use lib.ListN.{length}
-use Rattle.records.specs.Uleb128.{uleb128}
 use Rattle.records.proofs.Uleb128.{leb_small, leb_large, leb_pos, leb_ten}
 use Rattle.records.proofs.varint.varint_bytes.Goals as goal
 

@@ -1,10 +1,8 @@
 -- What each turn of the loop keeps.
-use mathlib.Core.Path.{◌≡◌, ap}
+use mathlib.Core.Path.{◌≡◌}
 use Prim.Native.Nat.{◌+◌}
-use native.Mathlib.Omega.{arith}
 use lib.ListN.{length}
 use Rattle.records.specs.Uleb128.{uleb128}
-use Rattle.records.proofs.Uleb128.{leb_small, leb_large, leb_pos, leb_ten}
 use Rattle.records.proofs.varint.varint_bytes.Given as goal
 
 abbrev pub invariant-loop-rest : goal.invariant-loop-rest

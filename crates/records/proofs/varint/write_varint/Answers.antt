@@ -1,6 +1,5 @@
 -- `write_varint` meets its contract: it asks for the room that `put_varint` needs. Assumes nothing.
 use mathlib.Core.Path.{sym}
-use borrow.Author.Rules.{rules}
 use native.Mathlib.Omega.{arith}
 use Rattle.records.specs.Uleb128.{uleb128}
 use Rattle.records.proofs.Area.{written_in_law, written_out}

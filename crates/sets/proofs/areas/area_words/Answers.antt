@@ -1,5 +1,5 @@
 -- `area_words` meets its contract. Assumes nothing.
-use Rattle.std.proofs.Common.{ℕ, leb, sym, ◌∙◌, rules, le-leb, leb-true}
+use Rattle.std.proofs.Common.{ℕ, leb, sym, ◌∙◌, le-leb, leb-true}
 use borrow.Author.Tests.{lt-leb}
 use Rattle.sets.specs.Areas.{area_words_for, ask_counts, words_needed}
 use Rattle.sets.specs.Questions.{occupancy_fits}
@@ -45,15 +45,21 @@ returns-then-not-nanoseconds_fit c = rw (said_no c.nanoseconds_fit.ensures c.if-
 
 pub returns-then-not-occupancy_fits : goal.returns-then-not-occupancy_fits
 unfolding area_words_for ask_counts
-returns-then-not-occupancy_fits c = sym ((yes1 (goal.at.returns-then-not-occupancy_fits c).Else-not-nanoseconds_fit) ∙ rw (said_no c.occupancy_fits.ensures c.if-not-occupancy_fits.true))
+returns-then-not-occupancy_fits c =
+    let at = goal.at.returns-then-not-occupancy_fits c in
+    sym ((yes1 at.Else-not-nanoseconds_fit) ∙ rw (said_no c.occupancy_fits.ensures c.if-not-occupancy_fits.true))
 
 pub returns-then-not-tick_runs : goal.returns-then-not-tick_runs
 unfolding area_words_for ask_counts
-returns-then-not-tick_runs c = sym ((yes2 (goal.at.returns-then-not-tick_runs c).Else-not-occupancy_fits (yes1 (goal.at.returns-then-not-tick_runs c).Else-not-nanoseconds_fit)) ∙ rw (said_no c.tick_runs.ensures c.if-not-tick_runs.true))
+returns-then-not-tick_runs c =
+    let at = goal.at.returns-then-not-tick_runs c in
+    sym ((yes2 at.Else-not-occupancy_fits (yes1 at.Else-not-nanoseconds_fit)) ∙ rw (said_no c.tick_runs.ensures c.if-not-tick_runs.true))
 
 pub returns-then-entry_count-gt-MAX_RECORDS : goal.returns-then-entry_count-gt-MAX_RECORDS
 unfolding area_words_for ask_counts
-returns-then-entry_count-gt-MAX_RECORDS c = sym ((yes3 (goal.at.returns-then-entry_count-gt-MAX_RECORDS c).Else-not-tick_runs (yes2 (goal.at.returns-then-entry_count-gt-MAX_RECORDS c).Else-not-occupancy_fits (yes1 (goal.at.returns-then-entry_count-gt-MAX_RECORDS c).Else-not-nanoseconds_fit))) ∙ rw (lt-leb _ _ c.if-entry_count-gt-MAX_RECORDS.true))
+returns-then-entry_count-gt-MAX_RECORDS c =
+    let at = goal.at.returns-then-entry_count-gt-MAX_RECORDS c in
+    sym ((yes3 at.Else-not-tick_runs (yes2 at.Else-not-occupancy_fits (yes1 at.Else-not-nanoseconds_fit))) ∙ rw (lt-leb _ _ c.if-entry_count-gt-MAX_RECORDS.true))
 
 pub words_needed-requires : goal.words_needed-requires
 unfolding occupancy_fits
@@ -64,4 +70,5 @@ words_needed-requires c =
 pub returns : goal.returns
 unfolding area_words_for ask_counts
 returns c =
-    sym ((yes3 (goal.at.returns c).Else-not-tick_runs (yes2 (goal.at.returns c).Else-not-occupancy_fits (yes1 (goal.at.returns c).Else-not-nanoseconds_fit))) ∙ rw (le-leb _ _ c.if-entry_count-gt-MAX_RECORDS.false, ← c.words_needed.ensures))
+    let at = goal.at.returns c in
+    sym ((yes3 at.Else-not-tick_runs (yes2 at.Else-not-occupancy_fits (yes1 at.Else-not-nanoseconds_fit))) ∙ rw (le-leb _ _ c.if-entry_count-gt-MAX_RECORDS.false, ← c.words_needed.ensures))

@@ -1,5 +1,5 @@
 -- `words_needed` meets its contract. Assumes nothing.
-use Rattle.std.proofs.Common.{◌≡◌, ◌*◌, arith, rules}
+use Rattle.std.proofs.Common.{◌≡◌, ◌*◌, arith}
 use Rattle.index.proofs.Buckets.{buckets_few}
 use Rattle.sets.proofs.areas.words_needed.Goals as goal
 

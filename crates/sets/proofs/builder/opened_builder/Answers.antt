@@ -1,5 +1,4 @@
 -- `opened_builder` meets its contract. Assumes nothing.
-use Rattle.std.proofs.Common.{rules}
 use Rattle.sets.proofs.builder.opened_builder.Goals as goal
 
 pub returns : goal.returns

@@ -1,5 +1,5 @@
 -- `pack_index` meets its contract. Assumes nothing.
-use Rattle.std.proofs.Common.{refl, rules}
+use Rattle.std.proofs.Common.{refl}
 use Rattle.sets.proofs.builder.pack_index.Goals as goal
 
 pub returns-then-packed : goal.returns-then-packed

@@ -1,5 +1,5 @@
 -- `bit_set` meets its contract. Assumes nothing.
-use Rattle.std.proofs.Common.{arith, rules}
+use Rattle.std.proofs.Common.{arith}
 use Rattle.sets.proofs.KeptWords.{bit_at}
 use Rattle.sets.proofs.kept.bit_set.Goals as goal
 

@@ -1,5 +1,5 @@
 -- `copy_kept` meets its contract: what is written and what is left to choose are the chosen words. Assumes nothing.
-use Rattle.std.proofs.Common.{◌≡◌, ℕ, ◌+◌, ◌-◌, ◌<◌, List, [], ◌∷◌, length, get_or, drop, subst, arith}
+use Rattle.std.proofs.Common.{◌≡◌, ℕ, ◌+◌, ◌<◌, List, [], ◌∷◌, length, get_or, drop, subst, arith}
 use Rattle.records.proofs.Area.{Writing, begin, fits, room, next_byte, complete}
 use Rattle.sets.specs.Kept.{chosen}
 use Rattle.sets.proofs.KeptBits.{chosen_length}

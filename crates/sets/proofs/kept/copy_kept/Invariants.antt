@@ -1,9 +1,7 @@
 -- What each turn of the loop keeps.
-use Rattle.std.proofs.Common.{◌≡◌, ℕ, ◌+◌, ◌-◌, ◌<◌, List, [], ◌∷◌, length, get_or, drop, subst, arith}
-use Rattle.records.proofs.Area.{Writing, begin, fits, room, next_byte, complete}
+use Rattle.std.proofs.Common.{◌-◌, length, drop}
+use Rattle.records.proofs.Area.{Writing}
 use Rattle.sets.specs.Kept.{chosen}
-use Rattle.sets.proofs.KeptBits.{chosen_length}
-use Rattle.sets.proofs.KeptWords.{chosen_dropped, chosen_end, chosen_kept}
 use Rattle.sets.proofs.kept.copy_kept.Given as goal
 
 abbrev pub invariant-loop-next : goal.invariant-loop-next

@@ -1,5 +1,4 @@
 -- `flag_bit` meets its contract. Assumes nothing.
-use Rattle.std.proofs.Common.{rules}
 use Rattle.sets.proofs.KeptWords.{flag_dropped, flag_kept, flag_out}
 use Rattle.sets.proofs.kept.flag_bit.Goals as goal
 

@@ -1,7 +1,5 @@
 -- `flag_word` meets its contract: the word of the flags from a position on. Assumes nothing.
-use Rattle.std.proofs.Common.{◌≡◌, ◌+◌, ◌-◌, ◌≤◌, arith, rules}
-use Rattle.records.specs.Area.{part}
-use Rattle.sets.specs.Kept.{flag_word}
+use Rattle.std.proofs.Common.{◌+◌, ◌-◌, arith}
 use Rattle.sets.proofs.KeptWords.{flag_bound, word_bound, word_more, word_none, word_whole}
 use Rattle.sets.proofs.kept.flag_word.Goals as goal
 

@@ -1,8 +1,7 @@
 -- What each turn of the loop keeps.
-use Rattle.std.proofs.Common.{◌≡◌, ◌+◌, ◌-◌, ◌≤◌, arith, rules}
+use Rattle.std.proofs.Common.{◌≡◌, ◌+◌, ◌-◌, ◌≤◌}
 use Rattle.records.specs.Area.{part}
 use Rattle.sets.specs.Kept.{flag_word}
-use Rattle.sets.proofs.KeptWords.{flag_bound, word_bound, word_more, word_none, word_whole}
 use Rattle.sets.proofs.kept.flag_word.Given as goal
 
 abbrev pub invariant-loop-left : goal.invariant-loop-left

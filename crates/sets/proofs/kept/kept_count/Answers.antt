@@ -1,6 +1,5 @@
 -- `kept_count` meets its contract: the flags from a position on are counted. Assumes nothing.
-use Rattle.std.proofs.Common.{◌≡◌, ℕ, ◌+◌, ◌≤◌, List, length, drop, arith}
-use Rattle.sets.specs.Kept.{kept_count}
+use Rattle.std.proofs.Common.{◌≡◌, ℕ, List, arith}
 use Rattle.sets.proofs.KeptWords.{count_dropped, count_kept, count_none}
 use Rattle.sets.proofs.kept.kept_count.Goals as goal
 

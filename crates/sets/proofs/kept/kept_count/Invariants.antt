@@ -1,7 +1,6 @@
 -- What each turn of the loop keeps.
-use Rattle.std.proofs.Common.{◌≡◌, ℕ, ◌+◌, ◌≤◌, List, length, drop, arith}
+use Rattle.std.proofs.Common.{◌≡◌, ◌+◌, ◌≤◌, length, drop}
 use Rattle.sets.specs.Kept.{kept_count}
-use Rattle.sets.proofs.KeptWords.{count_dropped, count_kept, count_none}
 use Rattle.sets.proofs.kept.kept_count.Given as goal
 
 abbrev pub invariant-loop-left : goal.invariant-loop-left

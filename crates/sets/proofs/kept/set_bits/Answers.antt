@@ -1,5 +1,5 @@
 -- `set_bits` meets its contract: the ones of the lowest bits are their count of set bits. Assumes nothing.
-use Rattle.std.proofs.Common.{◌≡◌, ℕ, ◌*◌, ◌%◌, ◌^◌, ◌≤◌, ap, ◌∙◌, mod-lt, arith, pow_pos, rules}
+use Rattle.std.proofs.Common.{◌≡◌, ℕ, ◌*◌, ◌%◌, ◌^◌, ◌≤◌, ap, ◌∙◌, mod-lt, arith, pow_pos}
 use lib.Count.{ones, ones-le}
 use Rattle.index.proofs.Filters.{one_shl}
 use Rattle.sets.proofs.KeptWords.{bits_ones}

@@ -1,5 +1,5 @@
 -- `base_record` meets its contract. Assumes nothing.
-use Rattle.std.proofs.Common.{refl, rules}
+use Rattle.std.proofs.Common.{refl}
 use Rattle.sets.proofs.lookup.base_record.Goals as goal
 
 pub returns : goal.returns

@@ -1,5 +1,5 @@
 -- `entry_at` meets its contract. Assumes nothing.
-use Rattle.std.proofs.Common.{sym, ◌∙◌, rules}
+use Rattle.std.proofs.Common.{sym, ◌∙◌}
 use Rattle.sets.specs.Lookup.{entry_at}
 use Rattle.sets.proofs.lookup.entry_at.Goals as goal
 

@@ -1,7 +1,6 @@
 -- `live_value` meets its contract. Assumes nothing.
 use Rattle.sets.proofs.Said.{said_no, said_yes}
 use Rattle.sets.specs.Lookup.{live_value}
-use Rattle.std.proofs.Common.{rules}
 use Rattle.sets.proofs.lookup.live_value.Goals as goal
 
 pub returns-then-not-lives_at_tick : goal.returns-then-not-lives_at_tick

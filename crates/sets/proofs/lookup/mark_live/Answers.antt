@@ -1,5 +1,5 @@
 -- `mark_live` meets its contract. Assumes nothing.
-use Rattle.std.proofs.Common.{◌≡◌, true, sym, ◌∙◌, rules}
+use Rattle.std.proofs.Common.{◌≡◌, true, sym, ◌∙◌}
 use Rattle.hash_parts.specs.Duration.{lives_at}
 use Rattle.sets.specs.Lookup.{live_marked}
 use Rattle.sets.proofs.lookup.mark_live.Goals as goal

@@ -1,9 +1,7 @@
 -- What each turn of the loop keeps.
-use Rattle.std.proofs.Common.{◌≡◌, ℕ, ◌-◌, ◌*◌, sym, refl, ◌∙◌, arith, rules}
-use Rattle.records.specs.declared.record.RecordAnswer.{RecordAnswer}
+use Rattle.std.proofs.Common.{◌≡◌, ◌-◌, ◌*◌}
 use Rattle.index.specs.View.{record_in}
 use Rattle.sets.specs.Lookup.{entry_at, first_entry, next_entry}
-use Rattle.sets.proofs.WalkSteps.{entry_hit, entry_miss, entry_none}
 use Rattle.sets.proofs.lookup.next_entry.Given as goal
 
 abbrev pub invariant-loop-slot : goal.invariant-loop-slot

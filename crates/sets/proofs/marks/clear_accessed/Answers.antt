@@ -1,6 +1,5 @@
 -- `clear_accessed` meets its contract. Assumes nothing.
 use Rattle.sets.specs.Lookup.{slot_cleared, slot_accessed}
-use Rattle.std.proofs.Common.{rules}
 use Rattle.sets.proofs.marks.clear_accessed.Goals as goal
 
 pub returns-then-packed : goal.returns-then-packed

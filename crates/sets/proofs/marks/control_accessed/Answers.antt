@@ -1,5 +1,5 @@
 -- `control_accessed` meets its contract. Assumes nothing.
-use Rattle.std.proofs.Common.{◌%◌, leb, sym, ap, arith, rules}
+use Rattle.std.proofs.Common.{◌%◌, leb, sym, ap, arith}
 use Rattle.index.proofs.Bytes.{byte_at}
 use Rattle.sets.proofs.marks.control_accessed.Goals as goal
 

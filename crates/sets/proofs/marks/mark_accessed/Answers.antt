@@ -1,6 +1,5 @@
 -- `mark_accessed` meets its contract. Assumes nothing.
 use Rattle.sets.specs.Lookup.{slot_marked}
-use Rattle.std.proofs.Common.{rules}
 use Rattle.sets.proofs.marks.mark_accessed.Goals as goal
 
 pub returns-then-packed : goal.returns-then-packed

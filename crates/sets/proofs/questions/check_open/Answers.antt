@@ -1,5 +1,5 @@
 -- `check_open` meets its contract: after each question that is answered yes those after it are left. Assumes nothing.
-use Rattle.std.proofs.Common.{ℕ, sym, ◌∙◌, rules, le-leb}
+use Rattle.std.proofs.Common.{ℕ, sym, ◌∙◌, le-leb}
 use borrow.Author.Tests.{lt-leb}
 use Rattle.sets.specs.Questions.{ask_open, first_no}
 use Rattle.sets.proofs.Said.{Past, said_no, said_yes}
@@ -71,28 +71,42 @@ returns-then-not-nanoseconds_fit c = rw (said_no c.nanoseconds_fit.ensures c.if-
 
 pub returns-then-not-occupancy_fits : goal.returns-then-not-occupancy_fits
 unfolding ask_open
-returns-then-not-occupancy_fits c = sym ((yes1 (goal.at.returns-then-not-occupancy_fits c).Else-not-nanoseconds_fit) ∙ rw (said_no c.occupancy_fits.ensures c.if-not-occupancy_fits.true))
+returns-then-not-occupancy_fits c =
+    let at = goal.at.returns-then-not-occupancy_fits c in
+    sym ((yes1 at.Else-not-nanoseconds_fit) ∙ rw (said_no c.occupancy_fits.ensures c.if-not-occupancy_fits.true))
 
 pub returns-then-not-tick_runs : goal.returns-then-not-tick_runs
 unfolding ask_open
-returns-then-not-tick_runs c = sym ((yes2 (goal.at.returns-then-not-tick_runs c).Else-not-occupancy_fits (yes1 (goal.at.returns-then-not-tick_runs c).Else-not-nanoseconds_fit)) ∙ rw (said_no c.tick_runs.ensures c.if-not-tick_runs.true))
+returns-then-not-tick_runs c =
+    let at = goal.at.returns-then-not-tick_runs c in
+    sym ((yes2 at.Else-not-occupancy_fits (yes1 at.Else-not-nanoseconds_fit)) ∙ rw (said_no c.tick_runs.ensures c.if-not-tick_runs.true))
 
 pub returns-then-entry_count-gt-MAX_RECORDS : goal.returns-then-entry_count-gt-MAX_RECORDS
 unfolding ask_open
-returns-then-entry_count-gt-MAX_RECORDS c = sym ((yes3 (goal.at.returns-then-entry_count-gt-MAX_RECORDS c).Else-not-tick_runs (yes2 (goal.at.returns-then-entry_count-gt-MAX_RECORDS c).Else-not-occupancy_fits (yes1 (goal.at.returns-then-entry_count-gt-MAX_RECORDS c).Else-not-nanoseconds_fit))) ∙ rw (lt-leb _ _ c.if-entry_count-gt-MAX_RECORDS.true))
+returns-then-entry_count-gt-MAX_RECORDS c =
+    let at = goal.at.returns-then-entry_count-gt-MAX_RECORDS c in
+    sym ((yes3 at.Else-not-tick_runs (yes2 at.Else-not-occupancy_fits (yes1 at.Else-not-nanoseconds_fit))) ∙ rw (lt-leb _ _ c.if-entry_count-gt-MAX_RECORDS.true))
 
 pub returns-then-not-open_areas_hold : goal.returns-then-not-open_areas_hold
 unfolding ask_open
-returns-then-not-open_areas_hold c = sym ((yes4 (goal.at.returns-then-not-open_areas_hold c).Else-entry_count-gt-MAX_RECORDS (yes3 (goal.at.returns-then-not-open_areas_hold c).Else-not-tick_runs (yes2 (goal.at.returns-then-not-open_areas_hold c).Else-not-occupancy_fits (yes1 (goal.at.returns-then-not-open_areas_hold c).Else-not-nanoseconds_fit)))) ∙ rw (said_no c.open_areas_hold.ensures c.if-not-open_areas_hold.true))
+returns-then-not-open_areas_hold c =
+    let at = goal.at.returns-then-not-open_areas_hold c in
+    sym ((yes4 at.Else-entry_count-gt-MAX_RECORDS (yes3 at.Else-not-tick_runs (yes2 at.Else-not-occupancy_fits (yes1 at.Else-not-nanoseconds_fit)))) ∙ rw (said_no c.open_areas_hold.ensures c.if-not-open_areas_hold.true))
 
 pub returns-then-not-segment_areas_hold : goal.returns-then-not-segment_areas_hold
 unfolding ask_open
-returns-then-not-segment_areas_hold c = sym ((yes5 (goal.at.returns-then-not-segment_areas_hold c).Else-not-open_areas_hold (yes4 (goal.at.returns-then-not-segment_areas_hold c).Else-entry_count-gt-MAX_RECORDS (yes3 (goal.at.returns-then-not-segment_areas_hold c).Else-not-tick_runs (yes2 (goal.at.returns-then-not-segment_areas_hold c).Else-not-occupancy_fits (yes1 (goal.at.returns-then-not-segment_areas_hold c).Else-not-nanoseconds_fit))))) ∙ rw (said_no c.segment_areas_hold.ensures c.if-not-segment_areas_hold.true))
+returns-then-not-segment_areas_hold c =
+    let at = goal.at.returns-then-not-segment_areas_hold c in
+    sym ((yes5 at.Else-not-open_areas_hold (yes4 at.Else-entry_count-gt-MAX_RECORDS (yes3 at.Else-not-tick_runs (yes2 at.Else-not-occupancy_fits (yes1 at.Else-not-nanoseconds_fit))))) ∙ rw (said_no c.segment_areas_hold.ensures c.if-not-segment_areas_hold.true))
 
 pub returns-then-arena_len-gt-MAX_ARENA_BYTES : goal.returns-then-arena_len-gt-MAX_ARENA_BYTES
 unfolding ask_open
-returns-then-arena_len-gt-MAX_ARENA_BYTES c = sym ((yes6 (goal.at.returns-then-arena_len-gt-MAX_ARENA_BYTES c).Else-not-segment_areas_hold (yes5 (goal.at.returns-then-arena_len-gt-MAX_ARENA_BYTES c).Else-not-open_areas_hold (yes4 (goal.at.returns-then-arena_len-gt-MAX_ARENA_BYTES c).Else-entry_count-gt-MAX_RECORDS (yes3 (goal.at.returns-then-arena_len-gt-MAX_ARENA_BYTES c).Else-not-tick_runs (yes2 (goal.at.returns-then-arena_len-gt-MAX_ARENA_BYTES c).Else-not-occupancy_fits (yes1 (goal.at.returns-then-arena_len-gt-MAX_ARENA_BYTES c).Else-not-nanoseconds_fit)))))) ∙ rw (lt-leb _ _ c.if-arena_len-gt-MAX_ARENA_BYTES.true))
+returns-then-arena_len-gt-MAX_ARENA_BYTES c =
+    let at = goal.at.returns-then-arena_len-gt-MAX_ARENA_BYTES c in
+    sym ((yes6 at.Else-not-segment_areas_hold (yes5 at.Else-not-open_areas_hold (yes4 at.Else-entry_count-gt-MAX_RECORDS (yes3 at.Else-not-tick_runs (yes2 at.Else-not-occupancy_fits (yes1 at.Else-not-nanoseconds_fit)))))) ∙ rw (lt-leb _ _ c.if-arena_len-gt-MAX_ARENA_BYTES.true))
 
 pub returns : goal.returns
 unfolding ask_open
-returns c = sym ((yes6 (goal.at.returns c).Else-not-segment_areas_hold (yes5 (goal.at.returns c).Else-not-open_areas_hold (yes4 (goal.at.returns c).Else-entry_count-gt-MAX_RECORDS (yes3 (goal.at.returns c).Else-not-tick_runs (yes2 (goal.at.returns c).Else-not-occupancy_fits (yes1 (goal.at.returns c).Else-not-nanoseconds_fit)))))) ∙ rw (le-leb _ _ c.if-arena_len-gt-MAX_ARENA_BYTES.false))
+returns c =
+    let at = goal.at.returns c in
+    sym ((yes6 at.Else-not-segment_areas_hold (yes5 at.Else-not-open_areas_hold (yes4 at.Else-entry_count-gt-MAX_RECORDS (yes3 at.Else-not-tick_runs (yes2 at.Else-not-occupancy_fits (yes1 at.Else-not-nanoseconds_fit)))))) ∙ rw (le-leb _ _ c.if-arena_len-gt-MAX_ARENA_BYTES.false))

@@ -1,5 +1,5 @@
 -- `counts_fit` meets its contract. Assumes nothing.
-use Rattle.std.proofs.Common.{◌≡◌, eqb, [], ◌∷◌, sym, ◌∙◌, rules, eq-eqb, ne_eqb, le-leb}
+use Rattle.std.proofs.Common.{◌≡◌, eqb, [], ◌∷◌, sym, ◌∙◌, eq-eqb, ne_eqb, le-leb}
 use borrow.Author.Tests.{lt-leb}
 use Rattle.sets.specs.Questions.{all, buckets_in, counts_fit, filter_words_in}
 use Rattle.sets.proofs.Said.{said_no, said_yes}
@@ -22,8 +22,11 @@ unfolding counts_fit
 returns-then-records-gt-MAX_RECORDS c = rw (said_yes c.setting_fits.ensures c.if-not-setting_fits.false, lt-leb _ _ c.if-records-gt-MAX_RECORDS.true)
 
 pub returns-then-buckets-bucket_count : goal.returns-then-buckets-bucket_count
-returns-then-buckets-bucket_count c = sym ((yes2 (goal.at.returns-then-buckets-bucket_count c).Else-records-gt-MAX_RECORDS) ∙ rw (← c.bucket_count.ensures, ne_eqb _ _ c.if-buckets-bucket_count.true))
+returns-then-buckets-bucket_count c =
+    let at = goal.at.returns-then-buckets-bucket_count c in
+    sym ((yes2 at.Else-records-gt-MAX_RECORDS) ∙ rw (← c.bucket_count.ensures, ne_eqb _ _ c.if-buckets-bucket_count.true))
 
 pub returns : goal.returns
 returns c =
-    sym ((yes2 (goal.at.returns c).Else-records-gt-MAX_RECORDS) ∙ rw (← c.bucket_count.ensures, eq-eqb _ _ c.if-buckets-bucket_count.false, ← c.filter_words_for.ensures))
+    let at = goal.at.returns c in
+    sym ((yes2 at.Else-records-gt-MAX_RECORDS) ∙ rw (← c.bucket_count.ensures, eq-eqb _ _ c.if-buckets-bucket_count.false, ← c.filter_words_for.ensures))

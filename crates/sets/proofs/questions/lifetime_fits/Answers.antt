@@ -1,6 +1,5 @@
 -- `lifetime_fits` meets its contract. Assumes nothing.
 use Rattle.sets.specs.Questions.{lifetime_fits}
-use Rattle.std.proofs.Common.{rules}
 use Rattle.sets.proofs.questions.lifetime_fits.Goals as goal
 
 pub returns-in_default : goal.returns-in_default

@@ -1,6 +1,5 @@
 -- `nanoseconds_fit` meets its contract. Assumes nothing.
 use Rattle.sets.specs.Questions.{nanoseconds_fit}
-use Rattle.std.proofs.Common.{rules}
 use Rattle.sets.proofs.questions.nanoseconds_fit.Goals as goal
 
 pub returns-in_default : goal.returns-in_default

@@ -1,5 +1,5 @@
 -- `open_areas_hold` meets its contract. Assumes nothing.
-use Rattle.std.proofs.Common.{◌*◌, ◌<◌, ◌≤◌, arith, rules, le-leb}
+use Rattle.std.proofs.Common.{◌*◌, ◌<◌, ◌≤◌, arith, le-leb}
 use borrow.Author.Tests.{lt-leb}
 use Rattle.sets.specs.Questions.{open_areas_hold, buckets_in}
 use Rattle.sets.proofs.questions.open_areas_hold.Goals as goal

@@ -1,5 +1,5 @@
 -- `record_fits` meets its contract. Assumes nothing.
-use Rattle.std.proofs.Common.{ℕ, ◌<◌, leb, sym, ap, ◌∙◌, arith, rules}
+use Rattle.std.proofs.Common.{ℕ, ◌<◌, leb, sym, ap, ◌∙◌, arith}
 use borrow.Author.Tests.{lt-leb}
 use Rattle.records.specs.Record.{record_size, size_outcome}
 use Rattle.sets.proofs.Appends.{size_large, size_told_law}

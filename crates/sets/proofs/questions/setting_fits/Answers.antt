@@ -1,7 +1,6 @@
 -- `setting_fits` meets its contract. Assumes nothing.
 use Rattle.sets.specs.Questions.{setting_fits}
 use Rattle.sets.proofs.Said.{said_no, said_yes}
-use Rattle.std.proofs.Common.{rules}
 use Rattle.sets.proofs.questions.setting_fits.Goals as goal
 
 pub returns-then-not-nanoseconds_fit : goal.returns-then-not-nanoseconds_fit

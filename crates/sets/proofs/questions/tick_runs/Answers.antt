@@ -1,5 +1,5 @@
 -- `tick_runs` meets its contract. Assumes nothing.
-use Rattle.std.proofs.Common.{not, ap, rules}
+use Rattle.std.proofs.Common.{not, ap}
 use Rattle.sets.specs.Questions.{tick_runs}
 use Rattle.sets.proofs.questions.tick_runs.Goals as goal
 

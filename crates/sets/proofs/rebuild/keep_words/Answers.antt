@@ -1,5 +1,5 @@
 -- `keep_words` meets its contract. Assumes nothing.
-use Rattle.std.proofs.Common.{◌≤◌, length, ◌∙◌, arith, rules}
+use Rattle.std.proofs.Common.{◌≤◌, length, ◌∙◌, arith}
 use Rattle.sets.specs.Kept.{chosen}
 use Rattle.sets.proofs.KeptBits.{chosen_length}
 use Rattle.sets.proofs.RebuildSteps.{kept_most, over_cleared}

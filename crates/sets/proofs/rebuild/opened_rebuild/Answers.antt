@@ -1,5 +1,4 @@
 -- `opened_rebuild` meets its contract. Assumes nothing.
-use Rattle.std.proofs.Common.{rules}
 use Rattle.sets.proofs.rebuild.opened_rebuild.Goals as goal
 
 pub returns : goal.returns

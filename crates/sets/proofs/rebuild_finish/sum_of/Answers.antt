@@ -1,5 +1,5 @@
 -- `sum_of` meets its contract. Assumes nothing.
-use Rattle.std.proofs.Common.{◌≡◌, ℕ, ◌+◌, ◌-◌, ◌≤◌, refl, ap, ◌∙◌, arith}
+use Rattle.std.proofs.Common.{◌≡◌, ℕ, ◌+◌, refl, ap, ◌∙◌, arith}
 use Rattle.sets.specs.Rebuild.{sum_of}
 use Rattle.sets.proofs.RebuildSteps.{sum_more, sum_most}
 use Rattle.sets.proofs.rebuild_finish.sum_of.Goals as goal

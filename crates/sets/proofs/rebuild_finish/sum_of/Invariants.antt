@@ -1,7 +1,6 @@
 -- What each turn of the loop keeps.
-use Rattle.std.proofs.Common.{◌≡◌, ℕ, ◌+◌, ◌-◌, ◌≤◌, refl, ap, ◌∙◌, arith}
+use Rattle.std.proofs.Common.{◌≡◌, ◌-◌, ◌≤◌}
 use Rattle.sets.specs.Rebuild.{sum_of}
-use Rattle.sets.proofs.RebuildSteps.{sum_more, sum_most}
 use Rattle.sets.proofs.rebuild_finish.sum_of.Given as goal
 
 abbrev pub invariant-loop-i : goal.invariant-loop-i

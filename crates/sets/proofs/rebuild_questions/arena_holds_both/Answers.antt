@@ -1,6 +1,6 @@
 -- `arena_holds_both` meets its contract. Assumes nothing.
 use borrow.Author.Tests.{lt-leb}
-use Rattle.std.proofs.Common.{◌+◌, ◌<◌, arith, rules}
+use Rattle.std.proofs.Common.{◌+◌, ◌<◌, arith}
 use Rattle.sets.specs.Questions.{arena_holds}
 use Rattle.sets.proofs.rebuild_questions.arena_holds_both.Goals as goal
 

@@ -1,5 +1,5 @@
 -- `check_rebuild_open` meets its contract: after each question that is answered yes those after it are left. Assumes nothing.
-use Rattle.std.proofs.Common.{◌≡◌, ℕ, ◌+◌, true, sym, ◌∙◌, arith, rules, eq-eqb, ne_eqb, le-leb}
+use Rattle.std.proofs.Common.{◌≡◌, ℕ, ◌+◌, true, sym, ◌∙◌, arith, eq-eqb, ne_eqb, le-leb}
 use borrow.Author.Tests.{lt-leb}
 use Rattle.sets.specs.Kept.{kept_count}
 use Rattle.sets.specs.Questions.{first_no}
@@ -78,11 +78,15 @@ returns-then-not-source_holds c = rw (said_no c.source_holds.ensures c.if-not-so
 
 pub returns-then-used_source_segments-source : goal.returns-then-used_source_segments-source
 unfolding ask_rebuild_open
-returns-then-used_source_segments-source c = sym ((yes1 (goal.at.returns-then-used_source_segments-source c).Else-not-source_holds) ∙ rw (ne_eqb _ _ c.if-used_source_segments-source.true))
+returns-then-used_source_segments-source c =
+    let at = goal.at.returns-then-used_source_segments-source c in
+    sym ((yes1 at.Else-not-source_holds) ∙ rw (ne_eqb _ _ c.if-used_source_segments-source.true))
 
 pub returns-then-entry_count-gt-MAX_RECORDS : goal.returns-then-entry_count-gt-MAX_RECORDS
 unfolding ask_rebuild_open
-returns-then-entry_count-gt-MAX_RECORDS c = sym ((yes2 (goal.at.returns-then-entry_count-gt-MAX_RECORDS c).Else-used_source_segments-source (yes1 (goal.at.returns-then-entry_count-gt-MAX_RECORDS c).Else-not-source_holds)) ∙ rw (lt-leb _ _ c.if-entry_count-gt-MAX_RECORDS.true))
+returns-then-entry_count-gt-MAX_RECORDS c =
+    let at = goal.at.returns-then-entry_count-gt-MAX_RECORDS c in
+    sym ((yes2 at.Else-used_source_segments-source (yes1 at.Else-not-source_holds)) ∙ rw (lt-leb _ _ c.if-entry_count-gt-MAX_RECORDS.true))
 
 pub overflow_add-retained : goal.overflow_add-retained
 overflow_add-retained c =
@@ -92,16 +96,24 @@ overflow_add-retained c =
 
 pub returns-then-retained-segment_for-gt-MAX_RECORD_SEGMENTS : goal.returns-then-retained-segment_for-gt-MAX_RECORD_SEGMENTS
 unfolding ask_rebuild_open
-returns-then-retained-segment_for-gt-MAX_RECORD_SEGMENTS c = sym ((yes3 (goal.at.returns-then-retained-segment_for-gt-MAX_RECORD_SEGMENTS c).Else-entry_count-gt-MAX_RECORDS (yes2 (goal.at.returns-then-retained-segment_for-gt-MAX_RECORD_SEGMENTS c).Else-used_source_segments-source (yes1 (goal.at.returns-then-retained-segment_for-gt-MAX_RECORD_SEGMENTS c).Else-not-source_holds))) ∙ rw (← (segments (goal.at.returns-then-retained-segment_for-gt-MAX_RECORD_SEGMENTS c).After-segment_for), lt-leb _ _ c.if-retained-segment_for-gt-MAX_RECORD_SEGMENTS.true))
+returns-then-retained-segment_for-gt-MAX_RECORD_SEGMENTS c =
+    let at = goal.at.returns-then-retained-segment_for-gt-MAX_RECORD_SEGMENTS c in
+    sym ((yes3 at.Else-entry_count-gt-MAX_RECORDS (yes2 at.Else-used_source_segments-source (yes1 at.Else-not-source_holds))) ∙ rw (← (segments at.After-segment_for), lt-leb _ _ c.if-retained-segment_for-gt-MAX_RECORD_SEGMENTS.true))
 
 pub returns-then-not-open_areas_hold : goal.returns-then-not-open_areas_hold
 unfolding ask_rebuild_open
-returns-then-not-open_areas_hold c = sym ((yes4 (goal.at.returns-then-not-open_areas_hold c).Else-retained-segment_for-gt-MAX_RECORD_SEGMENTS (yes3 (goal.at.returns-then-not-open_areas_hold c).Else-entry_count-gt-MAX_RECORDS (yes2 (goal.at.returns-then-not-open_areas_hold c).Else-used_source_segments-source (yes1 (goal.at.returns-then-not-open_areas_hold c).Else-not-source_holds))) (segments (goal.at.returns-then-not-open_areas_hold c).After-segment_for)) ∙ rw (said_no c.open_areas_hold.ensures c.if-not-open_areas_hold.true))
+returns-then-not-open_areas_hold c =
+    let at = goal.at.returns-then-not-open_areas_hold c in
+    sym ((yes4 at.Else-retained-segment_for-gt-MAX_RECORD_SEGMENTS (yes3 at.Else-entry_count-gt-MAX_RECORDS (yes2 at.Else-used_source_segments-source (yes1 at.Else-not-source_holds))) (segments at.After-segment_for)) ∙ rw (said_no c.open_areas_hold.ensures c.if-not-open_areas_hold.true))
 
 pub returns-then-not-segment_areas_hold : goal.returns-then-not-segment_areas_hold
 unfolding ask_rebuild_open
-returns-then-not-segment_areas_hold c = sym ((yes5 (goal.at.returns-then-not-segment_areas_hold c).Else-not-open_areas_hold (yes4 (goal.at.returns-then-not-segment_areas_hold c).Else-retained-segment_for-gt-MAX_RECORD_SEGMENTS (yes3 (goal.at.returns-then-not-segment_areas_hold c).Else-entry_count-gt-MAX_RECORDS (yes2 (goal.at.returns-then-not-segment_areas_hold c).Else-used_source_segments-source (yes1 (goal.at.returns-then-not-segment_areas_hold c).Else-not-source_holds))) (segments (goal.at.returns-then-not-segment_areas_hold c).After-segment_for))) ∙ rw (said_no c.segment_areas_hold.ensures c.if-not-segment_areas_hold.true))
+returns-then-not-segment_areas_hold c =
+    let at = goal.at.returns-then-not-segment_areas_hold c in
+    sym ((yes5 at.Else-not-open_areas_hold (yes4 at.Else-retained-segment_for-gt-MAX_RECORD_SEGMENTS (yes3 at.Else-entry_count-gt-MAX_RECORDS (yes2 at.Else-used_source_segments-source (yes1 at.Else-not-source_holds))) (segments at.After-segment_for))) ∙ rw (said_no c.segment_areas_hold.ensures c.if-not-segment_areas_hold.true))
 
 pub returns : goal.returns
 unfolding ask_rebuild_open
-returns c = sym ((yes5 (goal.at.returns c).Else-not-open_areas_hold (yes4 (goal.at.returns c).Else-retained-segment_for-gt-MAX_RECORD_SEGMENTS (yes3 (goal.at.returns c).Else-entry_count-gt-MAX_RECORDS (yes2 (goal.at.returns c).Else-used_source_segments-source (yes1 (goal.at.returns c).Else-not-source_holds))) (segments (goal.at.returns c).After-segment_for))) ∙ rw (said_yes c.segment_areas_hold.ensures c.if-not-segment_areas_hold.false))
+returns c =
+    let at = goal.at.returns c in
+    sym ((yes5 at.Else-not-open_areas_hold (yes4 at.Else-retained-segment_for-gt-MAX_RECORD_SEGMENTS (yes3 at.Else-entry_count-gt-MAX_RECORDS (yes2 at.Else-used_source_segments-source (yes1 at.Else-not-source_holds))) (segments at.After-segment_for))) ∙ rw (said_yes c.segment_areas_hold.ensures c.if-not-segment_areas_hold.false))

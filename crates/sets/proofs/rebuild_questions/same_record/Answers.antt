@@ -1,5 +1,5 @@
 -- `same_record` meets its contract. Assumes nothing.
-use Rattle.std.proofs.Common.{rules, eq-eqb, ne_eqb}
+use Rattle.std.proofs.Common.{eq-eqb, ne_eqb}
 use Rattle.sets.specs.Rebuild.{holds_record}
 use Rattle.sets.proofs.Said.{said_no, said_yes}
 use Rattle.sets.proofs.rebuild_questions.same_record.Goals as goal

@@ -1,5 +1,5 @@
 -- `segments_inside` meets its contract. Assumes nothing.
-use Rattle.std.proofs.Common.{◌≡◌, ℕ, ◌-◌, ◌≤◌, true, sym, refl, ap, ◌∙◌, arith}
+use Rattle.std.proofs.Common.{◌≡◌, ℕ, sym, refl, ap, ◌∙◌, arith}
 use Rattle.sets.specs.Rebuild.{segments_inside}
 use Rattle.sets.proofs.RebuildSteps.{segments_more, segments_not}
 use Rattle.sets.proofs.rebuild_questions.segments_inside.Goals as goal

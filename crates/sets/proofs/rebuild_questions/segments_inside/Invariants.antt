@@ -1,7 +1,6 @@
 -- What each turn of the loop keeps.
-use Rattle.std.proofs.Common.{◌≡◌, ℕ, ◌-◌, ◌≤◌, true, sym, refl, ap, ◌∙◌, arith}
+use Rattle.std.proofs.Common.{◌≡◌, ◌-◌, ◌≤◌, true}
 use Rattle.sets.specs.Rebuild.{segments_inside}
-use Rattle.sets.proofs.RebuildSteps.{segments_more, segments_not}
 use Rattle.sets.proofs.rebuild_questions.segments_inside.Given as goal
 
 abbrev pub invariant-loop-i : goal.invariant-loop-i

@@ -1,5 +1,5 @@
 -- `source_holds` meets its contract. Assumes nothing.
-use Rattle.std.proofs.Common.{◌≡◌, true, [], ◌∷◌, length, sym, ◌∙◌, arith, rules}
+use Rattle.std.proofs.Common.{◌≡◌, true, [], ◌∷◌, length, sym, ◌∙◌, arith}
 use Rattle.sets.specs.Questions.{all, arena_holds, segment_areas_hold}
 use Rattle.sets.specs.Rebuild.{areas_hold_source, segments_inside}
 use Rattle.sets.proofs.Said.{said_no, said_yes}
@@ -37,7 +37,9 @@ returns-then-not-segment_areas_hold c =
     rw (said_yes c.fits.ensures c.if-not-fits.false, said_no c.segment_areas_hold.ensures c.if-not-segment_areas_hold.true)
 
 pub returns-then-not-arena_holds : goal.returns-then-not-arena_holds
-returns-then-not-arena_holds c = sym ((yes2 (goal.at.returns-then-not-arena_holds c).Else-not-segment_areas_hold) ∙ rw (said_no c.arena_holds.ensures c.if-not-arena_holds.true))
+returns-then-not-arena_holds c =
+    let at = goal.at.returns-then-not-arena_holds c in
+    sym ((yes2 at.Else-not-segment_areas_hold) ∙ rw (said_no c.arena_holds.ensures c.if-not-arena_holds.true))
 
 pub segments_inside-requires : goal.segments_inside-requires
 segments_inside-requires c =
@@ -46,4 +48,6 @@ segments_inside-requires c =
     (omega (arith, held.0, few), omega (arith, held.1, few))
 
 pub returns : goal.returns
-returns c = rw (c.segments_inside.ensures, (yes3 (goal.at.returns c).Else-not-arena_holds (yes2 (goal.at.returns c).Else-not-segment_areas_hold)))
+returns c =
+    let at = goal.at.returns c in
+    rw (c.segments_inside.ensures, (yes3 at.Else-not-arena_holds (yes2 at.Else-not-segment_areas_hold)))

@@ -1,13 +1,11 @@
 -- `put_decimal_before` meets its contract: the digits end the array that it writes from. Assumes nothing.
-use mathlib.Core.Path.{◌≡◌, sym, ap, ◌∙◌}
-use mathlib.Core.List.{List}
-use Prim.Native.Nat.{ℕ, ◌-◌, ◌≤◌}
+use mathlib.Core.Path.{◌≡◌, ap, ◌∙◌}
+use Prim.Native.Nat.{◌-◌}
 use native.Mathlib.Omega.{arith}
 use lib.ListN.{length, drop, take, length-drop}
 use lib.Seq.{take_all}
-use Rattle.texts.specs.Output.{Output, appended, decimal_text, ended_before}
+use Rattle.texts.specs.Output.{Output, decimal_text}
 use Rattle.texts.proofs.Spelling.{ended_in, ended_out}
-use borrow.Author.Rules.{rules}
 use Rattle.texts.proofs.output.put_decimal_before.Goals as goal
 
 pub returns-then-end-len : goal.returns-then-end-len

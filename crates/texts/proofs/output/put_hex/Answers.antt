@@ -1,7 +1,6 @@
 -- `put_hex` meets its contract: two digits to a byte. Assumes nothing.
 use native.Mathlib.Omega.{arith}
 use Rattle.texts.proofs.Spelling.{hex_length_law, appended_in, appended_out}
-use borrow.Author.Rules.{rules}
 use Rattle.texts.proofs.output.put_hex.Goals as goal
 
 pub returns-then-out-at : goal.returns-then-out-at

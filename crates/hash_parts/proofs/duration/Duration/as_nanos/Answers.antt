@@ -1,5 +1,5 @@
 -- `as_nanos` meets its contract: the seconds' product has two words, and the nanoseconds may carry. Assumes nothing.
-use Rattle.std.proofs.Common.{◌^◌, ◌<◌, arith, rules}
+use Rattle.std.proofs.Common.{◌^◌, ◌<◌, arith}
 use Rattle.hash_parts.proofs.Deadlines.{Summed, carry_fits, nanos_kept, nanos_carried}
 use Rattle.hash_parts.proofs.duration.Duration.as_nanos.Goals as goal
 use Rattle.hash_parts.proofs.duration.Duration.as_nanos.Goals.{After-wrapping_add_u64-low, Start}

@@ -1,5 +1,5 @@
 -- `areas_hold` meets its contract. Assumes nothing.
-use Rattle.std.proofs.Common.{◌*◌, ◌<◌, ◌≤◌, arith, rules, le-leb}
+use Rattle.std.proofs.Common.{◌*◌, ◌<◌, ◌≤◌, arith, le-leb}
 use borrow.Author.Tests.{lt-leb}
 use Rattle.sets.specs.Build.{areas_hold_builder}
 use Rattle.sets.proofs.Said.{said_no, said_yes}

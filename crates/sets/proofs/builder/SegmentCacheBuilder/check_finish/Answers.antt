@@ -1,5 +1,5 @@
 -- `check_finish` meets its contract: after each question that is answered yes those after it are left. Assumes nothing.
-use Rattle.std.proofs.Common.{ℕ, take, sym, ◌∙◌, rules, eq-eqb, ne_eqb}
+use Rattle.std.proofs.Common.{ℕ, take, sym, ◌∙◌, eq-eqb, ne_eqb}
 use Rattle.sets.specs.Build.{ask_finish}
 use Rattle.sets.specs.Questions.{first_no}
 use Rattle.sets.proofs.Said.{Past, said_no, said_yes}
@@ -62,24 +62,36 @@ returns-then-not-areas_hold c = rw (said_no c.areas_hold.ensures c.if-not-areas_
 
 pub returns-then-not-segment_areas_hold : goal.returns-then-not-segment_areas_hold
 unfolding ask_finish
-returns-then-not-segment_areas_hold c = sym ((yes1 (goal.at.returns-then-not-segment_areas_hold c).Else-not-areas_hold) ∙ rw (said_no c.segment_areas_hold.ensures c.if-not-segment_areas_hold.true))
+returns-then-not-segment_areas_hold c =
+    let at = goal.at.returns-then-not-segment_areas_hold c in
+    sym ((yes1 at.Else-not-areas_hold) ∙ rw (said_no c.segment_areas_hold.ensures c.if-not-segment_areas_hold.true))
 
 pub returns-then-self : goal.returns-then-self
 unfolding ask_finish
-returns-then-self c = sym ((yes2 (goal.at.returns-then-self c).Else-not-segment_areas_hold (yes1 (goal.at.returns-then-self c).Else-not-areas_hold)) ∙ rw (ne_eqb _ _ c.if-self.true))
+returns-then-self c =
+    let at = goal.at.returns-then-self c in
+    sym ((yes2 at.Else-not-segment_areas_hold (yes1 at.Else-not-areas_hold)) ∙ rw (ne_eqb _ _ c.if-self.true))
 
 pub returns-then-not-target_fits : goal.returns-then-not-target_fits
 unfolding ask_finish
-returns-then-not-target_fits c = sym ((yes3 (goal.at.returns-then-not-target_fits c).Else-self (yes2 (goal.at.returns-then-not-target_fits c).Else-not-segment_areas_hold (yes1 (goal.at.returns-then-not-target_fits c).Else-not-areas_hold))) ∙ rw (said_no c.target_fits.ensures c.if-not-target_fits.true))
+returns-then-not-target_fits c =
+    let at = goal.at.returns-then-not-target_fits c in
+    sym ((yes3 at.Else-self (yes2 at.Else-not-segment_areas_hold (yes1 at.Else-not-areas_hold))) ∙ rw (said_no c.target_fits.ensures c.if-not-target_fits.true))
 
 pub returns-then-not-scratch_holds : goal.returns-then-not-scratch_holds
 unfolding ask_finish
-returns-then-not-scratch_holds c = sym ((yes4 (goal.at.returns-then-not-scratch_holds c).Else-not-target_fits (yes3 (goal.at.returns-then-not-scratch_holds c).Else-self (yes2 (goal.at.returns-then-not-scratch_holds c).Else-not-segment_areas_hold (yes1 (goal.at.returns-then-not-scratch_holds c).Else-not-areas_hold)))) ∙ rw (said_no c.scratch_holds.ensures c.if-not-scratch_holds.true))
+returns-then-not-scratch_holds c =
+    let at = goal.at.returns-then-not-scratch_holds c in
+    sym ((yes4 at.Else-not-target_fits (yes3 at.Else-self (yes2 at.Else-not-segment_areas_hold (yes1 at.Else-not-areas_hold)))) ∙ rw (said_no c.scratch_holds.ensures c.if-not-scratch_holds.true))
 
 pub returns-then-not-locations_inside : goal.returns-then-not-locations_inside
 unfolding ask_finish
-returns-then-not-locations_inside c = sym ((yes5 (goal.at.returns-then-not-locations_inside c).Else-not-scratch_holds (yes4 (goal.at.returns-then-not-locations_inside c).Else-not-target_fits (yes3 (goal.at.returns-then-not-locations_inside c).Else-self (yes2 (goal.at.returns-then-not-locations_inside c).Else-not-segment_areas_hold (yes1 (goal.at.returns-then-not-locations_inside c).Else-not-areas_hold))))) ∙ rw (said_no c.locations_inside.ensures c.if-not-locations_inside.true))
+returns-then-not-locations_inside c =
+    let at = goal.at.returns-then-not-locations_inside c in
+    sym ((yes5 at.Else-not-scratch_holds (yes4 at.Else-not-target_fits (yes3 at.Else-self (yes2 at.Else-not-segment_areas_hold (yes1 at.Else-not-areas_hold))))) ∙ rw (said_no c.locations_inside.ensures c.if-not-locations_inside.true))
 
 pub returns : goal.returns
 unfolding ask_finish
-returns c = sym ((yes5 (goal.at.returns c).Else-not-scratch_holds (yes4 (goal.at.returns c).Else-not-target_fits (yes3 (goal.at.returns c).Else-self (yes2 (goal.at.returns c).Else-not-segment_areas_hold (yes1 (goal.at.returns c).Else-not-areas_hold))))) ∙ rw (said_yes c.locations_inside.ensures c.if-not-locations_inside.false))
+returns c =
+    let at = goal.at.returns c in
+    sym ((yes5 at.Else-not-scratch_holds (yes4 at.Else-not-target_fits (yes3 at.Else-self (yes2 at.Else-not-segment_areas_hold (yes1 at.Else-not-areas_hold))))) ∙ rw (said_yes c.locations_inside.ensures c.if-not-locations_inside.false))

@@ -1,5 +1,5 @@
 -- `finish` meets its contract. Assumes nothing.
-use Rattle.std.proofs.Common.{◌≡◌, ℕ, sym, ap, ◌∙◌, rules}
+use Rattle.std.proofs.Common.{◌≡◌, ℕ, sym, ap, ◌∙◌}
 use Rattle.index.specs.Segments.{split, split_result}
 use Rattle.index.specs.declared.segments.SplitAnswer.{SplitAnswer}
 use Rattle.sets.specs.Questions.{check_number}
@@ -43,17 +43,20 @@ returns-in-Refused c =
 
 pub into_cache-requires : goal.into_cache-requires
 into_cache-requires c =
-    (finish_asked _ _ _ _ _ _ _ ((yes (goal.at.into_cache-requires c).In_default (answered (goal.at.into_cache-requires c).After-check_finish)))).areas.numbers.inside
+    let at = goal.at.into_cache-requires c in
+    (finish_asked _ _ _ _ _ _ _ ((yes at.In_default (answered at.After-check_finish)))).areas.numbers.inside
 
 pub returns-in-Refused-split_record_segments : goal.returns-in-Refused-split_record_segments
 returns-in-Refused-split_record_segments c =
+    let at = goal.at.returns-in-Refused-split_record_segments c in
     let w = c.split_record_segments in
-    let split_it = ap (λ (r : SplitAnswer). split_result r w.new.index w.new.starts w.new.lengths) (sym c.in-Refused-split_record_segments.is) ∙ (splits (goal.at.returns-in-Refused-split_record_segments c).After-split_record_segments) in
-    split_refused _ _ _ _ _ (c.before.before.before.before.before.before).args.scratch.now _ _ _ _ c.in-Refused-split_record_segments.refusal ((yes (goal.at.returns-in-Refused-split_record_segments c).In_default (answered (goal.at.returns-in-Refused-split_record_segments c).After-check_finish))) split_it
+    let split_it = ap (λ (r : SplitAnswer). split_result r w.new.index w.new.starts w.new.lengths) (sym c.in-Refused-split_record_segments.is) ∙ (splits at.After-split_record_segments) in
+    split_refused _ _ _ _ _ (c.before.before.before.before.before.before).args.scratch.now _ _ _ _ c.in-Refused-split_record_segments.refusal ((yes at.In_default (answered at.After-check_finish))) split_it
 
 pub returns-in-Segments : goal.returns-in-Segments
 returns-in-Segments c =
+    let at = goal.at.returns-in-Segments c in
     let w = c.split_record_segments in
-    let split_it = ap (λ (r : SplitAnswer). split_result r w.new.index w.new.starts w.new.lengths) (sym c.in-Segments.is) ∙ (splits (goal.at.returns-in-Segments c).After-split_record_segments) in
+    let split_it = ap (λ (r : SplitAnswer). split_result r w.new.index w.new.starts w.new.lengths) (sym c.in-Segments.is) ∙ (splits at.After-split_record_segments) in
     let p = c.pack_index.ensures in
-    split_made _ _ _ _ _ _ _ _ _ _ c.in-Segments.segments _ _ _ ((yes (goal.at.returns-in-Segments c).In_default (answered (goal.at.returns-in-Segments c).After-check_finish))) split_it c.into_cache.ensures p.0 p.1
+    split_made _ _ _ _ _ _ _ _ _ _ c.in-Segments.segments _ _ _ ((yes at.In_default (answered at.After-check_finish))) split_it c.into_cache.ensures p.0 p.1

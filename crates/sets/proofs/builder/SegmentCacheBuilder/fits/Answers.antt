@@ -1,9 +1,8 @@
 -- `fits` meets its contract. Assumes nothing.
-use Rattle.std.proofs.Common.{◌≡◌, ◌+◌, ◌-◌, ◌*◌, ◌^◌, ◌≤◌, true, leb, [], ◌∷◌, sym, ◌∙◌, arith, rules, le-leb, leb-true}
+use Rattle.std.proofs.Common.{◌≡◌, ◌+◌, ◌-◌, ◌*◌, ◌^◌, ◌≤◌, true, leb, [], ◌∷◌, sym, ◌∙◌, arith, le-leb, leb-true}
 use borrow.Author.Tests.{lt-leb}
 use Rattle.sets.specs.Build.{builder_fits}
 use Rattle.sets.specs.Questions.{all, bytes_fit, counts_fit}
-use Rattle.sets.specs.declared.builder.SegmentCacheBuilder.{SegmentCacheBuilder}
 use Rattle.sets.proofs.Counts.{counts_records}
 use Rattle.sets.proofs.Said.{said_no, said_yes}
 use Rattle.sets.proofs.builder.SegmentCacheBuilder.fits.Goals as goal
@@ -67,23 +66,35 @@ bytes_fit-requires c = (few c (counted (goal.at.bytes_fit-requires c).Else-not-c
 pub returns-then-not-bytes_fit : goal.returns-then-not-bytes_fit
 unfolding builder_fits
 returns-then-not-bytes_fit c =
-    rw ((counted (goal.at.returns-then-not-bytes_fit c).Else-not-counts_fit), le-leb _ _ c.if-inserted-self.false, said_no c.bytes_fit.ensures c.if-not-bytes_fit.true)
+    let at = goal.at.returns-then-not-bytes_fit c in
+    rw ((counted at.Else-not-counts_fit), le-leb _ _ c.if-inserted-self.false, said_no c.bytes_fit.ensures c.if-not-bytes_fit.true)
 
 pub bytes_fit-requires-2 : goal.bytes_fit-requires-2
-bytes_fit-requires-2 c = (few (goal.at.bytes_fit-requires-2 c).Else-inserted-self (counted (goal.at.bytes_fit-requires-2 c).Else-not-counts_fit))
+bytes_fit-requires-2 c =
+    let at = goal.at.bytes_fit-requires-2 c in
+    (few at.Else-inserted-self (counted at.Else-not-counts_fit))
 
 pub returns-then-not-bytes_fit-2 : goal.returns-then-not-bytes_fit-2
-returns-then-not-bytes_fit-2 c = sym ((yes3 (goal.at.returns-then-not-bytes_fit-2 c).Else-not-bytes_fit (counted (goal.at.returns-then-not-bytes_fit-2 c).Else-not-counts_fit)) ∙ rw (said_no c.bytes_fit-2.ensures c.if-not-bytes_fit-2.true))
+returns-then-not-bytes_fit-2 c =
+    let at = goal.at.returns-then-not-bytes_fit-2 c in
+    sym ((yes3 at.Else-not-bytes_fit (counted at.Else-not-counts_fit)) ∙ rw (said_no c.bytes_fit-2.ensures c.if-not-bytes_fit-2.true))
 
 pub overflow_add-keys : goal.overflow_add-keys
-overflow_add-keys c = omega (arith, (few (goal.at.overflow_add-keys c).Else-inserted-self (counted (goal.at.overflow_add-keys c).Else-not-counts_fit)), (keys (goal.at.overflow_add-keys c).Else-not-bytes_fit), (values c))
+overflow_add-keys c =
+    let at = goal.at.overflow_add-keys c in
+    omega (arith, (few at.Else-inserted-self (counted at.Else-not-counts_fit)), (keys at.Else-not-bytes_fit), (values c))
 
 pub returns-then-keys-values : goal.returns-then-keys-values
-returns-then-keys-values c = sym ((yes4 (goal.at.returns-then-keys-values c).Else-not-bytes_fit-2 (yes3 (goal.at.returns-then-keys-values c).Else-not-bytes_fit (counted (goal.at.returns-then-keys-values c).Else-not-counts_fit))) ∙ rw (lt-leb _ _ c.if-keys-values.true))
+returns-then-keys-values c =
+    let at = goal.at.returns-then-keys-values c in
+    sym ((yes4 at.Else-not-bytes_fit-2 (yes3 at.Else-not-bytes_fit (counted at.Else-not-counts_fit))) ∙ rw (lt-leb _ _ c.if-keys-values.true))
 
 pub bytes_fit-requires-3 : goal.bytes_fit-requires-3
-bytes_fit-requires-3 c = (few (goal.at.bytes_fit-requires-3 c).Else-inserted-self (counted (goal.at.bytes_fit-requires-3 c).Else-not-counts_fit))
+bytes_fit-requires-3 c =
+    let at = goal.at.bytes_fit-requires-3 c in
+    (few at.Else-inserted-self (counted at.Else-not-counts_fit))
 
 pub returns : goal.returns
 returns c =
-    c.bytes_fit-3.ensures ∙ sym ((yes4 (goal.at.returns c).Else-not-bytes_fit-2 (yes3 (goal.at.returns c).Else-not-bytes_fit (counted (goal.at.returns c).Else-not-counts_fit))) ∙ rw (le-leb _ _ c.if-keys-values.false))
+    let at = goal.at.returns c in
+    c.bytes_fit-3.ensures ∙ sym ((yes4 at.Else-not-bytes_fit-2 (yes3 at.Else-not-bytes_fit (counted at.Else-not-counts_fit))) ∙ rw (le-leb _ _ c.if-keys-values.false))

@@ -1,5 +1,5 @@
 -- `plan_push` meets its contract: after each question that is answered yes those after it are left. Assumes nothing.
-use Rattle.std.proofs.Common.{◌≡◌, ℕ, ◌≤◌, true, length, sym, ap, ◌∙◌, length-take-le, rules, le-ltb, lt-ltb, le-leb}
+use Rattle.std.proofs.Common.{◌≡◌, ℕ, ◌≤◌, true, length, sym, ap, ◌∙◌, length-take-le, le-ltb, lt-ltb, le-leb}
 use borrow.Author.Tests.{lt-leb}
 use Rattle.index.specs.Build.{slot_outcome}
 use Rattle.sets.specs.Build.{areas_hold_builder, ask_push, deadline_for, push_slot}
@@ -79,31 +79,41 @@ returns-then-filter_len-self c = sym ((yes1 (goal.at.returns-then-filter_len-sel
 
 pub returns-then-not-lifetime_fits : goal.returns-then-not-lifetime_fits
 unfolding plan_push ask_push plan_record ask_record
-returns-then-not-lifetime_fits c = sym ((yes2 (goal.at.returns-then-not-lifetime_fits c).Else-filter_len-self (yes1 (goal.at.returns-then-not-lifetime_fits c).Else-not-areas_hold)) ∙ rw (said_no c.lifetime_fits.ensures c.if-not-lifetime_fits.true))
+returns-then-not-lifetime_fits c =
+    let at = goal.at.returns-then-not-lifetime_fits c in
+    sym ((yes2 at.Else-filter_len-self (yes1 at.Else-not-areas_hold)) ∙ rw (said_no c.lifetime_fits.ensures c.if-not-lifetime_fits.true))
 
 pub returns-then-self : goal.returns-then-self
 unfolding plan_push ask_push plan_record ask_record
 returns-then-self c =
+    let at = goal.at.returns-then-self c in
     let self = c.args.self in
-    sym ((yes3 (goal.at.returns-then-self c).Else-not-lifetime_fits (yes2 (goal.at.returns-then-self c).Else-filter_len-self (yes1 (goal.at.returns-then-self c).Else-not-areas_hold))) ∙ rw (le-ltb self.inserted_entries self.expected_entries c.if-self.true))
+    sym ((yes3 at.Else-not-lifetime_fits (yes2 at.Else-filter_len-self (yes1 at.Else-not-areas_hold))) ∙ rw (le-ltb self.inserted_entries self.expected_entries c.if-self.true))
 
 pub slice_bounds-find_build_slot-end : goal.slice_bounds-find_build_slot-end
-slice_bounds-find_build_slot-end c = sym (length-take-le _ _ ((filled (goal.at.slice_bounds-find_build_slot-end c).Else-self (held (goal.at.slice_bounds-find_build_slot-end c).Else-not-areas_hold))))
+slice_bounds-find_build_slot-end c =
+    let at = goal.at.slice_bounds-find_build_slot-end c in
+    sym (length-take-le _ _ ((filled at.Else-self (held at.Else-not-areas_hold))))
 
 pub plan_record-requires : goal.plan_record-requires
-plan_record-requires c = (filled (goal.at.plan_record-requires c).Else-self (held (goal.at.plan_record-requires c).Else-not-areas_hold))
+plan_record-requires c =
+    let at = goal.at.plan_record-requires c in
+    (filled at.Else-self (held at.Else-not-areas_hold))
 
 pub returns-in-Duplicate : goal.returns-in-Duplicate
 unfolding plan_push ask_push plan_record ask_record
 returns-in-Duplicate c =
-    sym ((yes4 (goal.at.returns-in-Duplicate c).Else-self (yes3 (goal.at.returns-in-Duplicate c).Else-not-lifetime_fits (yes2 (goal.at.returns-in-Duplicate c).Else-filter_len-self (yes1 (goal.at.returns-in-Duplicate c).Else-not-areas_hold)))) ∙ rw ((found (goal.at.returns-in-Duplicate c).After-find_build_slot) ∙ ap slot_outcome c.in-Duplicate.is))
+    let at = goal.at.returns-in-Duplicate c in
+    sym ((yes4 at.Else-self (yes3 at.Else-not-lifetime_fits (yes2 at.Else-filter_len-self (yes1 at.Else-not-areas_hold)))) ∙ rw ((found at.After-find_build_slot) ∙ ap slot_outcome c.in-Duplicate.is))
 
 pub returns-in-Full : goal.returns-in-Full
 unfolding plan_push ask_push plan_record ask_record
 returns-in-Full c =
-    sym ((yes4 (goal.at.returns-in-Full c).Else-self (yes3 (goal.at.returns-in-Full c).Else-not-lifetime_fits (yes2 (goal.at.returns-in-Full c).Else-filter_len-self (yes1 (goal.at.returns-in-Full c).Else-not-areas_hold)))) ∙ rw ((found (goal.at.returns-in-Full c).After-find_build_slot) ∙ ap slot_outcome c.in-Full.is))
+    let at = goal.at.returns-in-Full c in
+    sym ((yes4 at.Else-self (yes3 at.Else-not-lifetime_fits (yes2 at.Else-filter_len-self (yes1 at.Else-not-areas_hold)))) ∙ rw ((found at.After-find_build_slot) ∙ ap slot_outcome c.in-Full.is))
 
 pub returns-in-Empty : goal.returns-in-Empty
 unfolding plan_push ask_push plan_record ask_record
 returns-in-Empty c =
-    sym ((yes4 (goal.at.returns-in-Empty c).Else-self (yes3 (goal.at.returns-in-Empty c).Else-not-lifetime_fits (yes2 (goal.at.returns-in-Empty c).Else-filter_len-self (yes1 (goal.at.returns-in-Empty c).Else-not-areas_hold)))) ∙ rw ((found (goal.at.returns-in-Empty c).After-find_build_slot) ∙ ap slot_outcome c.in-Empty.is) (rest c))
+    let at = goal.at.returns-in-Empty c in
+    sym ((yes4 at.Else-self (yes3 at.Else-not-lifetime_fits (yes2 at.Else-filter_len-self (yes1 at.Else-not-areas_hold)))) ∙ rw ((found at.After-find_build_slot) ∙ ap slot_outcome c.in-Empty.is) (rest c))

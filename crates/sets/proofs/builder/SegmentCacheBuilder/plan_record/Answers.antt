@@ -1,5 +1,5 @@
 -- `plan_record` meets its contract. Assumes nothing.
-use Rattle.std.proofs.Common.{◌≡◌, ◌-◌, leb, sym, ap, ◌∙◌, rules}
+use Rattle.std.proofs.Common.{◌≡◌, ◌-◌, leb, sym, ap, ◌∙◌}
 use Rattle.hash_parts.specs.Duration.{expiry_outcome}
 use Rattle.records.specs.Record.{record_size}
 use Rattle.sets.specs.Build.{push_end}

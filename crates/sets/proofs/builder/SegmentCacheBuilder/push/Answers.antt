@@ -1,5 +1,5 @@
 -- `push` meets its contract. Assumes nothing.
-use Rattle.std.proofs.Common.{◌≡◌, ℕ, ◌≤◌, length, sym, ap, ◌∙◌, arith, rules}
+use Rattle.std.proofs.Common.{◌≡◌, ℕ, ◌≤◌, length, sym, ap, ◌∙◌, arith}
 use Rattle.hash_parts.specs.Error.{error_number}
 use Rattle.index.specs.declared.build.BuildSlot.TheVariants.{Empty}
 use Rattle.sets.specs.Build.{after_push, ask_push, deadline_for, push_slot}

@@ -1,5 +1,5 @@
 -- `push_at` meets its contract. Assumes nothing.
-use Rattle.std.proofs.Common.{◌≡◌, ℕ, ◌-◌, length, ap, ◌∙◌, arith, rules}
+use Rattle.std.proofs.Common.{◌≡◌, ℕ, ◌-◌, length, ap, ◌∙◌, arith}
 use borrow.Rule.Slice.PartMut.{put_mid}
 use Rattle.records.specs.Area.{pasted}
 use Rattle.records.specs.Record.{record_bytes, record_size}
@@ -20,15 +20,17 @@ wrote c =
 
 pub grown-requires : goal.grown-requires
 grown-requires c =
+    let at = goal.at.grown-requires c in
     let a = c.args in
     let pre = c.requires in
     let holds = size_holds a.self.config.expiry (length a.key.now) (length a.value.now) in
-    (pre.3, omega (arith, (wrote (goal.at.grown-requires c).After-append_record-size).0, pre.0, pre.1), pre.4, pre.5, omega (arith, (wrote (goal.at.grown-requires c).After-append_record-size).0, holds))
+    (pre.3, omega (arith, (wrote at.After-append_record-size).0, pre.0, pre.1), pre.4, pre.5, omega (arith, (wrote at.After-append_record-size).0, holds))
 
 pub returns : goal.returns
 returns c =
+    let at = goal.at.returns c in
     let a = c.args in
     let tag = ap (λ (t : ℕ). word_of t a.self.filled) c.hash_tag.ensures in
     let word = c.encode_index_word.ensures ∙ tag in
     push_left_law a.slot a.expires_at a.self a.hash a.key.now a.value.now a.index.now a.filter.now a.arena.now
-    c.append_record-size.result c.grown.result _ _ _ (wrote (goal.at.returns c).After-append_record-size).0 (wrote (goal.at.returns c).After-append_record-size).1 c.grown.ensures word c.mark_displaced.ensures
+    c.append_record-size.result c.grown.result _ _ _ (wrote at.After-append_record-size).0 (wrote at.After-append_record-size).1 c.grown.ensures word c.mark_displaced.ensures

@@ -1,5 +1,5 @@
 -- `try_new` meets its contract. Assumes nothing.
-use Rattle.std.proofs.Common.{◌≡◌, length, sym, ap, ◌∙◌, arith, rules}
+use Rattle.std.proofs.Common.{◌≡◌, length, sym, ap, ◌∙◌, arith}
 use Rattle.sets.specs.Build.{after_open}
 use Rattle.sets.specs.Questions.{ask_open, buckets_in, check_number, first_no}
 use Rattle.sets.specs.declared.builder.SegmentCacheBuilder.{SegmentCacheBuilder}
@@ -34,10 +34,11 @@ opened_builder-builder-requires c = counts_records _ _ _ _ ((asked c (answered (
 
 pub overflow_mul-builder : goal.overflow_mul-builder
 overflow_mul-builder c =
+    let at = goal.at.overflow_mul-builder c in
     let s = c.before.before.before in
     let a = s.args in
     let n : c.opened_builder-builder.result.bucket_count ≡ buckets_in a.config a.entry_count = ap (λ (b : SegmentCacheBuilder). b.bucket_count) c.opened_builder-builder.ensures in
-    omega (arith, n, ((asked (goal.at.overflow_mul-builder c).In_default (answered (goal.at.overflow_mul-builder c).After-check_open))).index_holds, s.well_formed.1.1.0.1)
+    omega (arith, n, ((asked at.In_default (answered at.After-check_open))).index_holds, s.well_formed.1.1.0.1)
 
 pub returns : goal.returns
 unfolding after_open

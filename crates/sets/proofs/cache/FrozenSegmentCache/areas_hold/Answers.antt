@@ -1,5 +1,5 @@
 -- `areas_hold` meets its contract. Assumes nothing.
-use Rattle.std.proofs.Common.{◌≡◌, ◌*◌, ◌<◌, ◌≤◌, [], ◌∷◌, sym, ◌∙◌, arith, rules, le-leb}
+use Rattle.std.proofs.Common.{◌≡◌, ◌*◌, ◌<◌, ◌≤◌, [], ◌∷◌, sym, ◌∙◌, arith, le-leb}
 use borrow.Author.Tests.{lt-leb}
 use Rattle.sets.specs.Lookup.{areas_hold_set}
 use Rattle.sets.specs.Questions.{all, arena_holds, segment_areas_hold}
@@ -29,7 +29,9 @@ returns-then-index_len-self c =
     rw (said_yes c.fits.ensures c.if-not-fits.false, lt-leb _ _ short)
 
 pub returns-then-not-segment_areas_hold : goal.returns-then-not-segment_areas_hold
-returns-then-not-segment_areas_hold c = sym ((yes2 (goal.at.returns-then-not-segment_areas_hold c).Else-index_len-self) ∙ rw (said_no c.segment_areas_hold.ensures c.if-not-segment_areas_hold.true))
+returns-then-not-segment_areas_hold c =
+    let at = goal.at.returns-then-not-segment_areas_hold c in
+    sym ((yes2 at.Else-index_len-self) ∙ rw (said_no c.segment_areas_hold.ensures c.if-not-segment_areas_hold.true))
 
 pub returns : goal.returns
 returns c =

@@ -1,5 +1,5 @@
 -- `find` meets its contract. Assumes nothing.
-use Rattle.std.proofs.Common.{◌∙◌, rules}
+use Rattle.std.proofs.Common.{◌∙◌}
 use Rattle.sets.proofs.cache.FrozenSegmentCache.find.Goals as goal
 
 pub returns : goal.returns

@@ -1,5 +1,5 @@
 -- `get_at_tick` meets its contract. Assumes nothing.
-use Rattle.std.proofs.Common.{◌≡◌, sym, ◌∙◌, rules}
+use Rattle.std.proofs.Common.{◌≡◌, sym, ◌∙◌}
 use Rattle.sets.specs.Lookup.{after_get, ask_lookup, find_of}
 use Rattle.sets.proofs.Said.{said_no, said_yes}
 use Rattle.sets.proofs.Finding.{Held, got, lookup_slot}
@@ -20,13 +20,16 @@ returns-then-not-lookup_areas_hold c = rw (said_no c.lookup_areas_hold.ensures c
 pub returns-in_default : goal.returns-in_default
 unfolding after_get ask_lookup
 returns-in_default c =
-    rw ((held (goal.at.returns-in_default c).Else-not-lookup_areas_hold), (found (goal.at.returns-in_default c).After-find-answer) ∙ c.in_default.is)
+    let at = goal.at.returns-in_default c in
+    rw ((held at.Else-not-lookup_areas_hold), (found at.After-find-answer) ∙ c.in_default.is)
 
 pub mark_live-requires : goal.mark_live-requires
 mark_live-requires c =
-    lookup_slot _ _ _ _ _ _ _ _ _ (c.before.before).ranges.hash.fits (held (goal.at.mark_live-requires c).Else-not-lookup_areas_hold) ((found (goal.at.mark_live-requires c).After-find-answer) ∙ c.in-Found.is)
+    let at = goal.at.mark_live-requires c in
+    lookup_slot _ _ _ _ _ _ _ _ _ (c.before.before).ranges.hash.fits (held at.Else-not-lookup_areas_hold) ((found at.After-find-answer) ∙ c.in-Found.is)
 
 pub returns : goal.returns
 unfolding after_get ask_lookup
 returns c =
-    rw ((held (goal.at.returns c).Else-not-lookup_areas_hold), (found (goal.at.returns c).After-find-answer) ∙ c.in-Found.is) (got c.live_value.ensures c.mark_live.ensures)
+    let at = goal.at.returns c in
+    rw ((held at.Else-not-lookup_areas_hold), (found at.After-find-answer) ∙ c.in-Found.is) (got c.live_value.ensures c.mark_live.ensures)

@@ -1,7 +1,6 @@
 -- `lookup_areas_hold` meets its contract. Assumes nothing.
 use Rattle.sets.proofs.Said.{said_no, said_yes}
 use Rattle.sets.specs.Lookup.{areas_hold_lookup}
-use Rattle.std.proofs.Common.{rules}
 use Rattle.sets.proofs.cache.FrozenSegmentCache.lookup_areas_hold.Goals as goal
 
 pub returns-then-not-areas_hold : goal.returns-then-not-areas_hold

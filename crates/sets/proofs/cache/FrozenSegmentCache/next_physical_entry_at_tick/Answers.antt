@@ -1,5 +1,5 @@
 -- `next_physical_entry_at_tick` meets its contract. Assumes nothing.
-use Rattle.std.proofs.Common.{◌≡◌, true, length, sym, refl, ◌∙◌, rules}
+use Rattle.std.proofs.Common.{◌≡◌, true, length, sym, refl, ◌∙◌}
 use Rattle.index.specs.View.{record_in}
 use Rattle.sets.specs.Lookup.{areas_hold_set, ask_walk, next_entry, view_of, walk_answer}
 use Rattle.sets.proofs.Said.{said_no, said_yes}
@@ -27,9 +27,11 @@ next_entry-next-requires c = set_index _ _ _ _ _ (held (goal.at.next_entry-next-
 pub returns-in_default : goal.returns-in_default
 unfolding walk_answer ask_walk
 returns-in_default c =
-    (rw ((held (goal.at.returns-in_default c).Else-not-areas_hold), (walked (goal.at.returns-in_default c).After-next_entry-next) ∙ c.in_default.is), refl)
+    let at = goal.at.returns-in_default c in
+    (rw ((held at.Else-not-areas_hold), (walked at.After-next_entry-next) ∙ c.in_default.is), refl)
 
 pub returns : goal.returns
 unfolding walk_answer ask_walk
 returns c =
-    (rw ((held (goal.at.returns c).Else-not-areas_hold), (walked (goal.at.returns c).After-next_entry-next) ∙ c.in-Found.is, c.base_record.ensures), refl)
+    let at = goal.at.returns c in
+    (rw ((held at.Else-not-areas_hold), (walked at.After-next_entry-next) ∙ c.in-Found.is, c.base_record.ensures), refl)

@@ -1,5 +1,5 @@
 -- `probe_hashed_at_tick` meets its contract. Assumes nothing.
-use Rattle.std.proofs.Common.{◌≡◌, sym, refl, ◌∙◌, rules}
+use Rattle.std.proofs.Common.{◌≡◌, sym, refl, ◌∙◌}
 use Rattle.sets.specs.Lookup.{ask_lookup, find_of, probe_answer}
 use Rattle.sets.proofs.Said.{said_no, said_yes}
 use Rattle.sets.proofs.Finding.{Held}
@@ -20,9 +20,11 @@ returns-then-not-lookup_areas_hold c = (rw (said_no c.lookup_areas_hold.ensures 
 pub returns-in_default : goal.returns-in_default
 unfolding probe_answer ask_lookup
 returns-in_default c =
-    (rw ((held (goal.at.returns-in_default c).Else-not-lookup_areas_hold), (found (goal.at.returns-in_default c).After-find-answer) ∙ c.in_default.is), refl)
+    let at = goal.at.returns-in_default c in
+    (rw ((held at.Else-not-lookup_areas_hold), (found at.After-find-answer) ∙ c.in_default.is), refl)
 
 pub returns : goal.returns
 unfolding probe_answer ask_lookup
 returns c =
-    (rw ((held (goal.at.returns c).Else-not-lookup_areas_hold), (found (goal.at.returns c).After-find-answer) ∙ c.in-Found.is, c.base_record.ensures), refl)
+    let at = goal.at.returns c in
+    (rw ((held at.Else-not-lookup_areas_hold), (found at.After-find-answer) ∙ c.in-Found.is, c.base_record.ensures), refl)

@@ -1,5 +1,5 @@
 -- `stats` meets its contract. Assumes nothing.
-use Rattle.std.proofs.Common.{◌<◌, ◌≤◌, ap, arith, rules}
+use Rattle.std.proofs.Common.{◌<◌, ◌≤◌, ap, arith}
 use Rattle.sets.specs.declared.stats.SegmentCacheStats.{SegmentCacheStats}
 use Rattle.sets.specs.Answers.{accept}
 use Rattle.sets.specs.Lookup.{ask_stats, stats_answer}

@@ -1,5 +1,5 @@
 -- `take_accessed` meets its contract. Assumes nothing.
-use Rattle.std.proofs.Common.{◌≡◌, Bool, sym, ap, ◌∙◌, rules}
+use Rattle.std.proofs.Common.{◌≡◌, Bool, sym, ap, ◌∙◌}
 use Rattle.sets.specs.Answers.{accept}
 use Rattle.sets.specs.Lookup.{after_take, ask_lookup, find_of}
 use Rattle.sets.proofs.Said.{said_no, said_yes}
@@ -21,14 +21,17 @@ returns-then-not-lookup_areas_hold c = rw (said_no c.lookup_areas_hold.ensures c
 pub returns-in_default : goal.returns-in_default
 unfolding after_take ask_lookup
 returns-in_default c =
-    rw ((held (goal.at.returns-in_default c).Else-not-lookup_areas_hold), (found (goal.at.returns-in_default c).After-find-answer) ∙ c.in_default.is)
+    let at = goal.at.returns-in_default c in
+    rw ((held at.Else-not-lookup_areas_hold), (found at.After-find-answer) ∙ c.in_default.is)
 
 pub clear_accessed-requires : goal.clear_accessed-requires
 clear_accessed-requires c =
-    lookup_slot _ _ _ _ _ _ _ _ _ (c.before.before).ranges.hash.fits (held (goal.at.clear_accessed-requires c).Else-not-lookup_areas_hold) ((found (goal.at.clear_accessed-requires c).After-find-answer) ∙ c.in-Found.is)
+    let at = goal.at.clear_accessed-requires c in
+    lookup_slot _ _ _ _ _ _ _ _ _ (c.before.before).ranges.hash.fits (held at.Else-not-lookup_areas_hold) ((found at.After-find-answer) ∙ c.in-Found.is)
 
 pub returns : goal.returns
 unfolding after_take ask_lookup
 returns c =
-    rw ((held (goal.at.returns c).Else-not-lookup_areas_hold), (found (goal.at.returns c).After-find-answer) ∙ c.in-Found.is)
+    let at = goal.at.returns c in
+    rw ((held at.Else-not-lookup_areas_hold), (found at.After-find-answer) ∙ c.in-Found.is)
     (taken (ap (λ (x : Bool). accept x) c.clear_accessed.ensures.0) c.clear_accessed.ensures.1)

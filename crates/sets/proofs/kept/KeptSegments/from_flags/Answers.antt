@@ -1,5 +1,5 @@
 -- `from_flags` meets its contract: four words of flags. Assumes nothing.
-use Rattle.std.proofs.Common.{◌≡◌, ℕ, List, rules}
+use Rattle.std.proofs.Common.{◌≡◌, ℕ, List}
 use Rattle.records.specs.Area.{part}
 use Rattle.sets.specs.Kept.{flag_word, kept_of}
 use Rattle.sets.specs.declared.kept.KeptSegments.{KeptSegments}

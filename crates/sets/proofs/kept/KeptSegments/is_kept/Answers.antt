@@ -1,5 +1,5 @@
 -- `is_kept` meets its contract: a segment's bit stands in the word of its 64 segments. Assumes nothing.
-use Rattle.std.proofs.Common.{ℕ, ◌%◌, false, get_or, ap, ◌∙◌, rules}
+use Rattle.std.proofs.Common.{ℕ, ◌%◌, false, get_or, ap, ◌∙◌}
 use Rattle.sets.specs.Kept.{bits_of}
 use Rattle.sets.proofs.KeptWords.{is_kept_bit}
 use Rattle.sets.proofs.kept.KeptSegments.is_kept.Goals as goal

@@ -1,5 +1,5 @@
 -- `kept_in_words` meets its contract: the words before one are counted. Assumes nothing.
-use Rattle.std.proofs.Common.{◌≡◌, ℕ, ◌+◌, ◌-◌, ◌*◌, ◌≤◌, get_or, take, sym, refl, ap, ◌∙◌, ap₂, mod-eq_of_lt, arith, rules}
+use Rattle.std.proofs.Common.{◌≡◌, ℕ, ◌+◌, ◌≤◌, get_or, sym, refl, ap, ◌∙◌, ap₂, mod-eq_of_lt, arith}
 use mathlib.Core.List.{flat_map}
 use lib.Count.{ones, ones-le}
 use Rattle.sets.specs.Kept.{bits_of, count_true, kept_words}

@@ -1,9 +1,7 @@
 -- What each turn of the loop keeps.
-use Rattle.std.proofs.Common.{◌≡◌, ℕ, ◌+◌, ◌-◌, ◌*◌, ◌≤◌, get_or, take, sym, refl, ap, ◌∙◌, ap₂, mod-eq_of_lt, arith, rules}
+use Rattle.std.proofs.Common.{◌≡◌, ◌-◌, ◌*◌, ◌≤◌, take}
 use mathlib.Core.List.{flat_map}
-use lib.Count.{ones, ones-le}
 use Rattle.sets.specs.Kept.{bits_of, count_true, kept_words}
-use Rattle.sets.proofs.KeptWords.{bits_ones, count_next_word}
 use Rattle.sets.proofs.kept.KeptSegments.kept_in_words.Given as goal
 
 abbrev pub invariant-loop-at : goal.invariant-loop-at

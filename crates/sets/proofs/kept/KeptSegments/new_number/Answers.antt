@@ -1,5 +1,5 @@
 -- `new_number` meets its contract: the set bits of the words before a segment's, and of its own before it. Assumes nothing.
-use Rattle.std.proofs.Common.{◌≡◌, ℕ, ◌+◌, ◌%◌, ap, ◌∙◌, ap₂, arith, rules}
+use Rattle.std.proofs.Common.{◌≡◌, ℕ, ◌+◌, ◌%◌, ap, ◌∙◌, ap₂, arith}
 use Rattle.sets.specs.Kept.{bits_of, count_true, new_number}
 use Rattle.sets.proofs.KeptWords.{new_number_256, new_number_sum}
 use Rattle.sets.proofs.kept.KeptSegments.new_number.Goals as goal

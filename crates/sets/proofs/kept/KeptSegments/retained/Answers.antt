@@ -1,5 +1,5 @@
 -- `retained` meets its contract: all words are counted. Assumes nothing.
-use Rattle.std.proofs.Common.{◌∙◌, rules}
+use Rattle.std.proofs.Common.{◌∙◌}
 use Rattle.sets.proofs.KeptWords.{retained_words}
 use Rattle.sets.proofs.kept.KeptSegments.retained.Goals as goal
 

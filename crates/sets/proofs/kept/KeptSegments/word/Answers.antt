@@ -1,5 +1,5 @@
 -- `word` meets its contract: there are four words. Assumes nothing.
-use Rattle.std.proofs.Common.{sym, arith, rules}
+use Rattle.std.proofs.Common.{sym, arith}
 use lib.ListN.{get_or-eq_default}
 use Rattle.sets.specs.Kept.{kept_words}
 use Rattle.sets.proofs.kept.KeptSegments.word.Goals as goal

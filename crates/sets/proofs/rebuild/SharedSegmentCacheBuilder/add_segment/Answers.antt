@@ -1,5 +1,5 @@
 -- `add_segment` meets its contract. Assumes nothing.
-use Rattle.std.proofs.Common.{◌<◌, sym, refl, ◌∙◌, arith, rules}
+use Rattle.std.proofs.Common.{◌<◌, sym, refl, ◌∙◌, arith}
 use Rattle.sets.proofs.RebuildSteps.{adds_below}
 use Rattle.sets.proofs.rebuild.SharedSegmentCacheBuilder.add_segment.Goals as goal
 use Rattle.sets.proofs.rebuild.SharedSegmentCacheBuilder.add_segment.Goals.{After-retained-last}

@@ -1,5 +1,5 @@
 -- `adds_segment` meets its contract. Assumes nothing.
-use Rattle.std.proofs.Common.{rules, eq-eqb, ne_eqb}
+use Rattle.std.proofs.Common.{eq-eqb, ne_eqb}
 use Rattle.sets.specs.Rebuild.{adds_segment}
 use Rattle.sets.proofs.rebuild.SharedSegmentCacheBuilder.adds_segment.Goals as goal
 

@@ -1,5 +1,5 @@
 -- `areas_hold` meets its contract. Assumes nothing.
-use Rattle.std.proofs.Common.{◌≡◌, ◌*◌, ◌<◌, ◌≤◌, true, [], ◌∷◌, length, sym, ◌∙◌, arith, rules, le-leb}
+use Rattle.std.proofs.Common.{◌≡◌, ◌*◌, ◌<◌, ◌≤◌, true, [], ◌∷◌, length, sym, ◌∙◌, arith, le-leb}
 use borrow.Author.Tests.{lt-leb}
 use Rattle.sets.specs.Kept.{retained}
 use Rattle.sets.specs.Questions.{all, arena_holds, segment_areas_hold}
@@ -39,11 +39,14 @@ returns-then-index_len-self c =
     rw (said_yes c.fits.ensures c.if-not-fits.false, lt-leb _ _ short)
 
 pub returns-then-not-segment_areas_hold : goal.returns-then-not-segment_areas_hold
-returns-then-not-segment_areas_hold c = sym ((yes2 (goal.at.returns-then-not-segment_areas_hold c).Else-index_len-self) ∙ rw (said_no c.segment_areas_hold.ensures c.if-not-segment_areas_hold.true))
+returns-then-not-segment_areas_hold c =
+    let at = goal.at.returns-then-not-segment_areas_hold c in
+    sym ((yes2 at.Else-index_len-self) ∙ rw (said_no c.segment_areas_hold.ensures c.if-not-segment_areas_hold.true))
 
 pub returns-then-not-arena_holds_both : goal.returns-then-not-arena_holds_both
 returns-then-not-arena_holds_both c =
-    sym ((yes2 (goal.at.returns-then-not-arena_holds_both c).Else-index_len-self) ∙ rw ((segments (goal.at.returns-then-not-arena_holds_both c).Else-not-segment_areas_hold), said_no c.arena_holds_both.ensures c.if-not-arena_holds_both.true))
+    let at = goal.at.returns-then-not-arena_holds_both c in
+    sym ((yes2 at.Else-index_len-self) ∙ rw ((segments at.Else-not-segment_areas_hold), said_no c.arena_holds_both.ensures c.if-not-arena_holds_both.true))
 
 pub overflow_add-source_filled : goal.overflow_add-source_filled
 overflow_add-source_filled c =
@@ -58,5 +61,6 @@ segments_inside-requires c =
 
 pub returns : goal.returns
 returns c =
+    let at = goal.at.returns c in
     let held = said_yes c.arena_holds_both.ensures c.if-not-arena_holds_both.false in
-    sym ((yes2 (goal.at.returns c).Else-index_len-self) ∙ rw ((segments (goal.at.returns c).Else-not-segment_areas_hold), held, ← c.retained.ensures) (sym c.segments_inside.ensures))
+    sym ((yes2 at.Else-index_len-self) ∙ rw ((segments at.Else-not-segment_areas_hold), held, ← c.retained.ensures) (sym c.segments_inside.ensures))

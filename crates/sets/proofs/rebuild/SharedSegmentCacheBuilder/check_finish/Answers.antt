@@ -1,5 +1,5 @@
 -- `check_finish` meets its contract: after each question that is answered yes those after it are left. Assumes nothing.
-use Rattle.std.proofs.Common.{ℕ, sym, ◌∙◌, rules, eq-eqb, ne_eqb}
+use Rattle.std.proofs.Common.{ℕ, sym, ◌∙◌, eq-eqb, ne_eqb}
 use Rattle.sets.specs.Rebuild.{ask_rebuild_finish}
 use Rattle.sets.specs.Questions.{first_no}
 use Rattle.sets.proofs.Said.{Past, said_no, said_yes}
@@ -37,8 +37,12 @@ returns-then-self c = sym ((yes1 (goal.at.returns-then-self c).Else-not-areas_ho
 
 pub returns-then-not-scratch_holds : goal.returns-then-not-scratch_holds
 unfolding ask_rebuild_finish
-returns-then-not-scratch_holds c = sym ((yes2 (goal.at.returns-then-not-scratch_holds c).Else-self (yes1 (goal.at.returns-then-not-scratch_holds c).Else-not-areas_hold)) ∙ rw (said_no c.scratch_holds.ensures c.if-not-scratch_holds.true))
+returns-then-not-scratch_holds c =
+    let at = goal.at.returns-then-not-scratch_holds c in
+    sym ((yes2 at.Else-self (yes1 at.Else-not-areas_hold)) ∙ rw (said_no c.scratch_holds.ensures c.if-not-scratch_holds.true))
 
 pub returns : goal.returns
 unfolding ask_rebuild_finish
-returns c = sym ((yes2 (goal.at.returns c).Else-self (yes1 (goal.at.returns c).Else-not-areas_hold)) ∙ rw (said_yes c.scratch_holds.ensures c.if-not-scratch_holds.false))
+returns c =
+    let at = goal.at.returns c in
+    sym ((yes2 at.Else-self (yes1 at.Else-not-areas_hold)) ∙ rw (said_yes c.scratch_holds.ensures c.if-not-scratch_holds.false))

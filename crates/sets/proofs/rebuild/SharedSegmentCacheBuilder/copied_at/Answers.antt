@@ -1,5 +1,5 @@
 -- `copied_at` meets its contract. Assumes nothing.
-use Rattle.std.proofs.Common.{◌≡◌, ◌+◌, ◌-◌, ◌*◌, ◌^◌, length, arith, rules}
+use Rattle.std.proofs.Common.{◌≡◌, ◌+◌, ◌-◌, ◌*◌, ◌^◌, length, arith}
 use borrow.Rule.Slice.PartMut.{put_mid}
 use Rattle.records.specs.Area.{pasted}
 use Rattle.records.specs.Record.{record_bytes}
@@ -21,16 +21,18 @@ wrote c =
 
 pub copied_grown-requires : goal.copied_grown-requires
 copied_grown-requires c =
+    let at = goal.at.copied_grown-requires c in
     let a = c.args in
     let pre = c.requires in
     let holds = size_holds a.self.config.expiry (length a.key.now) (length a.value.now) in
-    (pre.4, omega (arith, (wrote (goal.at.copied_grown-requires c).After-append_record-size).0, pre.0, pre.1), omega (arith, (wrote (goal.at.copied_grown-requires c).After-append_record-size).0, holds), pre.5, pre.6, pre.7)
+    (pre.4, omega (arith, (wrote at.After-append_record-size).0, pre.0, pre.1), omega (arith, (wrote at.After-append_record-size).0, holds), pre.5, pre.6, pre.7)
 
 pub returns : goal.returns
 returns c =
+    let at = goal.at.returns c in
     let a = c.args in
     let counted = c.retained in
     let word = c.push_index in
     let placed : counted.result * 2 ^ 32 + a.self.copied_bytes ≡ copied_location a.self = omega (arith, counted.ensures) in
     copied_left_law a.slot a.expires_at a.self a.hash a.key.now a.value.now a.index.now a.filter.now a.arena.now
-    c.append_record-size.result c.copied_grown.result _ _ _ _ (wrote (goal.at.returns c).After-append_record-size).0 (wrote (goal.at.returns c).After-append_record-size).1 c.copied_grown.ensures placed word.ensures.0 word.ensures.1
+    c.append_record-size.result c.copied_grown.result _ _ _ _ (wrote at.After-append_record-size).0 (wrote at.After-append_record-size).1 c.copied_grown.ensures placed word.ensures.0 word.ensures.1

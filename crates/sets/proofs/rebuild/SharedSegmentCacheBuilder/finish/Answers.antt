@@ -1,5 +1,5 @@
 -- `finish` meets its contract. Assumes nothing.
-use Rattle.std.proofs.Common.{◌≡◌, ◌^◌, ◌≤◌, length, sym, ap, ◌∙◌, arith, rules}
+use Rattle.std.proofs.Common.{◌≡◌, ◌^◌, ◌≤◌, length, sym, ap, ◌∙◌, arith}
 use Rattle.sets.specs.Kept.{retained}
 use Rattle.sets.specs.Questions.{check_number, first_no}
 use Rattle.sets.specs.Rebuild.{after_rebuild_finish, ask_rebuild_finish, rebuild_filled}
@@ -41,7 +41,8 @@ into_build-build-requires c =
 
 pub add_segment-requires : goal.add_segment-requires
 add_segment-requires c =
-    let q = ((asked (goal.at.add_segment-requires c).In_default (answered (goal.at.add_segment-requires c).After-check_finish))).areas in
+    let at = goal.at.add_segment-requires c in
+    let q = ((asked at.In_default (answered at.After-check_finish))).areas in
     (q.starts_hold, q.lengths_hold, adds_few _ q.numbers.few)
 
 pub returns : goal.returns

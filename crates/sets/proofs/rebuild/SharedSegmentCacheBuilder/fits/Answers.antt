@@ -1,10 +1,9 @@
 -- `fits` meets its contract. Assumes nothing.
-use Rattle.std.proofs.Common.{◌≡◌, ◌+◌, ◌≤◌, true, [], ◌∷◌, sym, ◌∙◌, arith, rules, le-leb}
+use Rattle.std.proofs.Common.{◌≡◌, ◌+◌, ◌≤◌, true, [], ◌∷◌, sym, ◌∙◌, arith, le-leb}
 use borrow.Author.Tests.{lt-leb}
 use Rattle.sets.specs.Kept.{retained}
 use Rattle.sets.specs.Rebuild.{rebuild_fits, segment_for}
 use Rattle.sets.specs.Questions.{all, bytes_fit, counts_fit}
-use Rattle.sets.specs.declared.rebuild.SharedSegmentCacheBuilder.{SharedSegmentCacheBuilder}
 use Rattle.sets.proofs.Said.{said_no, said_yes}
 use Rattle.sets.proofs.Counts.{counts_records}
 use Rattle.sets.proofs.KeptBits.{retained_256}
@@ -68,23 +67,35 @@ overflow_add-retained c =
 pub returns-then-retained-segment_for-gt-MAX_RECORD_SEGMENTS : goal.returns-then-retained-segment_for-gt-MAX_RECORD_SEGMENTS
 unfolding rebuild_fits
 returns-then-retained-segment_for-gt-MAX_RECORD_SEGMENTS c =
-    rw ((counted (goal.at.returns-then-retained-segment_for-gt-MAX_RECORD_SEGMENTS c).Else-not-counts_fit), le-leb _ _ c.if-inserted-self.false, ← (segments (goal.at.returns-then-retained-segment_for-gt-MAX_RECORD_SEGMENTS c).After-segment_for), lt-leb _ _ c.if-retained-segment_for-gt-MAX_RECORD_SEGMENTS.true)
+    let at = goal.at.returns-then-retained-segment_for-gt-MAX_RECORD_SEGMENTS c in
+    rw ((counted at.Else-not-counts_fit), le-leb _ _ c.if-inserted-self.false, ← (segments at.After-segment_for), lt-leb _ _ c.if-retained-segment_for-gt-MAX_RECORD_SEGMENTS.true)
 
 pub bytes_fit-requires : goal.bytes_fit-requires
-bytes_fit-requires c = (few (goal.at.bytes_fit-requires c).Else-inserted-self (counted (goal.at.bytes_fit-requires c).Else-not-counts_fit))
+bytes_fit-requires c =
+    let at = goal.at.bytes_fit-requires c in
+    (few at.Else-inserted-self (counted at.Else-not-counts_fit))
 
 pub returns-then-not-bytes_fit : goal.returns-then-not-bytes_fit
-returns-then-not-bytes_fit c = sym ((yes3 (goal.at.returns-then-not-bytes_fit c).Else-retained-segment_for-gt-MAX_RECORD_SEGMENTS (counted (goal.at.returns-then-not-bytes_fit c).Else-not-counts_fit) (segments (goal.at.returns-then-not-bytes_fit c).After-segment_for)) ∙ rw (said_no c.bytes_fit.ensures c.if-not-bytes_fit.true))
+returns-then-not-bytes_fit c =
+    let at = goal.at.returns-then-not-bytes_fit c in
+    sym ((yes3 at.Else-retained-segment_for-gt-MAX_RECORD_SEGMENTS (counted at.Else-not-counts_fit) (segments at.After-segment_for)) ∙ rw (said_no c.bytes_fit.ensures c.if-not-bytes_fit.true))
 
 pub bytes_fit-requires-2 : goal.bytes_fit-requires-2
-bytes_fit-requires-2 c = (few (goal.at.bytes_fit-requires-2 c).Else-inserted-self (counted (goal.at.bytes_fit-requires-2 c).Else-not-counts_fit))
+bytes_fit-requires-2 c =
+    let at = goal.at.bytes_fit-requires-2 c in
+    (few at.Else-inserted-self (counted at.Else-not-counts_fit))
 
 pub returns-then-not-bytes_fit-2 : goal.returns-then-not-bytes_fit-2
-returns-then-not-bytes_fit-2 c = sym ((yes4 (goal.at.returns-then-not-bytes_fit-2 c).Else-not-bytes_fit (yes3 (goal.at.returns-then-not-bytes_fit-2 c).Else-retained-segment_for-gt-MAX_RECORD_SEGMENTS (counted (goal.at.returns-then-not-bytes_fit-2 c).Else-not-counts_fit) (segments (goal.at.returns-then-not-bytes_fit-2 c).After-segment_for))) ∙ rw (said_no c.bytes_fit-2.ensures c.if-not-bytes_fit-2.true))
+returns-then-not-bytes_fit-2 c =
+    let at = goal.at.returns-then-not-bytes_fit-2 c in
+    sym ((yes4 at.Else-not-bytes_fit (yes3 at.Else-retained-segment_for-gt-MAX_RECORD_SEGMENTS (counted at.Else-not-counts_fit) (segments at.After-segment_for))) ∙ rw (said_no c.bytes_fit-2.ensures c.if-not-bytes_fit-2.true))
 
 pub bytes_fit-requires-3 : goal.bytes_fit-requires-3
-bytes_fit-requires-3 c = (few (goal.at.bytes_fit-requires-3 c).Else-inserted-self (counted (goal.at.bytes_fit-requires-3 c).Else-not-counts_fit))
+bytes_fit-requires-3 c =
+    let at = goal.at.bytes_fit-requires-3 c in
+    (few at.Else-inserted-self (counted at.Else-not-counts_fit))
 
 pub returns : goal.returns
 returns c =
-    c.bytes_fit-3.ensures ∙ sym ((yes4 (goal.at.returns c).Else-not-bytes_fit (yes3 (goal.at.returns c).Else-retained-segment_for-gt-MAX_RECORD_SEGMENTS (counted (goal.at.returns c).Else-not-counts_fit) (segments (goal.at.returns c).After-segment_for))) ∙ rw (said_yes c.bytes_fit-2.ensures c.if-not-bytes_fit-2.false))
+    let at = goal.at.returns c in
+    c.bytes_fit-3.ensures ∙ sym ((yes4 at.Else-not-bytes_fit (yes3 at.Else-retained-segment_for-gt-MAX_RECORD_SEGMENTS (counted at.Else-not-counts_fit) (segments at.After-segment_for))) ∙ rw (said_yes c.bytes_fit-2.ensures c.if-not-bytes_fit-2.false))

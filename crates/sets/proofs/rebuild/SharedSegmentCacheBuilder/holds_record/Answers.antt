@@ -1,5 +1,5 @@
 -- `holds_record` meets its contract. Assumes nothing.
-use Rattle.std.proofs.Common.{◌≡◌, ◌+◌, ◌/◌, ◌^◌, sym, ◌∙◌, arith, rules}
+use Rattle.std.proofs.Common.{◌≡◌, ◌+◌, ◌/◌, ◌^◌, sym, ◌∙◌, arith}
 use Rattle.index.specs.View.{record_in}
 use Rattle.sets.specs.Rebuild.{holds_record, kept_view, moved_location}
 use Rattle.sets.proofs.KeptBits.{number_below, retained_256}

@@ -1,5 +1,5 @@
 -- `into_build` meets its contract. Assumes nothing.
-use Rattle.std.proofs.Common.{◌≡◌, ◌+◌, ◌*◌, ◌<◌, ◌≤◌, arith, rules}
+use Rattle.std.proofs.Common.{◌≡◌, ◌+◌, ◌*◌, ◌<◌, ◌≤◌, arith}
 use Rattle.sets.proofs.Finding.{few_buckets, few_words}
 use Rattle.sets.proofs.rebuild.SharedSegmentCacheBuilder.into_build.Goals as goal
 use Rattle.sets.proofs.rebuild.SharedSegmentCacheBuilder.into_build.Goals.{Start}

@@ -1,5 +1,5 @@
 -- `into_cache` meets its contract. Assumes nothing.
-use Rattle.std.proofs.Common.{ℕ, ap, arith, rules}
+use Rattle.std.proofs.Common.{ℕ, ap, arith}
 use Rattle.sets.specs.Rebuild.{sum_of}
 use Rattle.sets.proofs.rebuild.SharedSegmentCacheBuilder.into_cache.Goals as goal
 

@@ -1,5 +1,5 @@
 -- `plan_copied` meets its contract: after each question that is answered yes those after it are left. Assumes nothing.
-use Rattle.std.proofs.Common.{◌≡◌, ℕ, true, length, sym, ap, ◌∙◌, rules, le-ltb, lt-ltb, le-leb}
+use Rattle.std.proofs.Common.{◌≡◌, ℕ, true, length, sym, ap, ◌∙◌, le-ltb, lt-ltb, le-leb}
 use borrow.Author.Tests.{lt-leb}
 use Rattle.hash_parts.specs.Duration.{expiry_outcome}
 use Rattle.index.specs.Build.{empty_slot}
@@ -73,18 +73,23 @@ returns-then-filter_len-self c = sym ((yes1 (goal.at.returns-then-filter_len-sel
 
 pub returns-then-not-lifetime_fits : goal.returns-then-not-lifetime_fits
 unfolding plan_copied ask_copied plan_room ask_room
-returns-then-not-lifetime_fits c = sym ((yes2 (goal.at.returns-then-not-lifetime_fits c).Else-filter_len-self (yes1 (goal.at.returns-then-not-lifetime_fits c).Else-not-areas_hold)) ∙ rw (said_no c.lifetime_fits.ensures c.if-not-lifetime_fits.true))
+returns-then-not-lifetime_fits c =
+    let at = goal.at.returns-then-not-lifetime_fits c in
+    sym ((yes2 at.Else-filter_len-self (yes1 at.Else-not-areas_hold)) ∙ rw (said_no c.lifetime_fits.ensures c.if-not-lifetime_fits.true))
 
 pub returns-then-self : goal.returns-then-self
 unfolding plan_copied ask_copied plan_room ask_room
-returns-then-self c = sym ((yes3 (goal.at.returns-then-self c).Else-not-lifetime_fits (yes2 (goal.at.returns-then-self c).Else-filter_len-self (yes1 (goal.at.returns-then-self c).Else-not-areas_hold))) ∙ rw (le-ltb _ _ c.if-self.true))
+returns-then-self c =
+    let at = goal.at.returns-then-self c in
+    sym ((yes3 at.Else-not-lifetime_fits (yes2 at.Else-filter_len-self (yes1 at.Else-not-areas_hold))) ∙ rw (le-ltb _ _ c.if-self.true))
 
 pub returns-in_default : goal.returns-in_default
 unfolding plan_copied ask_copied plan_room ask_room
 returns-in_default c =
+    let at = goal.at.returns-in_default c in
     let none = sym c.encode_expiry_at_tick-deadline.ensures ∙ ap expiry_outcome c.in_default.is in
     rw (c.deadline_refusal.ensures ∙ ap deadline_refusal c.in_default.is)
-    (sym ((yes4 (goal.at.returns-in_default c).Else-self (yes3 (goal.at.returns-in_default c).Else-not-lifetime_fits (yes2 (goal.at.returns-in_default c).Else-filter_len-self (yes1 (goal.at.returns-in_default c).Else-not-areas_hold)))) ∙ rw none (own_refused c.in_default.field-0 _ _ _)))
+    (sym ((yes4 at.Else-self (yes3 at.Else-not-lifetime_fits (yes2 at.Else-filter_len-self (yes1 at.Else-not-areas_hold)))) ∙ rw none (own_refused c.in_default.field-0 _ _ _)))
 
 pub plan_room-requires : goal.plan_room-requires
 plan_room-requires c = (rebuild_areas_asked _ _ _ _ _ (held (goal.at.plan_room-requires c).Else-not-areas_hold)).filled_held
@@ -92,5 +97,6 @@ plan_room-requires c = (rebuild_areas_asked _ _ _ _ _ (held (goal.at.plan_room-r
 pub returns : goal.returns
 unfolding plan_copied ask_copied plan_room ask_room
 returns c =
+    let known = goal.at.returns c in
     let at = sym c.encode_expiry_at_tick-deadline.ensures ∙ ap expiry_outcome c.in-At.is in
-    sym ((yes4 (goal.at.returns c).Else-self (yes3 (goal.at.returns c).Else-not-lifetime_fits (yes2 (goal.at.returns c).Else-filter_len-self (yes1 (goal.at.returns c).Else-not-areas_hold)))) ∙ rw at (rest c))
+    sym ((yes4 known.Else-self (yes3 known.Else-not-lifetime_fits (yes2 known.Else-filter_len-self (yes1 known.Else-not-areas_hold)))) ∙ rw at (rest c))

@@ -1,5 +1,5 @@
 -- `plan_reused` meets its contract: after each question that is answered yes those after it are left. Assumes nothing.
-use Rattle.std.proofs.Common.{◌≡◌, ℕ, true, length, sym, ap, ◌∙◌, arith, rules, le-ltb, lt-ltb, le-leb}
+use Rattle.std.proofs.Common.{◌≡◌, ℕ, true, length, sym, ap, ◌∙◌, arith, le-ltb, lt-ltb, le-leb}
 use borrow.Author.Tests.{lt-leb}
 use Rattle.index.specs.Build.{empty_slot, slot_outcome}
 use Rattle.sets.specs.RebuildPlans.{plan_reused}
@@ -74,11 +74,15 @@ returns-then-filter_len-self c = sym ((yes1 (goal.at.returns-then-filter_len-sel
 
 pub returns-then-self : goal.returns-then-self
 unfolding plan_reused ask_reused
-returns-then-self c = sym ((yes2 (goal.at.returns-then-self c).Else-filter_len-self (yes1 (goal.at.returns-then-self c).Else-not-areas_hold)) ∙ rw (le-ltb _ _ c.if-self.true))
+returns-then-self c =
+    let at = goal.at.returns-then-self c in
+    sym ((yes2 at.Else-filter_len-self (yes1 at.Else-not-areas_hold)) ∙ rw (le-ltb _ _ c.if-self.true))
 
 pub returns-then-not-is_kept : goal.returns-then-not-is_kept
 unfolding plan_reused ask_reused
-returns-then-not-is_kept c = sym ((yes3 (goal.at.returns-then-not-is_kept c).Else-self (yes2 (goal.at.returns-then-not-is_kept c).Else-filter_len-self (yes1 (goal.at.returns-then-not-is_kept c).Else-not-areas_hold))) ∙ rw (said_no c.is_kept.ensures c.if-not-is_kept.true))
+returns-then-not-is_kept c =
+    let at = goal.at.returns-then-not-is_kept c in
+    sym ((yes3 at.Else-self (yes2 at.Else-filter_len-self (yes1 at.Else-not-areas_hold))) ∙ rw (said_no c.is_kept.ensures c.if-not-is_kept.true))
 
 pub holds_record-requires : goal.holds_record-requires
 holds_record-requires c =
@@ -87,19 +91,24 @@ holds_record-requires c =
 
 pub returns-then-not-holds_record : goal.returns-then-not-holds_record
 unfolding plan_reused ask_reused
-returns-then-not-holds_record c = sym ((yes4 (goal.at.returns-then-not-holds_record c).Else-not-is_kept (yes3 (goal.at.returns-then-not-holds_record c).Else-self (yes2 (goal.at.returns-then-not-holds_record c).Else-filter_len-self (yes1 (goal.at.returns-then-not-holds_record c).Else-not-areas_hold)))) ∙ rw (said_no c.holds_record.ensures c.if-not-holds_record.true))
+returns-then-not-holds_record c =
+    let at = goal.at.returns-then-not-holds_record c in
+    sym ((yes4 at.Else-not-is_kept (yes3 at.Else-self (yes2 at.Else-filter_len-self (yes1 at.Else-not-areas_hold)))) ∙ rw (said_no c.holds_record.ensures c.if-not-holds_record.true))
 
 pub returns-in-Duplicate : goal.returns-in-Duplicate
 unfolding plan_reused ask_reused
 returns-in-Duplicate c =
-    sym ((yes5 (goal.at.returns-in-Duplicate c).Else-not-holds_record (yes4 (goal.at.returns-in-Duplicate c).Else-not-is_kept (yes3 (goal.at.returns-in-Duplicate c).Else-self (yes2 (goal.at.returns-in-Duplicate c).Else-filter_len-self (yes1 (goal.at.returns-in-Duplicate c).Else-not-areas_hold))))) ∙ rw (sym c.find_empty_build_slot.ensures ∙ ap slot_outcome c.in-Duplicate.is))
+    let at = goal.at.returns-in-Duplicate c in
+    sym ((yes5 at.Else-not-holds_record (yes4 at.Else-not-is_kept (yes3 at.Else-self (yes2 at.Else-filter_len-self (yes1 at.Else-not-areas_hold))))) ∙ rw (sym c.find_empty_build_slot.ensures ∙ ap slot_outcome c.in-Duplicate.is))
 
 pub returns-in-Full : goal.returns-in-Full
 unfolding plan_reused ask_reused
 returns-in-Full c =
-    sym ((yes5 (goal.at.returns-in-Full c).Else-not-holds_record (yes4 (goal.at.returns-in-Full c).Else-not-is_kept (yes3 (goal.at.returns-in-Full c).Else-self (yes2 (goal.at.returns-in-Full c).Else-filter_len-self (yes1 (goal.at.returns-in-Full c).Else-not-areas_hold))))) ∙ rw (sym c.find_empty_build_slot.ensures ∙ ap slot_outcome c.in-Full.is))
+    let at = goal.at.returns-in-Full c in
+    sym ((yes5 at.Else-not-holds_record (yes4 at.Else-not-is_kept (yes3 at.Else-self (yes2 at.Else-filter_len-self (yes1 at.Else-not-areas_hold))))) ∙ rw (sym c.find_empty_build_slot.ensures ∙ ap slot_outcome c.in-Full.is))
 
 pub returns-in-Empty : goal.returns-in-Empty
 unfolding plan_reused ask_reused
 returns-in-Empty c =
-    sym ((yes5 (goal.at.returns-in-Empty c).Else-not-holds_record (yes4 (goal.at.returns-in-Empty c).Else-not-is_kept (yes3 (goal.at.returns-in-Empty c).Else-self (yes2 (goal.at.returns-in-Empty c).Else-filter_len-self (yes1 (goal.at.returns-in-Empty c).Else-not-areas_hold))))) ∙ rw (sym c.find_empty_build_slot.ensures ∙ ap slot_outcome c.in-Empty.is))
+    let at = goal.at.returns-in-Empty c in
+    sym ((yes5 at.Else-not-holds_record (yes4 at.Else-not-is_kept (yes3 at.Else-self (yes2 at.Else-filter_len-self (yes1 at.Else-not-areas_hold))))) ∙ rw (sym c.find_empty_build_slot.ensures ∙ ap slot_outcome c.in-Empty.is))

@@ -1,5 +1,5 @@
 -- `plan_room` meets its contract: after each question that is answered yes those after it are left. Assumes nothing.
-use Rattle.std.proofs.Common.{◌≡◌, ℕ, ◌+◌, ◌-◌, leb, sym, ap, ◌∙◌, rules, le-ltb, lt-ltb}
+use Rattle.std.proofs.Common.{◌≡◌, ℕ, ◌+◌, ◌-◌, leb, sym, ap, ◌∙◌, le-ltb, lt-ltb}
 use Rattle.index.specs.Build.{empty_slot, slot_outcome}
 use Rattle.sets.specs.RebuildPlans.{ask_room, plan_room}
 use Rattle.sets.specs.Rebuild.{copied_size, rebuild_filled}
@@ -49,19 +49,24 @@ returns-then-not-record_fits c = rw ((asks (goal.at.returns-then-not-record_fits
 
 pub returns-then-retained-ge-MAX_RECORD_SEGMENTS : goal.returns-then-retained-ge-MAX_RECORD_SEGMENTS
 unfolding plan_room ask_room
-returns-then-retained-ge-MAX_RECORD_SEGMENTS c = sym ((yes1 (goal.at.returns-then-retained-ge-MAX_RECORD_SEGMENTS c).Else-not-record_fits (asks (goal.at.returns-then-retained-ge-MAX_RECORD_SEGMENTS c).Start)) ∙ rw (← c.retained.ensures, le-ltb _ _ c.if-retained-ge-MAX_RECORD_SEGMENTS.true))
+returns-then-retained-ge-MAX_RECORD_SEGMENTS c =
+    let at = goal.at.returns-then-retained-ge-MAX_RECORD_SEGMENTS c in
+    sym ((yes1 at.Else-not-record_fits (asks at.Start)) ∙ rw (← c.retained.ensures, le-ltb _ _ c.if-retained-ge-MAX_RECORD_SEGMENTS.true))
 
 pub returns-in-Duplicate : goal.returns-in-Duplicate
 unfolding plan_room ask_room
 returns-in-Duplicate c =
-    sym ((yes2 (goal.at.returns-in-Duplicate c).Else-retained-ge-MAX_RECORD_SEGMENTS (yes1 (goal.at.returns-in-Duplicate c).Else-not-record_fits (asks (goal.at.returns-in-Duplicate c).Start))) ∙ rw (sym c.find_empty_build_slot.ensures ∙ ap slot_outcome c.in-Duplicate.is))
+    let at = goal.at.returns-in-Duplicate c in
+    sym ((yes2 at.Else-retained-ge-MAX_RECORD_SEGMENTS (yes1 at.Else-not-record_fits (asks at.Start))) ∙ rw (sym c.find_empty_build_slot.ensures ∙ ap slot_outcome c.in-Duplicate.is))
 
 pub returns-in-Full : goal.returns-in-Full
 unfolding plan_room ask_room
 returns-in-Full c =
-    sym ((yes2 (goal.at.returns-in-Full c).Else-retained-ge-MAX_RECORD_SEGMENTS (yes1 (goal.at.returns-in-Full c).Else-not-record_fits (asks (goal.at.returns-in-Full c).Start))) ∙ rw (sym c.find_empty_build_slot.ensures ∙ ap slot_outcome c.in-Full.is))
+    let at = goal.at.returns-in-Full c in
+    sym ((yes2 at.Else-retained-ge-MAX_RECORD_SEGMENTS (yes1 at.Else-not-record_fits (asks at.Start))) ∙ rw (sym c.find_empty_build_slot.ensures ∙ ap slot_outcome c.in-Full.is))
 
 pub returns-in-Empty : goal.returns-in-Empty
 unfolding plan_room ask_room
 returns-in-Empty c =
-    sym ((yes2 (goal.at.returns-in-Empty c).Else-retained-ge-MAX_RECORD_SEGMENTS (yes1 (goal.at.returns-in-Empty c).Else-not-record_fits (asks (goal.at.returns-in-Empty c).Start))) ∙ rw (sym c.find_empty_build_slot.ensures ∙ ap slot_outcome c.in-Empty.is))
+    let at = goal.at.returns-in-Empty c in
+    sym ((yes2 at.Else-retained-ge-MAX_RECORD_SEGMENTS (yes1 at.Else-not-record_fits (asks at.Start))) ∙ rw (sym c.find_empty_build_slot.ensures ∙ ap slot_outcome c.in-Empty.is))

@@ -1,5 +1,5 @@
 -- `push_copied` meets its contract. Assumes nothing.
-use Rattle.std.proofs.Common.{◌≡◌, ℕ, ◌≤◌, length, sym, ap, ◌∙◌, arith, rules}
+use Rattle.std.proofs.Common.{◌≡◌, ℕ, ◌≤◌, length, sym, ap, ◌∙◌, arith}
 use Rattle.hash_parts.specs.Error.{error_number}
 use Rattle.index.specs.declared.build.BuildSlot.TheVariants.{Empty}
 use Rattle.index.specs.Build.{empty_slot}

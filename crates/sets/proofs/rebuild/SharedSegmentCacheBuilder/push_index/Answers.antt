@@ -1,5 +1,5 @@
 -- `push_index` meets its contract. Assumes nothing.
-use Rattle.std.proofs.Common.{ℕ, set, ap, ◌∙◌, rules}
+use Rattle.std.proofs.Common.{ℕ, set, ap, ◌∙◌}
 use Rattle.index.specs.Word.{word_of}
 use Rattle.sets.proofs.rebuild.SharedSegmentCacheBuilder.push_index.Goals as goal
 

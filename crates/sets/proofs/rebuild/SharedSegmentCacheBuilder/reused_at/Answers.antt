@@ -1,5 +1,4 @@
 -- `reused_at` meets its contract. Assumes nothing.
-use Rattle.std.proofs.Common.{arith, rules}
 use Rattle.sets.proofs.RebuildSteps.{reused_left_law}
 use Rattle.sets.proofs.rebuild.SharedSegmentCacheBuilder.reused_at.Goals as goal
 

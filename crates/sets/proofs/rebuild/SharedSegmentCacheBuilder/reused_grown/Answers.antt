@@ -1,6 +1,5 @@
 -- `reused_grown` meets its contract. Assumes nothing.
 use Rattle.sets.proofs.RebuildSteps.{wraps}
-use Rattle.std.proofs.Common.{rules}
 use Rattle.sets.proofs.rebuild.SharedSegmentCacheBuilder.reused_grown.Goals as goal
 
 pub returns : goal.returns

@@ -1,5 +1,5 @@
 -- `segment_count` meets its contract. Assumes nothing.
-use Rattle.std.proofs.Common.{sym, ◌∙◌, arith, rules}
+use Rattle.std.proofs.Common.{sym, ◌∙◌, arith}
 use Rattle.sets.proofs.KeptBits.{retained_256}
 use Rattle.sets.proofs.rebuild.SharedSegmentCacheBuilder.segment_count.Goals as goal
 

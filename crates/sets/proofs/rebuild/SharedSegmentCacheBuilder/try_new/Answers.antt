@@ -1,5 +1,5 @@
 -- `try_new` meets its contract. Assumes nothing.
-use Rattle.std.proofs.Common.{◌≡◌, length, sym, ap, ◌∙◌, arith, rules}
+use Rattle.std.proofs.Common.{◌≡◌, length, sym, ap, ◌∙◌, arith}
 use Rattle.sets.specs.Questions.{buckets_in, check_number, first_no}
 use Rattle.sets.specs.Rebuild.{after_rebuild_open, ask_rebuild_open}
 use Rattle.sets.specs.declared.rebuild.SharedSegmentCacheBuilder.{SharedSegmentCacheBuilder}
@@ -38,20 +38,23 @@ opened_rebuild-builder-requires c = counts_records _ _ _ _ ((asked c (answered (
 
 pub overflow_mul-builder : goal.overflow_mul-builder
 overflow_mul-builder c =
+    let at = goal.at.overflow_mul-builder c in
     let s = c.before.before.before in
     let a = s.args in
     let n : c.opened_rebuild-builder.result.bucket_count ≡ buckets_in a.source.config a.entry_count =
     ap (λ (b : SharedSegmentCacheBuilder). b.bucket_count) c.opened_rebuild-builder.ensures in
-    omega (arith, n, ((asked (goal.at.overflow_mul-builder c).In_default (answered (goal.at.overflow_mul-builder c).After-check_rebuild_open))).index_holds, s.well_formed.1.1.1.1.1.1.1.1.0.1)
+    omega (arith, n, ((asked at.In_default (answered at.After-check_rebuild_open))).index_holds, s.well_formed.1.1.1.1.1.1.1.1.0.1)
 
 pub keep_words-requires : goal.keep_words-requires
 keep_words-requires c =
-    let q = (asked (goal.at.keep_words-requires c).In_default (answered (goal.at.keep_words-requires c).After-check_rebuild_open)) in
+    let at = goal.at.keep_words-requires c in
+    let q = (asked at.In_default (answered at.After-check_rebuild_open)) in
     (omega (arith, q.same_count, q.areas.few, q.areas.starts_hold), omega (arith, q.same_count, q.areas.few), q.starts_hold)
 
 pub keep_words-requires-2 : goal.keep_words-requires-2
 keep_words-requires-2 c =
-    let q = (asked (goal.at.keep_words-requires-2 c).In_default (answered (goal.at.keep_words-requires-2 c).After-check_rebuild_open)) in
+    let at = goal.at.keep_words-requires-2 c in
+    let q = (asked at.In_default (answered at.After-check_rebuild_open)) in
     (omega (arith, q.same_count, q.areas.few, q.areas.lengths_hold), omega (arith, q.same_count, q.areas.few), q.lengths_hold)
 
 pub returns : goal.returns

@@ -1,5 +1,4 @@
 -- `view` meets its contract. Assumes nothing.
-use Rattle.std.proofs.Common.{rules}
 use Rattle.sets.proofs.rebuild.SharedSegmentCacheBuilder.view.Goals as goal
 
 pub returns : goal.returns

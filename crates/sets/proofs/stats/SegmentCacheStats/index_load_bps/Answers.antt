@@ -1,5 +1,5 @@
 -- `index_load_bps` meets its contract. Assumes nothing.
-use Rattle.std.proofs.Common.{sym, rules, eq-eqb, ne_eqb, le-leb}
+use Rattle.std.proofs.Common.{sym, eq-eqb, ne_eqb, le-leb}
 use borrow.Author.Tests.{lt-leb}
 use Rattle.sets.specs.Stats.{load_of}
 use Rattle.sets.proofs.stats.SegmentCacheStats.index_load_bps.Goals as goal
