@@ -1,5 +1,7 @@
-// Lines of the trial programs.
+// Lines of the trial programs, and the input that they read.
 #![tactic(auto)]
+
+pub mod input;
 
 use std::io;
 

@@ -5,5 +5,5 @@ use borrow.Author.Rules.{rules}
 use Rattle.passage.proofs.program.print_answer.Goals as goal
 
 pub returns : goal.returns
-returns c = let m = c.make_room-at in
+returns g c = let m = c.make_room-at in
     appended_within m.result _ _ _ _ c.put_answer.ensures (omega (arith, m.ensures))

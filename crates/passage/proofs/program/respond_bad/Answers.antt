@@ -7,5 +7,5 @@ use borrow.Author.Rules.{rules}
 use Rattle.passage.proofs.program.respond_bad.Goals as goal
 
 pub returns : goal.returns
-returns c = let m = c.make_room-at in
+returns g c = let m = c.make_room-at in
     appended_within m.result _ (reply_text Bad) _ _ c.put_reply.ensures (omega (arith, m.ensures))

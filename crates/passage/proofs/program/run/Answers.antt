@@ -7,4 +7,4 @@ use Rattle.passage.specs.Program.{waiting_in}
 use Rattle.passage.proofs.program.run.Goals as goal
 
 pub loop-left-preserved : goal.loop-left-preserved
-loop-left-preserved c = search (rules, ap waiting_in c.in-More.is)
+loop-left-preserved g c = search (rules, ap waiting_in c.in-More.is)
