@@ -6,6 +6,7 @@ use crate::answer::{answer_line, put_answer};
 use crate::stage::{Answer, Stage};
 use passage_lines::input::{Input, NextLine, keep_unread, next_line};
 use passage_lines::reply::{Reply, put_reply};
+use show::input::read_some;
 use std::io::{Read, Write};
 
 // No line of output is longer: a value comes from a line of input, as long as its text there.
@@ -262,7 +263,7 @@ fn read_more<R: Read, W: Write>(
     let kept = keep_unread(block, input);
     let end = kept.end;
     let skipping = kept.skipping;
-    let count = read_block(reader, &mut block[end..]);
+    let count = read_some(reader, &mut block[end..]);
     if count > 0 {
         return Refill::Read(Input {
             at: 0,
@@ -274,17 +275,6 @@ fn read_more<R: Read, W: Write>(
         return Refill::Ended(0);
     }
     Refill::Ended(end)
-}
-
-// How many bytes a read puts at the front of an area: none at the end of the input, and none where it
-// fails.
-fn read_block<R: Read>(reader: &mut R, area: &mut [u8]) -> usize
-    ensures { result ≤ length area.new }
-{
-    match reader.read(area) {
-        Ok(count) => count,
-        Err(_) => 0,
-    }
 }
 
 fn respond<W: Write>(
