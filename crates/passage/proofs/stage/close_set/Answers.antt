@@ -12,9 +12,7 @@ use Rattle.passage.proofs.stage.close_set.Goals as goal
 
 pub returns-in_default : goal.returns-in_default
 unfolding answer_text reply_text
-returns-in_default c = let a = c.args in
-    let n : (b : SegmentCacheBuilder) → a.stage ≡ Building b → ⊥ = λ b (f : a.stage ≡ Building b). ⊎_elim (λ p. omega arith) (λ p. omega arith) (rw f at c.match.keys2) in
-    close_out a.stage a.target a.index.now a.starts.now a.lengths.now a.scratch.now a.arena.now n
+returns-in_default c = let a = c.args in close_out a.stage a.target a.index.now a.starts.now a.lengths.now a.scratch.now a.arena.now c.in_default.not-Building
 
 pub returns-in-Refused : goal.returns-in-Refused
 unfolding answer_text reply_text close_step

@@ -12,9 +12,7 @@ use Rattle.passage.proofs.stage.get_value.Goals as goal
 
 pub returns-in_default : goal.returns-in_default
 unfolding answer_text reply_text
-returns-in_default c = let a = c.args in
-    let n : (f : FrozenSegmentCache) → a.stage ≡ Finished f → ⊥ = λ b (f : a.stage ≡ Finished b). ⊎_elim (λ p. omega arith) (λ p. omega arith) (rw f at c.match.keys2) in
-    get_out a.stage a.hash a.key.now a.tick a.index.now a.filter.now a.starts.now a.lengths.now a.arena.now n
+returns-in_default c = let a = c.args in get_out a.stage a.hash a.key.now a.tick a.index.now a.filter.now a.starts.now a.lengths.now a.arena.now c.in_default.not-Finished
 
 pub returns-in-Value : goal.returns-in-Value
 unfolding answer_text reply_text get_step

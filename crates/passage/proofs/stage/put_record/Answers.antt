@@ -12,9 +12,7 @@ use Rattle.passage.proofs.stage.put_record.Goals as goal
 
 pub returns-in_default : goal.returns-in_default
 unfolding answer_text reply_text
-returns-in_default c = let a = c.args in
-    let n : (b : SegmentCacheBuilder) → a.stage ≡ Building b → ⊥ = λ b (f : a.stage ≡ Building b). ⊎_elim (λ p. omega arith) (λ p. omega arith) (rw f at c.match.keys2) in
-    put_out a.stage a.hash a.key.now a.value.now a.ttl a.index.now a.filter.now a.arena.now n
+returns-in_default c = let a = c.args in put_out a.stage a.hash a.key.now a.value.now a.ttl a.index.now a.filter.now a.arena.now c.in_default.not-Building
 
 pub returns-in-Refused : goal.returns-in-Refused
 unfolding answer_text reply_text put_step
