@@ -3,7 +3,6 @@ use native.Mathlib.Omega.{arith}
 use Rattle.passage_lines.specs.Reply.{reply_text}
 use Rattle.passage.specs.Stage.{answer_text}
 use Rattle.passage.proofs.Decoding.{decode_none, decode_some}
-use borrow.Author.Rules.{rules}
 use Rattle.passage.proofs.answer.put_line.Goals as goal
 
 pub returns-in_default : goal.returns-in_default

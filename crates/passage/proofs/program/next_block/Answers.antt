@@ -2,7 +2,6 @@
 use mathlib.Core.Path.{ap}
 use native.Mathlib.Omega.{arith}
 use Rattle.passage.specs.Program.{ended_with}
-use borrow.Author.Rules.{rules}
 use Rattle.passage.proofs.program.next_block.Goals as goal
 
 pub answer_last-requires : goal.answer_last-requires

@@ -1,7 +1,6 @@
 -- `print_answer` keeps the output's end inside. Assumes nothing.
 use native.Mathlib.Omega.{arith}
 use Rattle.passage.proofs.Loop.{appended_within}
-use borrow.Author.Rules.{rules}
 use Rattle.passage.proofs.program.print_answer.Goals as goal
 
 pub returns : goal.returns

@@ -3,7 +3,6 @@ use native.Mathlib.Omega.{arith}
 use Rattle.passage_lines.specs.Reply.{reply_text}
 use Rattle.passage_lines.specs.declared.reply.Reply.TheVariants.{Bad}
 use Rattle.passage.proofs.Loop.{appended_within}
-use borrow.Author.Rules.{rules}
 use Rattle.passage.proofs.program.respond_bad.Goals as goal
 
 pub returns : goal.returns

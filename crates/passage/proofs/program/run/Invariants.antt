@@ -1,9 +1,7 @@
 -- What each turn of the loop keeps.
-use mathlib.Core.Path.{◌≡◌, ap}
+use mathlib.Core.Path.{◌≡◌}
 use Prim.Native.Nat.{◌≤◌}
 use lib.ListN.{length}
-use borrow.Author.Rules.{rules}
-use Rattle.passage.specs.Program.{waiting_in}
 use Rattle.passage.proofs.program.run.Given as goal
 
 abbrev pub invariant-loop-left : goal.invariant-loop-left

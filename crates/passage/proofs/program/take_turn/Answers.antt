@@ -1,10 +1,7 @@
 -- `take_turn` meets its contract: a line lies inside the block. Assumes nothing.
 use mathlib.Core.Path.{sym, ◌∙◌}
-use Prim.Native.Nat.{◌≤◌}
 use native.Mathlib.Omega.{arith}
-use lib.ListN.{length}
 use Rattle.passage.proofs.Loop.{line_inside}
-use borrow.Author.Rules.{rules}
 use Rattle.passage.proofs.program.take_turn.Goals as goal
 
 pub slice_bounds-respond-count : goal.slice_bounds-respond-count

@@ -1,13 +1,7 @@
 -- `close_set` meets its contract: in turn it is the library's finish. Assumes nothing.
-use mathlib.Core.Logic.{⊎_elim}
-use mathlib.Core.Path.{◌≡◌}
-use native.Mathlib.Omega.{arith}
 use Rattle.passage_lines.specs.Reply.{reply_text}
-use Rattle.sets.specs.declared.builder.SegmentCacheBuilder.{SegmentCacheBuilder}
 use Rattle.passage.specs.Stage.{answer_text, close_step}
-use Rattle.passage.specs.declared.stage.Stage.TheVariants.{Building}
 use Rattle.passage.proofs.Turns.{close_out}
-use borrow.Author.Rules.{rules}
 use Rattle.passage.proofs.stage.close_set.Goals as goal
 
 pub returns-in_default : goal.returns-in_default

@@ -1,13 +1,7 @@
 -- `get_value` meets its contract: in turn it is the library's get. Assumes nothing.
-use mathlib.Core.Logic.{⊎_elim}
-use mathlib.Core.Path.{◌≡◌}
-use native.Mathlib.Omega.{arith}
 use Rattle.passage_lines.specs.Reply.{reply_text}
-use Rattle.sets.specs.declared.cache.FrozenSegmentCache.{FrozenSegmentCache}
 use Rattle.passage.specs.Stage.{answer_text, get_step}
-use Rattle.passage.specs.declared.stage.Stage.TheVariants.{Finished}
 use Rattle.passage.proofs.Turns.{get_out}
-use borrow.Author.Rules.{rules}
 use Rattle.passage.proofs.stage.get_value.Goals as goal
 
 pub returns-in_default : goal.returns-in_default

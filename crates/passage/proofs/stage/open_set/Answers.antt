@@ -1,12 +1,8 @@
 -- `open_set` meets its contract: in turn it is the library's open. Assumes nothing.
-use mathlib.Core.Logic.{⊎_elim}
-use mathlib.Core.Path.{◌≡◌}
 use native.Mathlib.Omega.{arith}
 use Rattle.passage_lines.specs.Reply.{reply_text}
 use Rattle.passage.specs.Stage.{answer_text, open_step}
-use Rattle.passage.specs.declared.stage.Stage.TheVariants.{Fresh}
 use Rattle.passage.proofs.Turns.{open_out, open_slots}
-use borrow.Author.Rules.{rules}
 use Rattle.passage.proofs.stage.open_set.Goals as goal
 
 pub returns-in_default : goal.returns-in_default

@@ -1,13 +1,7 @@
 -- `put_record` meets its contract: in turn it is the library's push. Assumes nothing.
-use mathlib.Core.Logic.{⊎_elim}
-use mathlib.Core.Path.{◌≡◌}
-use native.Mathlib.Omega.{arith}
 use Rattle.passage_lines.specs.Reply.{reply_text}
-use Rattle.sets.specs.declared.builder.SegmentCacheBuilder.{SegmentCacheBuilder}
 use Rattle.passage.specs.Stage.{answer_text, put_step}
-use Rattle.passage.specs.declared.stage.Stage.TheVariants.{Building}
 use Rattle.passage.proofs.Turns.{put_out}
-use borrow.Author.Rules.{rules}
 use Rattle.passage.proofs.stage.put_record.Goals as goal
 
 pub returns-in_default : goal.returns-in_default
