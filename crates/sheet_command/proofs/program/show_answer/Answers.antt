@@ -1,5 +1,4 @@
 -- `show_answer` writes pages that stand in the page area. Assumes nothing.
-use borrow.Author.Rules.{rules}
 use Rattle.sheet_command.proofs.program.show_answer.Goals as goal
 
 pub show_pages-requires : goal.show_pages-requires
