@@ -4,52 +4,60 @@
 #![tactic(auto)]
 
 use records::varint::{Varint, WriteAnswer};
+use std::io;
 
 // A number, its bytes, and the number and the byte count that reading them gives.
-fn vector(value: usize) {
+fn vector(rt: &impl Print, value: usize) -> io::Result<()> {
     let mut out = [0u8; 10];
     let WriteAnswer::Written(n) = records::varint::write_varint(&mut out, value) else {
-        show::text(b"refused\n");
-        return;
+        return show::text(rt, b"refused\n");
     };
-    show::prefix(value, &out, n);
-    show_read(&out);
+    show::prefix(rt, value, &out, n)?;
+    show_read(rt, &out)
 }
 
 // What stands at the front of some bytes.
-fn show_read(bytes: &[u8]) {
+fn show_read(rt: &impl Print, bytes: &[u8]) -> io::Result<()> {
     let Varint::Value(value, next) = records::varint::read_varint(bytes, 0) else {
-        show::text(b", unreadable\n");
-        return;
+        return show::text(rt, b", unreadable\n");
     };
-    show::text(b", read");
-    show::decimal(value as u64);
-    show::text(b" of");
-    show::decimal(next as u64);
-    show::text(b"\n");
+    show::text(rt, b", read")?;
+    show::decimal(rt, value as u64)?;
+    show::text(rt, b" of")?;
+    show::decimal(rt, next as u64)?;
+    show::text(rt, b"\n")
 }
 
-fn main() {
-    vector(2);
-    vector(127);
-    vector(128);
-    vector(129);
-    vector(12_857);
-    vector(624_485);
-    vector(0xffff_ffff);
-    vector(0x1_0000_0000);
-    vector(0x7fff_ffff_ffff_ffff);
-    vector(0x8000_0000_0000_0000);
-    vector(0xffff_ffff_ffff_ffff);
+fn main(rt: HostRuntime) -> io::Result<()> {
+    vector(&rt, 2)?;
+    vector(&rt, 127)?;
+    vector(&rt, 128)?;
+    vector(&rt, 129)?;
+    vector(&rt, 12_857)?;
+    vector(&rt, 624_485)?;
+    vector(&rt, 0xffff_ffff)?;
+    vector(&rt, 0x1_0000_0000)?;
+    vector(&rt, 0x7fff_ffff_ffff_ffff)?;
+    vector(&rt, 0x8000_0000_0000_0000)?;
+    vector(&rt, 0xffff_ffff_ffff_ffff)?;
     // over-long, the tenth byte's upper payload bits, an eleventh byte
-    show::text(b"80 00");
-    show_read(&[0x80u8, 0]);
-    show::text(b"80 x 9, 02");
-    show_read(&[0x80u8, 0x80, 0x80, 0x80, 0x80, 0x80, 0x80, 0x80, 0x80, 2]);
-    show::text(b"81, 80 x 8, 7e");
-    show_read(&[0x81u8, 0x80, 0x80, 0x80, 0x80, 0x80, 0x80, 0x80, 0x80, 0x7e]);
-    show::text(b"80 x 10, 00");
-    show_read(&[
-        0x80u8, 0x80, 0x80, 0x80, 0x80, 0x80, 0x80, 0x80, 0x80, 0x80, 0,
-    ]);
+    show::text(&rt, b"80 00")?;
+    show_read(&rt, &[0x80u8, 0])?;
+    show::text(&rt, b"80 x 9, 02")?;
+    show_read(
+        &rt,
+        &[0x80u8, 0x80, 0x80, 0x80, 0x80, 0x80, 0x80, 0x80, 0x80, 2],
+    )?;
+    show::text(&rt, b"81, 80 x 8, 7e")?;
+    show_read(
+        &rt,
+        &[0x81u8, 0x80, 0x80, 0x80, 0x80, 0x80, 0x80, 0x80, 0x80, 0x7e],
+    )?;
+    show::text(&rt, b"80 x 10, 00")?;
+    show_read(
+        &rt,
+        &[
+            0x80u8, 0x80, 0x80, 0x80, 0x80, 0x80, 0x80, 0x80, 0x80, 0x80, 0,
+        ],
+    )
 }

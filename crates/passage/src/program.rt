@@ -4,9 +4,10 @@ ghost use Rattle.passage.specs.Program.{ended_with, waiting_in};
 
 use crate::answer::{answer_line, put_answer};
 use crate::stage::{Answer, Stage};
-use libc::{STDIN_FILENO, STDOUT_FILENO};
 use passage_lines::input::{Input, NextLine, keep_unread, next_line};
 use passage_lines::reply::{Reply, put_reply};
+use show::input::read_some;
+use std::io::{Read, Write};
 
 // No line of output is longer: a value comes from a line of input, as long as its text there.
 const MAX_REPLY_BYTES: usize = 8_200;
@@ -41,11 +42,11 @@ struct Response {
     waiting: usize,
 }
 
-// Answers every line of standard input on standard output, with the areas that document 01 says. What
+// Answers every line that the reader gives on the writer, with the areas that document 01 says. What
 // one line does is fixed by answer_line; that the loop reads all lines and writes all answers is run,
 // not proved. The block is longer than a line may be, and out than a line of output; key and value
 // have room for every line's bytes.
-pub fn run() {
+pub fn run<R: Read, W: Write>(reader: &mut R, writer: &mut W) {
     let mut block = [0u8; 65536];
     let mut out = [0u8; 65536];
     let mut key = [0u8; 4096];
@@ -68,6 +69,8 @@ pub fn run() {
     let mut left = u64::MAX;
     while left > 0 {
         let Turn::More(next) = take_turn(
+            reader,
+            writer,
             state,
             &mut block,
             &mut key,
@@ -87,7 +90,9 @@ pub fn run() {
     }
 }
 
-fn take_turn(
+fn take_turn<R: Read, W: Write>(
+    reader: &mut R,
+    writer: &mut W,
     state: State,
     block: &mut [u8],
     key: &mut [u8],
@@ -113,6 +118,7 @@ fn take_turn(
             input: rest,
         } => {
             let response = respond(
+                writer,
                 stage,
                 &block[from..to],
                 waiting,
@@ -136,7 +142,7 @@ fn take_turn(
         NextLine::TooLong(rest) => Turn::More(State {
             stage,
             input: rest,
-            waiting: respond_bad(waiting, out),
+            waiting: respond_bad(writer, waiting, out),
         }),
         NextLine::Skipped(rest) => Turn::More(State {
             stage,
@@ -144,14 +150,16 @@ fn take_turn(
             waiting,
         }),
         NextLine::More(rest) => next_block(
-            stage, rest, waiting, block, key, value, out, index, filter, starts, lengths, scratch,
-            arena,
+            reader, writer, stage, rest, waiting, block, key, value, out, index, filter, starts,
+            lengths, scratch, arena,
         ),
     }
 }
 
 // Writes what waits and reads more input; where there is none, answers the last line.
-fn next_block(
+fn next_block<R: Read, W: Write>(
+    reader: &mut R,
+    writer: &mut W,
     stage: Stage,
     input: Input,
     waiting: usize,
@@ -169,7 +177,7 @@ fn next_block(
     requires { waiting ≤ length out.old }
     ensures { waiting_in result ≡ 0 }
 {
-    match read_more(block, input, waiting, &out[..]) {
+    match read_more(reader, writer, block, input, waiting, &out[..]) {
         Refill::Read(next) => Turn::More(State {
             stage,
             input: next,
@@ -177,6 +185,7 @@ fn next_block(
         }),
         Refill::Ended(count) => {
             answer_last(
+                writer,
                 stage,
                 count,
                 &block[..],
@@ -196,7 +205,8 @@ fn next_block(
 }
 
 // The last line, where it has bytes and no line feed.
-fn answer_last(
+fn answer_last<W: Write>(
+    writer: &mut W,
     stage: Stage,
     count: usize,
     block: &[u8],
@@ -216,6 +226,7 @@ fn answer_last(
         return;
     }
     let response = respond(
+        writer,
         stage,
         &block[0..count],
         0,
@@ -229,24 +240,30 @@ fn answer_last(
         scratch,
         arena,
     );
-    write_waiting(response.waiting, &out[..]);
+    write_waiting(writer, response.waiting, &out[..]);
 }
 
 // Writes what waits, moves what is unread to the front of the block and reads after it. Where the
 // input has ended, the bytes of a last line without a line feed stand at the front. Where a write
-// fails, the input is taken as ended.
-fn read_more(block: &mut [u8], input: Input, waiting: usize, out: &[u8]) -> Refill
+// or a read fails, the input is taken as ended.
+fn read_more<R: Read, W: Write>(
+    reader: &mut R,
+    writer: &mut W,
+    block: &mut [u8],
+    input: Input,
+    waiting: usize,
+    out: &[u8],
+) -> Refill
     requires { waiting ≤ length out.now }
     ensures { ended_with result ≤ length block.old }
 {
-    if !write_waiting(waiting, out) {
+    if !write_waiting(writer, waiting, out) {
         return Refill::Ended(0);
     }
     let kept = keep_unread(block, input);
     let end = kept.end;
     let skipping = kept.skipping;
-    let got = libc::read(STDIN_FILENO, &mut block[end..]);
-    let count = io::count(got, &block[end..]);
+    let count = read_some(reader, &mut block[end..]);
     if count > 0 {
         return Refill::Read(Input {
             at: 0,
@@ -260,7 +277,8 @@ fn read_more(block: &mut [u8], input: Input, waiting: usize, out: &[u8]) -> Refi
     Refill::Ended(end)
 }
 
-fn respond(
+fn respond<W: Write>(
+    writer: &mut W,
     stage: Stage,
     line: &[u8],
     waiting: usize,
@@ -284,40 +302,46 @@ fn respond(
     let next = step.stage;
     Response {
         stage: next,
-        waiting: print_answer(waiting, out, answer, &arena[..]),
+        waiting: print_answer(writer, waiting, out, answer, &arena[..]),
     }
 }
 
-fn respond_bad(waiting: usize, out: &mut [u8]) -> usize
+fn respond_bad<W: Write>(writer: &mut W, waiting: usize, out: &mut [u8]) -> usize
     requires { waiting ≤ length out.old }
     ensures { result ≤ length out.old }
 {
-    let at = make_room(waiting, &out[..]);
+    let at = make_room(writer, waiting, &out[..]);
     put_reply(out, at, Reply::Bad)
 }
 
-fn print_answer(waiting: usize, out: &mut [u8], answer: Answer, arena: &[u8]) -> usize
+fn print_answer<W: Write>(
+    writer: &mut W,
+    waiting: usize,
+    out: &mut [u8],
+    answer: Answer,
+    arena: &[u8],
+) -> usize
     requires { waiting ≤ length out.old }
     ensures { result ≤ length out.old }
 {
-    let at = make_room(waiting, &out[..]);
+    let at = make_room(writer, waiting, &out[..]);
     put_answer(out, at, answer, arena)
 }
 
 // Writes what waits where a line more might not fit.
-fn make_room(waiting: usize, out: &[u8]) -> usize
+fn make_room<W: Write>(writer: &mut W, waiting: usize, out: &[u8]) -> usize
     requires { waiting ≤ length out.now }
     ensures { result ≤ waiting }
 {
     if out.len() - waiting >= MAX_REPLY_BYTES {
         return waiting;
     }
-    write_waiting(waiting, out);
+    write_waiting(writer, waiting, out);
     0
 }
 
-fn write_waiting(waiting: usize, out: &[u8]) -> bool
+fn write_waiting<W: Write>(writer: &mut W, waiting: usize, out: &[u8]) -> bool
     requires { waiting ≤ length out.now }
 {
-    io::write_all(STDOUT_FILENO, &out[0..waiting])
+    writer.write_all(&out[0..waiting]).is_ok()
 }

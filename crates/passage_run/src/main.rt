@@ -1,6 +1,6 @@
 // The program passage on document 01's example.
 #![tactic(auto)]
 
-fn main() {
-    passage::program::run();
+fn main(rt: HostRuntime) {
+    passage::program::run(&mut rt.stdin(), &mut rt.stdout());
 }

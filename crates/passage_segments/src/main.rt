@@ -1,6 +1,6 @@
 // The program passage with 257 records: refusal 5, and refusal 7 for targets that make 257 segments.
 #![tactic(auto)]
 
-fn main() {
-    passage::program::run();
+fn main(rt: HostRuntime) {
+    passage::program::run(&mut rt.stdin(), &mut rt.stdout());
 }

@@ -4,6 +4,7 @@ use crate::place;
 use crate::place::Words;
 use crate::rebuild_calls::{push_copied, push_reused, rebuild_finish, rebuild_open};
 use crate::set_calls::{look_up, stats};
+use std::io;
 
 const OPEN: u64 = 0;
 
@@ -25,14 +26,14 @@ const PUSH_COPIED: u64 = 8;
 
 const REBUILD_FINISH: u64 = 9;
 
-pub(crate) fn ask(name: &[u8], words: Words) {
-    show::text(name);
+pub(crate) fn ask(rt: &impl Print, name: &[u8], words: Words) -> io::Result<()> {
+    show::text(rt, name)?;
     match words[place::CALLS] {
-        SET => ask_set(words),
-        REBUILD => ask_rebuild(words),
-        _ => show::decimal(answer(words)),
+        SET => ask_set(rt, words)?,
+        REBUILD => ask_rebuild(rt, words)?,
+        _ => show::decimal(rt, answer(words))?,
     }
-    show::text(b"\n");
+    show::text(rt, b"\n")
 }
 
 // What the one call of a case answers.
@@ -51,14 +52,14 @@ fn answer(words: Words) -> u64 {
     }
 }
 
-fn ask_set(words: Words) {
-    look_up(words);
-    show::decimal(stats(words));
+fn ask_set(rt: &impl Print, words: Words) -> io::Result<()> {
+    look_up(rt, words)?;
+    show::decimal(rt, stats(words))
 }
 
 // Each call has the words of the case, not what the call before made of them.
-fn ask_rebuild(words: Words) {
-    show::decimal(push_reused(words));
-    show::decimal(push_copied(words));
-    show::decimal(rebuild_finish(words));
+fn ask_rebuild(rt: &impl Print, words: Words) -> io::Result<()> {
+    show::decimal(rt, push_reused(words))?;
+    show::decimal(rt, push_copied(words))?;
+    show::decimal(rt, rebuild_finish(words))
 }

@@ -6,7 +6,7 @@
 use crate::calls::ask;
 use crate::place::Words;
 use crate::text::{changed, find};
-use libc::STDIN_FILENO;
+use std::io;
 
 mod build_calls;
 mod calls;
@@ -15,37 +15,38 @@ mod rebuild_calls;
 mod set_calls;
 mod text;
 
-fn main() {
+fn main(rt: HostRuntime) -> io::Result<()> {
     let mut text = [0; 16_384];
-    let length = io::read_full(STDIN_FILENO, &mut text);
-    run(&text[0..length]);
+    let length = show::input::read_full(&mut rt.stdin(), &mut text);
+    run(&rt, &text[0..length])
 }
 
-fn run(text: &[u8]) {
+fn run(rt: &impl Print, text: &[u8]) -> io::Result<()> {
     let mut passing = [0; place::COUNT];
     let mut at = 0;
     while at < text.len() {
         let end = find(text, at, b'\n');
-        let next = run_line(&text[at..end], passing);
+        let next = run_line(rt, &text[at..end], passing)?;
         passing = next;
         at = end + 1;
     }
+    Ok(())
 }
 
 // The words that pass, for the lines after this one.
-fn run_line(line: &[u8], passing: Words) -> Words {
+fn run_line(rt: &impl Print, line: &[u8], passing: Words) -> io::Result<Words> {
     if line.len() == 0 {
-        return passing;
+        return Ok(passing);
     }
     let first = line[0];
     if first == b'#' {
-        return passing;
+        return Ok(passing);
     }
     if first == b'=' {
-        return changed(line, [0; place::COUNT]);
+        return Ok(changed(line, [0; place::COUNT]));
     }
-    ask(name_of(line), changed(line, passing));
-    passing
+    ask(rt, name_of(line), changed(line, passing))?;
+    Ok(passing)
 }
 
 // What stands before the changes.

@@ -5,7 +5,8 @@
 use crate::calls::{EMPTY, make_call};
 use crate::line::{MOST_BYTES, read_line};
 use crate::tally::START;
-use libc::STDIN_FILENO;
+use std::io;
+use std::io::Read;
 
 mod calls;
 mod checksum;
@@ -17,17 +18,17 @@ const SETS: usize = 4;
 
 const LIST_BYTES: usize = 1_048_576;
 
-fn main() {
+fn main(rt: HostRuntime) -> io::Result<()> {
     let mut list = [0; LIST_BYTES];
-    let length = read_list(&mut list);
-    replay(&list, length);
+    let length = read_list(&mut rt.stdin(), &mut list);
+    replay(&rt, &list, length)
 }
 
-fn read_list(list: &mut [u8; LIST_BYTES]) -> usize {
-    io::read_full(STDIN_FILENO, list)
+fn read_list<R: Read>(reader: &mut R, list: &mut [u8; LIST_BYTES]) -> usize {
+    show::input::read_full(reader, list)
 }
 
-fn replay(list: &[u8; LIST_BYTES], length: usize) {
+fn replay(rt: &impl Print, list: &[u8; LIST_BYTES], length: usize) -> io::Result<()> {
     let mut bytes = [0; MOST_BYTES];
     let mut arena = [0; 131_072];
     let mut sets = [EMPTY; SETS];
@@ -35,8 +36,7 @@ fn replay(list: &[u8; LIST_BYTES], length: usize) {
     let mut at = 0;
     for number in 1..u64::MAX {
         if at >= length {
-            tally.show();
-            return;
+            return tally.show(rt);
         }
         let line = read_line(list, at, &mut bytes);
         let numbers = line.numbers;
@@ -45,7 +45,8 @@ fn replay(list: &[u8; LIST_BYTES], length: usize) {
         let areas = make_call(line, &bytes, sets[made], sets[source], &mut arena);
         sets[made] = areas;
         let told = areas.told;
-        tally = tally.compared(number, line, told);
+        tally = tally.compared(rt, number, line, told)?;
         at = line.next;
     }
+    Ok(())
 }

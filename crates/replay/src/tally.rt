@@ -1,6 +1,7 @@
 // Counting the calls by kind, and telling differences.
 use crate::calls::{NOTHING, UNREADABLE, name_of};
 use crate::line::{ANSWER, Line, Numbers, TOLD, Told};
+use std::io;
 
 const SHOWN_DIFFERENCES: u64 = 10;
 
@@ -21,48 +22,60 @@ fn more(count: u64) -> u64 {
 
 impl Tally {
     // One line more, with what the port told.
-    pub(crate) fn compared(self, number: u64, line: Line, told: Told) -> Tally {
+    pub(crate) fn compared(
+        self,
+        rt: &impl Print,
+        number: u64,
+        line: Line,
+        told: Told,
+    ) -> io::Result<Tally> {
         let at = line.kind % 16;
         let mut counts = self.counts;
         counts[at] = more(counts[at]);
-        Tally {
-            differences: with_difference(self.differences, number, line, told),
+        Ok(Tally {
+            differences: with_difference(rt, self.differences, number, line, told)?,
             counts,
-        }
+        })
     }
 
-    pub(crate) fn show(self) {
+    pub(crate) fn show(self, rt: &impl Print) -> io::Result<()> {
         let counts = self.counts;
         let mut kind = 0;
         while kind <= UNREADABLE {
-            show_count(name_of(kind), counts[kind]);
+            show_count(rt, name_of(kind), counts[kind])?;
             kind += 1;
         }
-        show::number(b"differences     ", self.differences);
+        show::number(rt, b"differences     ", self.differences)
     }
 }
 
 // The number of differences, and where there is one more, its line; only the first ones are shown.
-fn with_difference(before: u64, number: u64, line: Line, told: Told) -> u64 {
+fn with_difference(
+    rt: &impl Print,
+    before: u64,
+    number: u64,
+    line: Line,
+    told: Told,
+) -> io::Result<u64> {
     let numbers = line.numbers;
     let at = first_difference(numbers, told);
     if at >= TOLD || line.kind == NOTHING {
-        return before;
+        return Ok(before);
     }
     if before < SHOWN_DIFFERENCES {
-        show::text(b"line");
-        show::decimal(number);
-        show::text(b": word");
-        show::decimal(at as u64);
-        show::text(b", Rust");
-        show::decimal(numbers[ANSWER + at]);
-        show::number(b", port", told[at]);
+        show::text(rt, b"line")?;
+        show::decimal(rt, number)?;
+        show::text(rt, b": word")?;
+        show::decimal(rt, at as u64)?;
+        show::text(rt, b", Rust")?;
+        show::decimal(rt, numbers[ANSWER + at])?;
+        show::number(rt, b", port", told[at])?;
     }
-    more(before)
+    Ok(more(before))
 }
 
-fn show_count(name: [u8; 16], count: u64) {
-    show::number(&name, count);
+fn show_count(rt: &impl Print, name: [u8; 16], count: u64) -> io::Result<()> {
+    show::number(rt, &name, count)
 }
 
 fn first_difference(numbers: Numbers, told: Told) -> usize {

@@ -7,7 +7,8 @@ use crate::sheet::sheet_of_file;
 use charts::sheet::SheetAnswer;
 use hash_parts::error::SegmentCacheBuildError;
 use index::segments::MAX_RECORD_SEGMENTS;
-use libc::{STDIN_FILENO, STDOUT_FILENO};
+use std::io;
+use std::io::Read;
 
 // An input that fills this area may be longer than it, and is refused, not cut: a file has at most 262,143 bytes.
 const FILE_AREA_BYTES: usize = 262_144;
@@ -24,8 +25,8 @@ const PAGE_BYTES: usize = 3_250;
 // 80 pages: a set of at most 4,000 records is printed, a larger one refused by 10.
 const PAGE_AREA_BYTES: usize = 260_000;
 
-// Prints the sheet of the file on standard input. All areas together have 1.25 MiB, and stand on the stack.
-pub fn run() {
+// Prints the sheet of the file that the reader gives. All areas together have 1.25 MiB, and stand on the stack.
+pub fn run<R: Read>(reader: &mut R, rt: &impl Print) -> io::Result<()> {
     let mut file = [0u8; FILE_AREA_BYTES];
     let mut index = [0u64; INDEX_WORDS];
     let mut filter = [0u64; FILTER_WORDS];
@@ -34,6 +35,8 @@ pub fn run() {
     let mut arena = [0u8; ARENA_BYTES];
     let mut page = [0u8; PAGE_AREA_BYTES];
     print_input(
+        reader,
+        rt,
         &mut file,
         &mut index,
         &mut filter,
@@ -41,12 +44,14 @@ pub fn run() {
         &mut lengths,
         &mut arena,
         &mut page,
-    );
+    )
 }
 
 // Reads until the input ends or the area is full. A read that fails is taken for the end: what was cut
 // off a file is then missed by the load.
-fn print_input(
+fn print_input<R: Read>(
+    reader: &mut R,
+    rt: &impl Print,
     area: &mut [u8],
     index: &mut [u64],
     filter: &mut [u64],
@@ -54,10 +59,10 @@ fn print_input(
     lengths: &mut [u64],
     arena: &mut [u8],
     page: &mut [u8],
-) {
-    let size = io::read_full(STDIN_FILENO, area);
+) -> io::Result<()> {
+    let size = show::input::read_full(reader, area);
     let answer = sheet_of_input(&area[..], size, index, filter, starts, lengths, arena, page);
-    show_answer(answer, &page[..]);
+    show_answer(rt, answer, &page[..])
 }
 
 // The sheet of the input that stands at the front of an area. An input that fills the area may be longer.
@@ -80,18 +85,18 @@ fn sheet_of_input(
 }
 
 // Writes the pages, or the line of a refusal.
-fn show_answer(answer: SheetAnswer, page: &[u8])
+fn show_answer(rt: &impl Print, answer: SheetAnswer, page: &[u8]) -> io::Result<()>
     requires { page_bytes answer ≤ length page.now }
 {
     match answer {
-        SheetAnswer::Pages(pages) => show_pages(pages, page),
-        SheetAnswer::Refused(refusal) => show::number(b"sheet", refusal.number() as u64),
+        SheetAnswer::Pages(pages) => show_pages(rt, pages, page),
+        SheetAnswer::Refused(refusal) => show::number(rt, b"sheet", refusal.number() as u64),
     }
 }
 
-fn show_pages(pages: usize, page: &[u8])
+fn show_pages(rt: &impl Print, pages: usize, page: &[u8]) -> io::Result<()>
     requires { 3250 * pages ≤ length page.now }
 {
     let end = pages * PAGE_BYTES;
-    io::write_all(STDOUT_FILENO, &page[0..end]);
+    rt.write_all(&page[0..end])
 }

@@ -1,6 +1,8 @@
 // The sheet command on document 01's example with its last byte lost: refusal 13.
 #![tactic(auto)]
 
-fn main() {
-    sheet_command::program::run();
+use std::io;
+
+fn main(rt: HostRuntime) -> io::Result<()> {
+    sheet_command::program::run(&mut rt.stdin(), &rt)
 }

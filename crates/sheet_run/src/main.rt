@@ -1,6 +1,8 @@
 // The sheet of document 01's example.
 #![tactic(auto)]
 
-fn main() {
-    sheet_command::program::run();
+use std::io;
+
+fn main(rt: HostRuntime) -> io::Result<()> {
+    sheet_command::program::run(&mut rt.stdin(), &rt)
 }

@@ -1,57 +1,54 @@
-// Lines of the trial programs.
+// Lines of the trial programs, and the input that they read.
 #![tactic(auto)]
 
-use libc::STDOUT_FILENO;
+pub mod input;
+
+use std::io;
 
 // A name and a number in decimal.
-pub fn number(name: &[u8], value: u64) {
-    io::write_all(STDOUT_FILENO, name);
-    decimal(value);
-    io::write_all(STDOUT_FILENO, b"\n");
+pub fn number(rt: &impl Print, name: &[u8], value: u64) -> io::Result<()> {
+    text(rt, name)?;
+    println!(rt; " {value}")
 }
 
 // A space and a number in decimal.
-pub fn decimal(value: u64) {
-    io::write_all(STDOUT_FILENO, b" ");
-    io::print_decimal(STDOUT_FILENO, value);
+pub fn decimal(rt: &impl Print, value: u64) -> io::Result<()> {
+    print!(rt; " {value}")
 }
 
 // A name and a number in hexadecimal.
-pub fn hex(name: &[u8], value: u64) {
-    io::write_all(STDOUT_FILENO, name);
-    io::write_all(STDOUT_FILENO, b" ");
-    io::print_hex(STDOUT_FILENO, value, 1);
-    io::write_all(STDOUT_FILENO, b"\n");
+pub fn hex(rt: &impl Print, name: &[u8], value: u64) -> io::Result<()> {
+    text(rt, name)?;
+    println!(rt; " {value:x}")
 }
 
 // A number, a colon, and the first bytes of its length prefix, with no line end.
-pub fn prefix(value: usize, area: &[u8], count: usize) {
-    io::print_decimal(STDOUT_FILENO, value as u64);
-    io::write_all(STDOUT_FILENO, b":");
-    front(area, count);
+pub fn prefix(rt: &impl Print, value: usize, area: &[u8], count: usize) -> io::Result<()> {
+    print!(rt; "{value}:")?;
+    front(rt, area, count)
 }
 
 // The first bytes of an area.
-pub fn front(area: &[u8], count: usize) {
+pub fn front(rt: &impl Print, area: &[u8], count: usize) -> io::Result<()> {
     if count <= area.len() {
-        bytes(&area[0..count]);
+        bytes(rt, &area[0..count])?;
     }
+    Ok(())
 }
 
 // Bytes in hexadecimal, each with a space before it.
-fn bytes(bytes: &[u8]) {
-    let mut i = 0;
-    while i < bytes.len() {
-        byte(bytes[i]);
-        i += 1;
+fn bytes(rt: &impl Print, bytes: &[u8]) -> io::Result<()> {
+    for shown in bytes {
+        byte(rt, *shown)?;
     }
+    Ok(())
 }
 
-fn byte(byte: u8) {
-    io::write_all(STDOUT_FILENO, b" ");
-    io::print_hex(STDOUT_FILENO, byte as u64, 2);
+fn byte(rt: &impl Print, byte: u8) -> io::Result<()> {
+    print!(rt; " {byte:02x}")
 }
 
-pub fn text(text: &[u8]) {
-    io::write_all(STDOUT_FILENO, text);
+// Bytes as they are, which need not be text.
+pub fn text(rt: &impl Print, text: &[u8]) -> io::Result<()> {
+    rt.write_all(text)
 }

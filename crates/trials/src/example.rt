@@ -5,46 +5,60 @@ use hash_parts::duration::{Duration, Lifetime};
 use hash_parts::setting::SegmentCacheConfig;
 use sets::builder::{FinishAnswer, OpenAnswer, SegmentCacheBuilder};
 use sets::cache::FrozenSegmentCache;
+use std::io;
 
 // Two pushes; then the arena's bytes are shown.
-fn fill(builder: SegmentCacheBuilder, index: &mut [u64], arena: &mut [u8]) -> SegmentCacheBuilder {
+fn fill(
+    rt: &impl Print,
+    builder: SegmentCacheBuilder,
+    index: &mut [u64],
+    arena: &mut [u8],
+) -> io::Result<SegmentCacheBuilder> {
     let life = Lifetime::For(Duration {
         secs: 9,
         nanos: 500_000_000,
     });
-    let one = push(builder, 1, b"a", b"AB", life, index, arena);
-    let two = push(one, 2, b"b", b"", Lifetime::Never, index, arena);
-    show::text(b"arena:");
-    show::front(&arena[..], two.filled);
-    show::text(b"\n");
-    two
+    let one = push(rt, builder, 1, b"a", b"AB", life, index, arena)?;
+    let two = push(rt, one, 2, b"b", b"", Lifetime::Never, index, arena)?;
+    show::text(rt, b"arena:")?;
+    show::front(rt, &arena[..], two.filled)?;
+    show::text(rt, b"\n")?;
+    Ok(two)
 }
 
-fn ask(set: FrozenSegmentCache, index: &mut [u64], starts: &[u64], lengths: &[u64], arena: &[u8]) {
-    get(set, 1, b"a", 9, index, starts, lengths, arena);
-    get(set, 1, b"a", 10, index, starts, lengths, arena);
-    get(set, 2, b"b", 70_000, index, starts, lengths, arena);
-}
-
-// Asks the set, shows the first words of its index, then what it is as a file.
-fn ask_and_write(
+fn ask(
+    rt: &impl Print,
     set: FrozenSegmentCache,
     index: &mut [u64],
     starts: &[u64],
     lengths: &[u64],
     arena: &[u8],
-) {
-    if index.len() < 3 {
-        return;
-    }
-    ask(set, index, starts, lengths, arena);
-    show::hex(b"control word", index[0]);
-    show::hex(b"index word 1", index[1]);
-    show::hex(b"index word 2", index[2]);
-    crate::file::run(set, &index[..], starts, lengths, arena);
+) -> io::Result<()> {
+    get(rt, set, 1, b"a", 9, index, starts, lengths, arena)?;
+    get(rt, set, 1, b"a", 10, index, starts, lengths, arena)?;
+    get(rt, set, 2, b"b", 70_000, index, starts, lengths, arena)
 }
 
-pub(crate) fn run() {
+// Asks the set, shows the first words of its index, then what it is as a file.
+fn ask_and_write(
+    rt: &impl Print,
+    set: FrozenSegmentCache,
+    index: &mut [u64],
+    starts: &[u64],
+    lengths: &[u64],
+    arena: &[u8],
+) -> io::Result<()> {
+    if index.len() < 3 {
+        return Ok(());
+    }
+    ask(rt, set, index, starts, lengths, arena)?;
+    show::hex(rt, b"control word", index[0])?;
+    show::hex(rt, b"index word 1", index[1])?;
+    show::hex(rt, b"index word 2", index[2])?;
+    crate::file::run(rt, set, &index[..], starts, lengths, arena)
+}
+
+pub(crate) fn run(rt: &impl Print) -> io::Result<()> {
     let mut index = [0u64; 8];
     let mut arena = [0u8; 16];
     let mut starts = [0u64; 256];
@@ -58,9 +72,9 @@ pub(crate) fn run() {
         &lengths,
         &arena,
     ) else {
-        return;
+        return Ok(());
     };
-    let filled = fill(builder, &mut index, &mut arena);
+    let filled = fill(rt, builder, &mut index, &mut arena)?;
     let FinishAnswer::Finished(set) = filled.finish(
         4_096,
         &mut index,
@@ -69,7 +83,7 @@ pub(crate) fn run() {
         &mut [0u64; 1],
         &arena,
     ) else {
-        return;
+        return Ok(());
     };
-    ask_and_write(set, &mut index, &starts, &lengths, &arena);
+    ask_and_write(rt, set, &mut index, &starts, &lengths, &arena)
 }

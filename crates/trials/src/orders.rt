@@ -6,20 +6,23 @@ use crate::targets::finish;
 use hash_parts::duration::Lifetime;
 use hash_parts::setting::SegmentCacheConfig;
 use sets::builder::{OpenAnswer, SegmentCacheBuilder};
+use std::io;
 
 const LONG_RECORDS: u64 = 256;
 
 // Pushes the records of three bytes: each has a key of one byte and no value.
 fn push_long(
+    rt: &impl Print,
     builder: SegmentCacheBuilder,
     index: &mut [u64],
     arena: &mut [u8],
-) -> SegmentCacheBuilder {
+) -> io::Result<SegmentCacheBuilder> {
     let mut state = builder;
     let mut next = 0;
     while next < LONG_RECORDS {
         let key = next as u8;
         state = push(
+            rt,
             state,
             next << 56,
             &[key],
@@ -27,37 +30,39 @@ fn push_long(
             Lifetime::Never,
             index,
             arena,
-        );
+        )?;
         next += 1;
     }
-    state
+    Ok(state)
 }
 
 // The record of two bytes has neither key nor value.
 fn push_short(
+    rt: &impl Print,
     builder: SegmentCacheBuilder,
     index: &mut [u64],
     arena: &mut [u8],
-) -> SegmentCacheBuilder {
-    push(builder, 1, b"", b"", Lifetime::Never, index, arena)
+) -> io::Result<SegmentCacheBuilder> {
+    push(rt, builder, 1, b"", b"", Lifetime::Never, index, arena)
 }
 
 fn push_all(
+    rt: &impl Print,
     builder: SegmentCacheBuilder,
     short_first: bool,
     index: &mut [u64],
     arena: &mut [u8],
-) -> SegmentCacheBuilder {
+) -> io::Result<SegmentCacheBuilder> {
     if short_first {
-        let one = push_short(builder, index, arena);
-        return push_long(one, index, arena);
+        let one = push_short(rt, builder, index, arena)?;
+        return push_long(rt, one, index, arena);
     }
-    let most = push_long(builder, index, arena);
-    push_short(most, index, arena)
+    let most = push_long(rt, builder, index, arena)?;
+    push_short(rt, most, index, arena)
 }
 
 // Shows the filled bytes and what finish answers.
-fn show_order(short_first: bool) {
+fn show_order(rt: &impl Print, short_first: bool) -> io::Result<()> {
     let mut index = [0u64; 296];
     let mut arena = [0u8; 770];
     let mut starts = [0u64; 256];
@@ -71,12 +76,12 @@ fn show_order(short_first: bool) {
         &lengths,
         &arena,
     ) else {
-        show::text(b"refused\n");
-        return;
+        return show::text(rt, b"refused\n");
     };
-    let full = push_all(builder, short_first, &mut index, &mut arena);
-    show::number(b"bytes", full.filled as u64);
+    let full = push_all(rt, builder, short_first, &mut index, &mut arena)?;
+    show::number(rt, b"bytes", full.filled as u64)?;
     finish(
+        rt,
         full,
         3,
         &mut index,
@@ -84,12 +89,12 @@ fn show_order(short_first: bool) {
         &mut lengths,
         &mut [0u64; 37],
         &arena,
-    );
+    )
 }
 
-pub(crate) fn run() {
-    show::text(b"target 3, 256 records of 3 bytes and then one of 2\n");
-    show_order(false);
-    show::text(b"target 3, the record of 2 bytes first\n");
-    show_order(true);
+pub(crate) fn run(rt: &impl Print) -> io::Result<()> {
+    show::text(rt, b"target 3, 256 records of 3 bytes and then one of 2\n")?;
+    show_order(rt, false)?;
+    show::text(rt, b"target 3, the record of 2 bytes first\n")?;
+    show_order(rt, true)
 }

@@ -3,63 +3,72 @@
 use hash_parts::duration::Lifetime;
 use hash_parts::setting::SegmentCacheConfig;
 use sets::builder::{OpenAnswer, PushAnswer, SegmentCacheBuilder};
+use std::io;
 
 const FILTER_WORDS: usize = 3;
 
-fn show_filter(filter: &[u64]) {
+fn show_filter(rt: &impl Print, filter: &[u64]) -> io::Result<()> {
     if filter.len() != FILTER_WORDS {
-        return;
+        return Ok(());
     }
-    show::text(b"filter");
-    show::decimal(filter[0]);
-    show::decimal(filter[1]);
-    show::decimal(filter[2]);
-    show::text(b"\n");
+    show::text(rt, b"filter")?;
+    show::decimal(rt, filter[0])?;
+    show::decimal(rt, filter[1])?;
+    show::decimal(rt, filter[2])?;
+    show::text(rt, b"\n")
 }
 
 // The slots of the last two records, and the filter after each.
-fn show_last(key: u8, slot: usize, filter: &[u64]) {
+fn show_last(rt: &impl Print, key: u8, slot: usize, filter: &[u64]) -> io::Result<()> {
     if key < 15 {
-        return;
+        return Ok(());
     }
-    show::number(b"slot", slot as u64);
-    show_filter(filter);
+    show::number(rt, b"slot", slot as u64)?;
+    show_filter(rt, filter)
 }
 
 // Pushes a record of hash 0 with a key of one byte; a refusal is shown.
 fn push(
+    rt: &impl Print,
     builder: SegmentCacheBuilder,
     key: u8,
     index: &mut [u64],
     filter: &mut [u64],
     arena: &mut [u8],
-) -> SegmentCacheBuilder {
+) -> io::Result<SegmentCacheBuilder> {
     match builder.push(0, &[key], b"", Lifetime::Never, index, filter, arena) {
         PushAnswer::Pushed {
             builder: next,
             slot,
             location: _,
         } => {
-            show_last(key, slot, &filter[..]);
-            next
+            show_last(rt, key, slot, &filter[..])?;
+            Ok(next)
         }
         PushAnswer::Refused { refusal, builder } => {
-            show::number(b"refusal", refusal.number() as u64);
-            builder
+            show::number(rt, b"refusal", refusal.number() as u64)?;
+            Ok(builder)
         }
     }
 }
 
-fn push_all(builder: SegmentCacheBuilder, index: &mut [u64], filter: &mut [u64], arena: &mut [u8]) {
+fn push_all(
+    rt: &impl Print,
+    builder: SegmentCacheBuilder,
+    index: &mut [u64],
+    filter: &mut [u64],
+    arena: &mut [u8],
+) -> io::Result<()> {
     let mut state = builder;
     let mut key: u8 = 0;
     while key < 17 {
-        state = push(state, key, index, filter, arena);
+        state = push(rt, state, key, index, filter, arena)?;
         key += 1;
     }
+    Ok(())
 }
 
-pub(crate) fn run() {
+pub(crate) fn run(rt: &impl Print) -> io::Result<()> {
     let mut index = [0u64; 24];
     let mut filter = [0u64; FILTER_WORDS];
     let mut arena = [0u8; 64];
@@ -74,13 +83,13 @@ pub(crate) fn run() {
         &segments,
         &arena,
     ) else {
-        show::text(b"refused\n");
-        return;
+        return show::text(rt, b"refused\n");
     };
     show::number(
+        rt,
         b"17 records of hash 0: buckets",
         builder.bucket_count as u64,
-    );
-    show::number(b"filter words", builder.filter_words as u64);
-    push_all(builder, &mut index, &mut filter, &mut arena);
+    )?;
+    show::number(rt, b"filter words", builder.filter_words as u64)?;
+    push_all(rt, builder, &mut index, &mut filter, &mut arena)
 }

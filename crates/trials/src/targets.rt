@@ -4,9 +4,11 @@ use crate::calls::push;
 use hash_parts::duration::Lifetime;
 use hash_parts::setting::SegmentCacheConfig;
 use sets::builder::{FinishAnswer, OpenAnswer, SegmentCacheBuilder};
+use std::io;
 
 // Shows the number of segments, or the refusal.
 pub(crate) fn finish(
+    rt: &impl Print,
     builder: SegmentCacheBuilder,
     target: usize,
     index: &mut [u64],
@@ -14,18 +16,24 @@ pub(crate) fn finish(
     lengths: &mut [u64],
     scratch: &mut [u64],
     arena: &[u8],
-) {
+) -> io::Result<()> {
     match builder.finish(target, index, starts, lengths, scratch, arena) {
-        FinishAnswer::Finished(set) => show::number(b"segments", set.segments as u64),
+        FinishAnswer::Finished(set) => show::number(rt, b"segments", set.segments as u64),
         FinishAnswer::Refused {
             refusal,
             builder: _,
-        } => show::number(b"refusal", refusal.number() as u64),
+        } => show::number(rt, b"refusal", refusal.number() as u64),
     }
 }
 
 // What the first of two records takes, and the number of segments with both.
-fn segments_of(key: &[u8], value: &[u8], second_key: &[u8], second_value: &[u8]) {
+fn segments_of(
+    rt: &impl Print,
+    key: &[u8],
+    value: &[u8],
+    second_key: &[u8],
+    second_value: &[u8],
+) -> io::Result<()> {
     let mut index = [0u64; 8];
     let mut arena = [0u8; 4_200];
     let mut starts = [0u64; 256];
@@ -39,10 +47,10 @@ fn segments_of(key: &[u8], value: &[u8], second_key: &[u8], second_value: &[u8])
         &lengths,
         &arena,
     ) else {
-        show::text(b"refused\n");
-        return;
+        return show::text(rt, b"refused\n");
     };
     let one = push(
+        rt,
         builder,
         1,
         key,
@@ -50,9 +58,10 @@ fn segments_of(key: &[u8], value: &[u8], second_key: &[u8], second_value: &[u8])
         Lifetime::Never,
         &mut index,
         &mut arena,
-    );
-    show::number(b"first record takes", one.filled as u64);
+    )?;
+    show::number(rt, b"first record takes", one.filled as u64)?;
     let two = push(
+        rt,
         one,
         2,
         second_key,
@@ -60,8 +69,9 @@ fn segments_of(key: &[u8], value: &[u8], second_key: &[u8], second_value: &[u8])
         Lifetime::Never,
         &mut index,
         &mut arena,
-    );
+    )?;
     finish(
+        rt,
         two,
         4_096,
         &mut index,
@@ -69,15 +79,15 @@ fn segments_of(key: &[u8], value: &[u8], second_key: &[u8], second_value: &[u8])
         &mut lengths,
         &mut [0u64; 1],
         &arena,
-    );
+    )
 }
 
-pub(crate) fn run() {
+pub(crate) fn run(rt: &impl Print) -> io::Result<()> {
     let value = [0u8; 4_092];
-    show::text(b"target 4096, records of 4096 and 2 bytes\n");
-    segments_of(b"a", &value, b"", b"");
-    show::text(b"target 4096, records of 4095 and 3 bytes\n");
-    segments_of(b"a", &value[0..4_091], b"b", b"");
-    show::text(b"target 4096, records of 2 and 4096 bytes\n");
-    segments_of(b"", b"", b"a", &value);
+    show::text(rt, b"target 4096, records of 4096 and 2 bytes\n")?;
+    segments_of(rt, b"a", &value, b"", b"")?;
+    show::text(rt, b"target 4096, records of 4095 and 3 bytes\n")?;
+    segments_of(rt, b"a", &value[0..4_091], b"b", b"")?;
+    show::text(rt, b"target 4096, records of 2 and 4096 bytes\n")?;
+    segments_of(rt, b"", b"", b"a", &value)
 }

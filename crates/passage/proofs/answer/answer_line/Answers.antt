@@ -3,7 +3,6 @@ use mathlib.Core.Path.{sym, ◌∙◌}
 use Rattle.passage_lines.specs.Reply.{reply_text}
 use Rattle.passage.specs.Answer.{line_step}
 use Rattle.passage.specs.Stage.{answer_text}
-use borrow.Author.Rules.{rules}
 use Rattle.passage.proofs.answer.answer_line.Goals as goal
 
 pub returns-in-Open : goal.returns-in-Open

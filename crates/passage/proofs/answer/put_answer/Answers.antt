@@ -1,6 +1,5 @@
 -- `put_answer` meets its contract. Assumes nothing.
 use Rattle.passage.specs.Stage.{answer_text}
-use borrow.Author.Rules.{rules}
 use Rattle.passage.proofs.answer.put_answer.Goals as goal
 
 pub returns-in-Line : goal.returns-in-Line

@@ -2,8 +2,7 @@
 use mathlib.Core.Path.{ap}
 use native.Mathlib.Omega.{arith}
 use Rattle.passage.specs.Program.{ended_with}
-use borrow.Author.Rules.{rules}
 use Rattle.passage.proofs.program.next_block.Goals as goal
 
 pub answer_last-requires : goal.answer_last-requires
-answer_last-requires c = omega (arith, ap ended_with c.in-Ended.is, c.read_more.ensures)
+answer_last-requires g c = omega (arith, ap ended_with c.in-Ended.is, c.read_more.ensures)

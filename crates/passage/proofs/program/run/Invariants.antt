@@ -1,13 +1,11 @@
 -- What each turn of the loop keeps.
-use mathlib.Core.Path.{◌≡◌, ap}
+use mathlib.Core.Path.{◌≡◌}
 use Prim.Native.Nat.{◌≤◌}
 use lib.ListN.{length}
-use borrow.Author.Rules.{rules}
-use Rattle.passage.specs.Program.{waiting_in}
 use Rattle.passage.proofs.program.run.Given as goal
 
 abbrev pub invariant-loop-left : goal.invariant-loop-left
-invariant-loop-left l =
+invariant-loop-left g l =
     (l.state.waiting ≤ 65536)
     × (length l.block ≡ 65536)
     × (length l.out ≡ 65536)
@@ -21,4 +19,4 @@ invariant-loop-left l =
     × (length l.lengths ≡ 256)
 
 abbrev pub decreases-loop-left : goal.decreases-loop-left
-decreases-loop-left l = l.left
+decreases-loop-left g l = l.left

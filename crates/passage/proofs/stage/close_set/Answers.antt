@@ -1,20 +1,12 @@
 -- `close_set` meets its contract: in turn it is the library's finish. Assumes nothing.
-use mathlib.Core.Logic.{⊎_elim}
-use mathlib.Core.Path.{◌≡◌}
-use native.Mathlib.Omega.{arith}
 use Rattle.passage_lines.specs.Reply.{reply_text}
-use Rattle.sets.specs.declared.builder.SegmentCacheBuilder.{SegmentCacheBuilder}
 use Rattle.passage.specs.Stage.{answer_text, close_step}
-use Rattle.passage.specs.declared.stage.Stage.TheVariants.{Building}
 use Rattle.passage.proofs.Turns.{close_out}
-use borrow.Author.Rules.{rules}
 use Rattle.passage.proofs.stage.close_set.Goals as goal
 
 pub returns-in_default : goal.returns-in_default
 unfolding answer_text reply_text
-returns-in_default c = let a = c.args in
-    let n : (b : SegmentCacheBuilder) → a.stage ≡ Building b → ⊥ = λ b (f : a.stage ≡ Building b). ⊎_elim (λ p. omega arith) (λ p. omega arith) (rw f at c.match.keys2) in
-    close_out a.stage a.target a.index.now a.starts.now a.lengths.now a.scratch.now a.arena.now n
+returns-in_default c = let a = c.args in close_out a.stage a.target a.index.now a.starts.now a.lengths.now a.scratch.now a.arena.now c.in_default.not-Building
 
 pub returns-in-Refused : goal.returns-in-Refused
 unfolding answer_text reply_text close_step

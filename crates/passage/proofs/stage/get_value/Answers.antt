@@ -1,20 +1,12 @@
 -- `get_value` meets its contract: in turn it is the library's get. Assumes nothing.
-use mathlib.Core.Logic.{⊎_elim}
-use mathlib.Core.Path.{◌≡◌}
-use native.Mathlib.Omega.{arith}
 use Rattle.passage_lines.specs.Reply.{reply_text}
-use Rattle.sets.specs.declared.cache.FrozenSegmentCache.{FrozenSegmentCache}
 use Rattle.passage.specs.Stage.{answer_text, get_step}
-use Rattle.passage.specs.declared.stage.Stage.TheVariants.{Finished}
 use Rattle.passage.proofs.Turns.{get_out}
-use borrow.Author.Rules.{rules}
 use Rattle.passage.proofs.stage.get_value.Goals as goal
 
 pub returns-in_default : goal.returns-in_default
 unfolding answer_text reply_text
-returns-in_default c = let a = c.args in
-    let n : (f : FrozenSegmentCache) → a.stage ≡ Finished f → ⊥ = λ b (f : a.stage ≡ Finished b). ⊎_elim (λ p. omega arith) (λ p. omega arith) (rw f at c.match.keys2) in
-    get_out a.stage a.hash a.key.now a.tick a.index.now a.filter.now a.starts.now a.lengths.now a.arena.now n
+returns-in_default c = let a = c.args in get_out a.stage a.hash a.key.now a.tick a.index.now a.filter.now a.starts.now a.lengths.now a.arena.now c.in_default.not-Finished
 
 pub returns-in-Value : goal.returns-in-Value
 unfolding answer_text reply_text get_step

@@ -1,20 +1,12 @@
 -- `put_record` meets its contract: in turn it is the library's push. Assumes nothing.
-use mathlib.Core.Logic.{⊎_elim}
-use mathlib.Core.Path.{◌≡◌}
-use native.Mathlib.Omega.{arith}
 use Rattle.passage_lines.specs.Reply.{reply_text}
-use Rattle.sets.specs.declared.builder.SegmentCacheBuilder.{SegmentCacheBuilder}
 use Rattle.passage.specs.Stage.{answer_text, put_step}
-use Rattle.passage.specs.declared.stage.Stage.TheVariants.{Building}
 use Rattle.passage.proofs.Turns.{put_out}
-use borrow.Author.Rules.{rules}
 use Rattle.passage.proofs.stage.put_record.Goals as goal
 
 pub returns-in_default : goal.returns-in_default
 unfolding answer_text reply_text
-returns-in_default c = let a = c.args in
-    let n : (b : SegmentCacheBuilder) → a.stage ≡ Building b → ⊥ = λ b (f : a.stage ≡ Building b). ⊎_elim (λ p. omega arith) (λ p. omega arith) (rw f at c.match.keys2) in
-    put_out a.stage a.hash a.key.now a.value.now a.ttl a.index.now a.filter.now a.arena.now n
+returns-in_default c = let a = c.args in put_out a.stage a.hash a.key.now a.value.now a.ttl a.index.now a.filter.now a.arena.now c.in_default.not-Building
 
 pub returns-in-Refused : goal.returns-in-Refused
 unfolding answer_text reply_text put_step

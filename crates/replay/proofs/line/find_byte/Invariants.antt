@@ -1,5 +1,5 @@
 -- What each turn of the loop keeps.
-use Rattle.std.proofs.Common.{◌-◌, ◌≤◌, length, rules}
+use Rattle.std.proofs.Common.{◌-◌, ◌≤◌, length}
 use Rattle.replay.proofs.line.find_byte.Given as goal
 
 abbrev pub invariant-loop-i : goal.invariant-loop-i

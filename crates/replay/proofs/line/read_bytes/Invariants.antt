@@ -1,5 +1,5 @@
 -- What each turn of the loop keeps.
-use Rattle.std.proofs.Common.{◌≡◌, ◌-◌, ◌≤◌, length, rules}
+use Rattle.std.proofs.Common.{◌≡◌, ◌-◌, ◌≤◌, length}
 use Rattle.replay.proofs.line.read_bytes.Given as goal
 
 abbrev pub invariant-loop : goal.invariant-loop

@@ -1,5 +1,5 @@
 -- What each turn of the loop keeps.
-use Rattle.std.proofs.Common.{◌-◌, ◌≤◌, rules}
+use Rattle.std.proofs.Common.{◌-◌, ◌≤◌}
 use Rattle.replay.proofs.tally.first_difference.Given as goal
 
 abbrev pub invariant-loop-i : goal.invariant-loop-i

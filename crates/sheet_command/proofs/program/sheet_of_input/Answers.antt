@@ -1,6 +1,6 @@
 -- `sheet_of_input` meets its contract: an input that fills its area is refused. Assumes nothing.
-use mathlib.Core.Path.{◌≡◌, sym, ap}
-use Prim.Native.Nat.{ℕ, ◌*◌, ◌≤◌}
+use mathlib.Core.Path.{sym, ap}
+use Prim.Native.Nat.{◌*◌}
 use native.Mathlib.Omega.{arith}
 use borrow.Author.Tests.{le-ltb, lt-ltb}
 use lib.ListN.{length, take}
@@ -9,7 +9,6 @@ use Rattle.files.specs.Load.{after_load}
 use Rattle.charts.specs.Sheet.{Printed}
 use Rattle.sheet_command.specs.Command.{pages_of, sheet_of_input}
 use Rattle.sheet_command.proofs.Printing.{told_pages_in}
-use borrow.Author.Rules.{rules}
 use Rattle.sheet_command.proofs.program.sheet_of_input.Goals as goal
 
 pub returns-then-size-area : goal.returns-then-size-area

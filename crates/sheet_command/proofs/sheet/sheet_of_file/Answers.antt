@@ -2,12 +2,7 @@
 use mathlib.Core.Path.{ap, ◌∙◌}
 use Rattle.files.specs.Load.{Loaded}
 use Rattle.sheet_command.specs.Command.{sheet_of}
-use borrow.Author.Rules.{rules}
 use Rattle.sheet_command.proofs.sheet.sheet_of_file.Goals as goal
-use Rattle.sheet_command.proofs.sheet.sheet_of_file.Goals.{After-load_file, Start}
-
-abbrev from : After-load_file → Start
-from c = c.before.before.before.before.before.before.before.before.before.before.before.before.before
 
 pub returns-in-Loaded : goal.returns-in-Loaded
 unfolding sheet_of

@@ -1,0 +1,31 @@
+// Reading input into an area.
+ghost use Rattle.std.specs.Prelude.{◌≤◌, length};
+
+use std::io::Read;
+
+// Reads until the area is full or the input ends, and tells how many bytes stand at the front of the
+// area. A read that fails is taken for the end.
+pub fn read_full<R: Read>(reader: &mut R, area: &mut [u8]) -> usize
+    ensures { result ≤ length area.new }
+{
+    let mut done = 0;
+    while done < area.len() {
+        let count = read_some(reader, &mut area[done..]);
+        if count == 0 {
+            return done;
+        }
+        done += count;
+    }
+    done
+}
+
+// How many bytes a read puts at the front of an area: none at the end of the input, and none where it
+// fails.
+pub fn read_some<R: Read>(reader: &mut R, area: &mut [u8]) -> usize
+    ensures { result ≤ length area.new }
+{
+    match reader.read(area) {
+        Ok(count) => count,
+        Err(_) => 0,
+    }
+}
