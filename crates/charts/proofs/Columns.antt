@@ -7,8 +7,8 @@ use native.Mathlib.Omega.{arith}
 use borrow.Author.Tests.{eq-eqb, ne_eqb}
 use borrow.Rule.Slice.PartMut.{put_mid}
 use lib.Dec.{eqb}
-use lib.ListN.{length, take, drop, set, replicate, length-append, length-drop, length-replicate, drop_of_length-le}
-use lib.Seq.{drop-nil, take-append-le, drop-append-le, take-append-add, drop-append-add}
+use lib.ListN.{length, take, drop, set, length-append, length-drop, length-replicate, drop_of_length-le}
+use lib.Seq.{take-append-le, drop-append-le, take-append-add, drop-append-add}
 use Rattle.records.specs.Area.{over, pasted}
 use Rattle.records.proofs.Area.{Writing, begin, complete, next_byte}
 use Rattle.texts.specs.Ascii.{ascii}

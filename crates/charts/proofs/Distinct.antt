@@ -1,5 +1,4 @@
 -- "No two sets whose walks differ in a slot, key, value or deadline give the same sheet." Assumes nothing.
-use mathlib.Core.Bool.{true}
 use mathlib.Core.List.{List, [], ◌∷◌, ◌++◌, append_assoc}
 use mathlib.Core.Path.{◌≡◌, refl, sym, ap, ap₂, ◌∙◌}
 use Prim.Native.Nat.{ℕ, zero, suc, ◌+◌, ◌-◌, ◌*◌, ◌≤◌}
@@ -7,7 +6,6 @@ use native.Mathlib.Omega.{arith}
 use lib.ListN.{length, get_or, take, drop, replicate, length-append}
 use lib.Seq.{take_at}
 use Rattle.hash_parts.proofs.Bytes.{Bytes}
-use Rattle.records.specs.Area.{over}
 use Rattle.sets.specs.Answers.{accept}
 use Rattle.sets.specs.Lookup.{view_of}
 use Rattle.sets.specs.declared.cache.FrozenSegmentCache.{FrozenSegmentCache}
@@ -18,7 +16,7 @@ use Rattle.charts.specs.Sheet.{Printed, after_sheet, rows_of}
 use Rattle.charts.proofs.Asked.{sheet_accepted, slots_few}
 use Rattle.charts.proofs.Columns.{length_blank, length_left, length_line, length_right}
 use Rattle.charts.proofs.Spelled.{deadline_head, deadline_same, decimal_head, decimal_same, head_append, hex_plain, hex_same, left_same, parts_same, right_same, strip, strip_spaces}
-use Rattle.charts.proofs.Visited.{Every, Fits, every_more, every_none, every_row}
+use Rattle.charts.proofs.Visited.{Every, Fits, every_more, every_row}
 
 -- ---- lines
 

@@ -1,11 +1,11 @@
 -- What is known of the rows of a set that is printed: each fits its columns, and shows bytes and a deadline of 16 bits. Assumes nothing.
 use mathlib.Core.Bool.{Bool, true, false, cond}
 use mathlib.Core.List.{List, [], ◌∷◌, map}
-use mathlib.Core.Path.{◌≡◌, refl, sym, ap, ◌∙◌}
+use mathlib.Core.Path.{◌≡◌, refl, ap}
 use Prim.Native.Nat.{ℕ, zero, suc, ◌+◌, ◌*◌, ◌≤◌, ◌<◌}
 use native.Mathlib.Omega.{arith}
 use lib.Dec.{leb}
-use lib.ListN.{length, get_or, take}
+use lib.ListN.{length, get_or}
 use Rattle.hash_parts.specs.declared.setting.SegmentExpiry.{SegmentExpiry}
 use Rattle.hash_parts.specs.declared.setting.SegmentExpiry.TheVariants.{None, Relative16}
 use Rattle.hash_parts.proofs.Bytes.{Bytes, no_bytes, one_byte, bytes_drop, bytes_take}
@@ -17,7 +17,7 @@ use Rattle.records.specs.declared.record.RecordRef.{RecordRef}
 use Rattle.records.specs.declared.record.Span.{Span}
 use Rattle.records.proofs.Stored.{read_by}
 use Rattle.index.specs.Find.{slot_at}
-use Rattle.index.specs.View.{record_in, ref_moved}
+use Rattle.index.specs.View.{record_in}
 use Rattle.index.specs.declared.slot.IndexSlot.{IndexSlot}
 use Rattle.index.specs.declared.slot.IndexSlot.TheVariants.{Empty, Used}
 use Rattle.index.specs.declared.view.SegmentView.{SegmentView}
@@ -27,7 +27,7 @@ use Rattle.sets.specs.Walk.{entries_from, entries_in, entry_then}
 use Rattle.texts.specs.Output.{decimal_text}
 use Rattle.texts.proofs.Spelling.{decimal_short}
 use Rattle.charts.specs.Line.{Row, deadline_text}
-use Rattle.charts.specs.Sheet.{row_fits, row_of, rows_fit, rows_in}
+use Rattle.charts.specs.Sheet.{row_of, rows_fit, rows_in}
 use Rattle.charts.proofs.Columns.{deadline_short}
 use Rattle.charts.proofs.Rows.{fit_next, fits_parts}
 

@@ -1,5 +1,4 @@
 -- `segment_cache_sheet_pages` meets its contract: the form of the words, then the call and what it hands back. Assumes nothing.
-use borrow.Author.Rules.{rules}
 use borrow.Author.Tests.{eq-eqb, ne_eqb}
 use Rattle.capi_charts.specs.Charts.{exported_sheet_pages}
 use Rattle.capi_charts.proofs.segment_cache_sheet_pages.Goals as goal

@@ -1,6 +1,5 @@
 -- `tell_pages` meets its contract by what it calls. Assumes nothing.
 use mathlib.Core.Path.{ap}
-use borrow.Author.Rules.{rules}
 use Rattle.capi.specs.Calls.{told}
 use Rattle.capi_charts.proofs.tell_pages.Goals as goal
 

@@ -1,5 +1,4 @@
 -- `segment_cache_file_bytes` meets its contract: the form of the words, then the call and what it hands back. Assumes nothing.
-use borrow.Author.Rules.{rules}
 use borrow.Author.Tests.{eq-eqb, ne_eqb}
 use Rattle.capi_files.specs.Files.{exported_file_bytes}
 use Rattle.capi_files.proofs.segment_cache_file_bytes.Goals as goal

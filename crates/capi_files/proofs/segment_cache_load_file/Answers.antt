@@ -1,5 +1,4 @@
 -- `segment_cache_load_file` meets its contract: the form of the words, then the call and what it hands back. Assumes nothing.
-use borrow.Author.Rules.{rules}
 use borrow.Author.Tests.{eq-eqb, ne_eqb}
 use Rattle.capi_files.specs.Files.{exported_load_file}
 use Rattle.capi_files.proofs.segment_cache_load_file.Goals as goal

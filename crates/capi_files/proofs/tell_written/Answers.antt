@@ -1,6 +1,5 @@
 -- `tell_written` meets its contract by what it calls. Assumes nothing.
 use mathlib.Core.Path.{ap}
-use borrow.Author.Rules.{rules}
 use Rattle.capi.specs.Calls.{told}
 use Rattle.capi_files.proofs.tell_written.Goals as goal
 

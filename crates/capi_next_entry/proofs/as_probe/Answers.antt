@@ -1,5 +1,4 @@
 -- `as_probe` meets its contract, case by case. Assumes nothing.
-use borrow.Author.Rules.{rules}
 use Rattle.capi_next_entry.proofs.as_probe.Goals as goal
 
 pub returns-in-Entry : goal.returns-in-Entry

@@ -1,7 +1,6 @@
 -- `segment_cache_next_entry` meets its contract: the form of the words, then the call and what it hands back. Assumes nothing.
 use Rattle.capi.specs.Calls.{exported_walk}
 use borrow.Author.Tests.{eq-eqb, ne_eqb}
-use borrow.Author.Rules.{rules}
 use Rattle.capi_next_entry.proofs.segment_cache_next_entry.Goals as goal
 
 pub returns-then-record-ne-RECORD_WORDS : goal.returns-then-record-ne-RECORD_WORDS

@@ -1,7 +1,6 @@
 -- `segment_cache_peek` meets its contract: the form of the words, then the call and what it hands back. Assumes nothing.
 use Rattle.capi.specs.Calls.{exported_peek}
 use borrow.Author.Tests.{eq-eqb, ne_eqb}
-use borrow.Author.Rules.{rules}
 use Rattle.capi_peek.proofs.segment_cache_peek.Goals as goal
 
 pub returns-then-span-ne-SPAN_WORDS : goal.returns-then-span-ne-SPAN_WORDS

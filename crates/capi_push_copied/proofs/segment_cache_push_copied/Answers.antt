@@ -1,7 +1,6 @@
 -- `segment_cache_push_copied` meets its contract: the form of the words, then the call and what it hands back. Assumes nothing.
 use Rattle.capi.specs.Rebuilds.{exported_copied}
 use borrow.Author.Tests.{eq-eqb, ne_eqb}
-use borrow.Author.Rules.{rules}
 use Rattle.capi_push_copied.proofs.segment_cache_push_copied.Goals as goal
 
 pub returns-then-rebuild-ne-REBUILD_WORDS : goal.returns-then-rebuild-ne-REBUILD_WORDS

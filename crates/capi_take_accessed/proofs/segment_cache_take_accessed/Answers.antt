@@ -1,7 +1,6 @@
 -- `segment_cache_take_accessed` meets its contract: the form of the words, then the call and what it hands back. Assumes nothing.
 use Rattle.capi.specs.Calls.{exported_take}
 use borrow.Author.Tests.{eq-eqb, ne_eqb}
-use borrow.Author.Rules.{rules}
 use Rattle.capi_take_accessed.proofs.segment_cache_take_accessed.Goals as goal
 
 pub returns-then-accessed-ne1 : goal.returns-then-accessed-ne1

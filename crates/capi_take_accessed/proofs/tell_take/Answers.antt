@@ -1,7 +1,6 @@
 -- `tell_take` meets its contract by what it calls. Assumes nothing.
 use Rattle.capi.specs.Calls.{told}
 use mathlib.Core.Path.{ap}
-use borrow.Author.Rules.{rules}
 use Rattle.capi_take_accessed.proofs.tell_take.Goals as goal
 
 pub returns-in-Accessed : goal.returns-in-Accessed

@@ -1,5 +1,4 @@
 -- `expiry_of` meets its contract by its test. Assumes nothing.
-use borrow.Author.Rules.{rules}
 use Rattle.test_exports.proofs.expiry_of.Goals as goal
 
 pub returns-then-on : goal.returns-then-on

@@ -1,5 +1,4 @@
 -- `lifetime_of` meets its contract by its test. Assumes nothing.
-use borrow.Author.Rules.{rules}
 use Rattle.test_exports.proofs.lifetime_of.Goals as goal
 
 pub returns-then-finite : goal.returns-then-finite

@@ -1,13 +1,7 @@
 -- What each turn of the loop keeps.
-use mathlib.Core.Path.{◌≡◌}
-use mathlib.Core.List.{List, ◌∷◌}
-use Prim.Native.Nat.{ℕ, ◌+◌, ◌-◌}
-use native.Mathlib.Numerals.{add-one}
-use native.Mathlib.Omega.{arith}
-use lib.ListN.{length, get_or, drop, drop_of_length-le}
-use lib.Seq.{drop-cons}
-use Rattle.records.proofs.Area.{Writing, begin, room, next_byte, complete}
-use Rattle.test_exports.proofs.Answers.{placed_in, placed_out}
+use Prim.Native.Nat.{◌-◌}
+use lib.ListN.{length, drop}
+use Rattle.records.proofs.Area.{Writing}
 use Rattle.test_exports.proofs.put_words.Given as goal
 
 abbrev pub invariant-loop-i : goal.invariant-loop-i

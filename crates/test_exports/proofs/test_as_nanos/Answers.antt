@@ -2,7 +2,6 @@
 use mathlib.Core.Path.{ap, ◌∙◌}
 use Rattle.hash_parts.specs.declared.duration.Nanoseconds.{Nanoseconds}
 use Rattle.test_exports.specs.Exports.{nanos_told, placed}
-use borrow.Author.Rules.{rules}
 use Rattle.test_exports.proofs.test_as_nanos.Goals as goal
 
 pub returns : goal.returns

@@ -1,7 +1,6 @@
 -- `test_encode_expiry` meets its contract by what it calls. Assumes nothing.
 use Rattle.test_exports.proofs.Answers.{code_refused}
 use Rattle.test_exports.specs.Exports.{code_of}
-use borrow.Author.Rules.{rules}
 use Rattle.test_exports.proofs.test_encode_expiry.Goals as goal
 
 pub returns-in-At : goal.returns-in-At

@@ -2,7 +2,6 @@
 use mathlib.Core.Path.{ap}
 use Rattle.test_exports.proofs.Answers.{told_refused}
 use Rattle.test_exports.specs.Exports.{told, outcome_told}
-use borrow.Author.Rules.{rules}
 use Rattle.test_exports.proofs.test_encoded_record_bytes.Goals as goal
 
 pub returns-in-Bytes : goal.returns-in-Bytes

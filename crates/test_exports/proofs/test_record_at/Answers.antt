@@ -3,7 +3,6 @@ use mathlib.Core.Path.{ap}
 use Rattle.test_exports.proofs.Answers.{placed_none}
 use Rattle.test_exports.specs.Exports.{told}
 use mathlib.Core.Bool.{true, false}
-use borrow.Author.Rules.{rules}
 use Rattle.test_exports.proofs.test_record_at.Goals as goal
 
 pub returns-in_default : goal.returns-in_default

@@ -2,7 +2,6 @@
 use mathlib.Core.Path.{ap}
 use Rattle.test_exports.proofs.Answers.{placed_none}
 use Rattle.test_exports.specs.Exports.{told}
-use borrow.Author.Rules.{rules}
 use Rattle.test_exports.proofs.test_remaining_ttl.Goals as goal
 
 pub returns-in-Nothing : goal.returns-in-Nothing

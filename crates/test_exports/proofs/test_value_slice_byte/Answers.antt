@@ -2,7 +2,6 @@
 use mathlib.Core.Path.{sym}
 use borrow.Author.Tests.{lt-ltb, le-ltb}
 use Rattle.test_exports.specs.Exports.{byte_or256}
-use borrow.Author.Rules.{rules}
 use Rattle.test_exports.proofs.test_value_slice_byte.Goals as goal
 
 pub returns-then-i-part : goal.returns-then-i-part

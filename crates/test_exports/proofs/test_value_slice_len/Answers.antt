@@ -1,7 +1,6 @@
 -- `test_value_slice_len` meets its contract by what it calls. Assumes nothing.
 use mathlib.Core.Path.{ap}
 use lib.ListN.{length}
-use borrow.Author.Rules.{rules}
 use Rattle.test_exports.proofs.test_value_slice_len.Goals as goal
 
 pub returns : goal.returns

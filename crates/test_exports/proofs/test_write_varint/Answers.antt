@@ -2,7 +2,6 @@
 use mathlib.Core.Path.{refl}
 use Rattle.test_exports.proofs.Answers.{code_refused}
 use Rattle.test_exports.specs.Exports.{code_of}
-use borrow.Author.Rules.{rules}
 use Rattle.test_exports.proofs.test_write_varint.Goals as goal
 
 pub returns-in-Written : goal.returns-in-Written

@@ -1,7 +1,6 @@
 -- `make_copy` meets its contract. Assumes nothing.
 use Rattle.book.specs.Made.{areas_of}
 use Rattle.book.proofs.Making.{make_copy}
-use borrow.Author.Rules.{rules}
 use Rattle.book.proofs.calls.make_copy.Goals as goal
 
 pub returns : goal.returns

@@ -1,7 +1,6 @@
 -- `make_load` meets its contract. Assumes nothing.
 use Rattle.book.specs.Made.{areas_of}
 use Rattle.book.proofs.Making.{make_load}
-use borrow.Author.Rules.{rules}
 use Rattle.book.proofs.calls.make_load.Goals as goal
 
 pub returns : goal.returns

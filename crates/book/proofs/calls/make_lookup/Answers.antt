@@ -1,7 +1,6 @@
 -- `make_lookup` meets its contract. Assumes nothing.
 use Rattle.book.specs.Made.{areas_of, set_with}
 use Rattle.book.proofs.Making.{make_lookup}
-use borrow.Author.Rules.{rules}
 use Rattle.book.proofs.calls.make_lookup.Goals as goal
 
 pub returns : goal.returns

@@ -1,7 +1,6 @@
 -- `make_open` meets its contract. Assumes nothing.
 use Rattle.book.specs.Made.{areas_of}
 use Rattle.book.proofs.Making.{make_open}
-use borrow.Author.Rules.{rules}
 use Rattle.book.proofs.calls.make_open.Goals as goal
 
 pub returns : goal.returns

@@ -1,7 +1,6 @@
 -- `make_peek` meets its contract. Assumes nothing.
 use Rattle.book.specs.Made.{areas_of, set_with}
 use Rattle.book.proofs.Making.{make_peek}
-use borrow.Author.Rules.{rules}
 use Rattle.book.proofs.calls.make_peek.Goals as goal
 
 pub returns : goal.returns

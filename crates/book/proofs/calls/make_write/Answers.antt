@@ -1,7 +1,6 @@
 -- `make_write` meets its contract. Assumes nothing.
 use Rattle.book.specs.Made.{areas_of, set_with}
 use Rattle.book.proofs.Making.{make_write}
-use borrow.Author.Rules.{rules}
 use Rattle.book.proofs.calls.make_write.Goals as goal
 
 pub returns : goal.returns

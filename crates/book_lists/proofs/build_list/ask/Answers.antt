@@ -1,5 +1,4 @@
 -- `ask` meets its contract. Assumes nothing.
-use borrow.Author.Rules.{rules}
 use Rattle.book_lists.proofs.build_list.ask.Goals as goal
 
 pub returns-in-Value : goal.returns-in-Value

@@ -4,7 +4,6 @@ use Rattle.book.specs.Calls.{push, finish, lookup}
 use Rattle.book.specs.Made.{areas_of, open_left}
 use Rattle.book.specs.World.{unopened}
 use Rattle.book_lists.proofs.GoingOn.{goes_on}
-use borrow.Author.Rules.{rules}
 use Rattle.book_lists.proofs.build_list.build_and_ask.Goals as goal
 
 pub returns-in_default : goal.returns-in_default

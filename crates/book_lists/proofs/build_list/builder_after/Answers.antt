@@ -3,7 +3,6 @@ use mathlib.Core.Path.{sym, ap}
 use Rattle.sets.specs.Answers.{push_reply}
 use Rattle.sets.specs.declared.builder.PushAnswer.{PushAnswer}
 use Rattle.book.specs.World.{builder_in}
-use borrow.Author.Rules.{rules}
 use Rattle.book_lists.proofs.build_list.builder_after.Goals as goal
 
 pub returns-in-Pushed : goal.returns-in-Pushed

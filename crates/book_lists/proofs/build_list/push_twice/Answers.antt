@@ -3,7 +3,6 @@ use mathlib.Core.List.{[], ◌∷◌}
 use Rattle.book.specs.Calls.{push, finish, lookup}
 use Rattle.book.specs.Made.{areas_of}
 use Rattle.book_lists.proofs.GoingOn.{push_goes_on}
-use borrow.Author.Rules.{rules}
 use Rattle.book_lists.proofs.build_list.push_twice.Goals as goal
 
 pub returns : goal.returns

@@ -3,7 +3,6 @@ use mathlib.Core.List.{[], ◌∷◌}
 use Rattle.book.specs.Calls.{refinish, lookup}
 use Rattle.book.specs.Made.{areas_of}
 use Rattle.book_lists.proofs.GoingOn.{repush_goes_on}
-use borrow.Author.Rules.{rules}
 use Rattle.book_lists.proofs.rebuild_list.copy_and_finish.Goals as goal
 
 pub returns : goal.returns

@@ -3,7 +3,6 @@ use mathlib.Core.Path.{sym, ap}
 use Rattle.sets.specs.Answers.{rebuild_push_reply}
 use Rattle.sets.specs.declared.rebuild.RebuildPushAnswer.{RebuildPushAnswer}
 use Rattle.book.specs.World.{rebuild_in}
-use borrow.Author.Rules.{rules}
 use Rattle.book_lists.proofs.rebuild_list.rebuild_after.Goals as goal
 
 pub returns-in-Pushed : goal.returns-in-Pushed

@@ -5,7 +5,6 @@ use Rattle.book.specs.Calls.{lookup}
 use Rattle.book.specs.Made.{areas_of, set_with, refinish_left}
 use Rattle.book.specs.World.{idle}
 use Rattle.book_lists.proofs.GoingOn.{goes_on}
-use borrow.Author.Rules.{rules}
 use Rattle.book_lists.proofs.rebuild_list.refinish_and_ask.Goals as goal
 
 pub returns-in_default : goal.returns-in_default

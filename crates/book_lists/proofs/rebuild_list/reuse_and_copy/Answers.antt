@@ -3,7 +3,6 @@ use mathlib.Core.List.{[], ◌∷◌}
 use Rattle.book.specs.Calls.{copy, refinish, lookup}
 use Rattle.book.specs.Made.{areas_of}
 use Rattle.book_lists.proofs.GoingOn.{repush_goes_on}
-use borrow.Author.Rules.{rules}
 use Rattle.book_lists.proofs.rebuild_list.reuse_and_copy.Goals as goal
 
 pub returns : goal.returns

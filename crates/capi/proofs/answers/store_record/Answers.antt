@@ -1,5 +1,4 @@
 -- `store_record` meets its contract by what it calls. Assumes nothing.
-use borrow.Author.Rules.{rules}
 use Rattle.capi.proofs.answers.store_record.Goals as goal
 
 pub returns : goal.returns

@@ -1,7 +1,6 @@
 -- `tell_get` meets its contract by what it calls. Assumes nothing.
 use Rattle.capi.specs.Calls.{told}
 use mathlib.Core.Path.{ap}
-use borrow.Author.Rules.{rules}
 use Rattle.capi.proofs.answers.tell_get.Goals as goal
 
 pub returns-in-Value : goal.returns-in-Value

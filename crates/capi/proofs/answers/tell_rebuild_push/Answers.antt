@@ -1,7 +1,6 @@
 -- `tell_rebuild_push` meets its contract by what it calls. Assumes nothing.
 use Rattle.capi.specs.Calls.{place_told}
 use mathlib.Core.Path.{ap₂}
-use borrow.Author.Rules.{rules}
 use Rattle.capi.proofs.answers.tell_rebuild_push.Goals as goal
 
 pub returns-in-Pushed : goal.returns-in-Pushed

@@ -1,7 +1,6 @@
 -- `tell_record` meets its contract by what it calls. Assumes nothing.
 use Rattle.capi.specs.Calls.{told}
 use mathlib.Core.Path.{ap}
-use borrow.Author.Rules.{rules}
 use Rattle.capi.proofs.answers.tell_record.Goals as goal
 
 pub returns-in-Found : goal.returns-in-Found

@@ -1,7 +1,6 @@
 -- `segment_cache_area_words` meets its contract: the form of the words, then the call and what it hands back. Assumes nothing.
 use Rattle.capi.specs.Calls.{exported_area_words}
 use borrow.Author.Tests.{eq-eqb, ne_eqb}
-use borrow.Author.Rules.{rules}
 use Rattle.capi.proofs.build_calls.segment_cache_area_words.Goals as goal
 
 pub returns-then-words-ne-AREAS : goal.returns-then-words-ne-AREAS

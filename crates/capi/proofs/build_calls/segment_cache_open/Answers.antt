@@ -1,7 +1,6 @@
 -- `segment_cache_open` meets its contract: the form of the words, then the call and what it hands back. Assumes nothing.
 use Rattle.capi.specs.Calls.{exported_open}
 use borrow.Author.Tests.{eq-eqb, ne_eqb}
-use borrow.Author.Rules.{rules}
 use Rattle.capi.proofs.build_calls.segment_cache_open.Goals as goal
 
 pub returns-then-builder-ne-BUILDER_WORDS : goal.returns-then-builder-ne-BUILDER_WORDS

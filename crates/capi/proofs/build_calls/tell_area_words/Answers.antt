@@ -1,7 +1,6 @@
 -- `tell_area_words` meets its contract by what it calls. Assumes nothing.
 use Rattle.capi.specs.Calls.{told}
 use mathlib.Core.Path.{ap}
-use borrow.Author.Rules.{rules}
 use Rattle.capi.proofs.build_calls.tell_area_words.Goals as goal
 
 pub returns-in-Words : goal.returns-in-Words

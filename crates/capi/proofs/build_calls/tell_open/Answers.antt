@@ -1,7 +1,6 @@
 -- `tell_open` meets its contract by what it calls. Assumes nothing.
 use Rattle.capi.specs.Calls.{told}
 use mathlib.Core.Path.{ap}
-use borrow.Author.Rules.{rules}
 use Rattle.capi.proofs.build_calls.tell_open.Goals as goal
 
 pub returns-in-Opened : goal.returns-in-Opened

@@ -1,7 +1,6 @@
 -- `segment_cache_rebuild_open` meets its contract: the form of the words, then the call and what it hands back. Assumes nothing.
 use Rattle.capi.specs.Rebuilds.{exported_rebuild_open}
 use borrow.Author.Tests.{eq-eqb, ne_eqb}
-use borrow.Author.Rules.{rules}
 use Rattle.capi.proofs.rebuild_calls.segment_cache_rebuild_open.Goals as goal
 
 pub returns-then-rebuild-ne-REBUILD_WORDS : goal.returns-then-rebuild-ne-REBUILD_WORDS

@@ -1,7 +1,6 @@
 -- `tell_rebuild_finish` meets its contract by what it calls. Assumes nothing.
 use Rattle.capi.specs.Rebuilds.{build_told}
 use mathlib.Core.Path.{ap₂}
-use borrow.Author.Rules.{rules}
 use Rattle.capi.proofs.rebuild_calls.tell_rebuild_finish.Goals as goal
 
 pub returns-in-Finished : goal.returns-in-Finished

@@ -1,7 +1,6 @@
 -- `segment_cache_encoded_record_bytes` meets its contract: the form of the words, then the call and what it hands back. Assumes nothing.
 use Rattle.capi.specs.Records.{exported_size}
 use borrow.Author.Tests.{eq-eqb, ne_eqb}
-use borrow.Author.Rules.{rules}
 use Rattle.capi.proofs.record_calls.segment_cache_encoded_record_bytes.Goals as goal
 
 pub returns-then-size-ne1 : goal.returns-then-size-ne1

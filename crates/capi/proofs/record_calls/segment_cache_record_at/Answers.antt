@@ -1,7 +1,6 @@
 -- `segment_cache_record_at` meets its contract: the form of the words, then the call and what it hands back. Assumes nothing.
 use Rattle.capi.specs.Records.{exported_record_at}
 use borrow.Author.Tests.{eq-eqb, ne_eqb}
-use borrow.Author.Rules.{rules}
 use Rattle.capi.proofs.record_calls.segment_cache_record_at.Goals as goal
 
 pub returns-then-record-ne-READ_WORDS : goal.returns-then-record-ne-READ_WORDS

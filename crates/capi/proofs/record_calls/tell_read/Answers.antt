@@ -1,7 +1,6 @@
 -- `tell_read` meets its contract by what it calls. Assumes nothing.
 use Rattle.capi.specs.Calls.{told}
 use mathlib.Core.Path.{ap}
-use borrow.Author.Rules.{rules}
 use Rattle.capi.proofs.record_calls.tell_read.Goals as goal
 
 pub returns-in-Read : goal.returns-in-Read

@@ -2,7 +2,6 @@
 use Rattle.capi.proofs.Sizes.{size_refused}
 use Rattle.capi.specs.Calls.{told}
 use mathlib.Core.Path.{ap}
-use borrow.Author.Rules.{rules}
 use Rattle.capi.proofs.record_calls.tell_size.Goals as goal
 
 pub returns-in-Bytes : goal.returns-in-Bytes

@@ -1,5 +1,4 @@
 -- `number_of` meets its contract, case by case. Assumes nothing.
-use borrow.Author.Rules.{rules}
 use Rattle.capi.proofs.stats_calls.number_of.Goals as goal
 
 pub returns-in-RetainedBytes : goal.returns-in-RetainedBytes

@@ -1,7 +1,6 @@
 -- `segment_cache_stats` meets its contract: the form of the words, then the call and what it hands back. Assumes nothing.
 use Rattle.capi.specs.Calls.{exported_stats}
 use borrow.Author.Tests.{eq-eqb, ne_eqb}
-use borrow.Author.Rules.{rules}
 use Rattle.capi.proofs.stats_calls.segment_cache_stats.Goals as goal
 
 pub returns-then-stats-ne-STATS_WORDS : goal.returns-then-stats-ne-STATS_WORDS

@@ -2,7 +2,6 @@
 use mathlib.Core.Path.{ap}
 use borrow.Author.Tests.{eq-eqb, ne_eqb}
 use Rattle.capi.specs.Calls.{exported_number, told}
-use borrow.Author.Rules.{rules}
 use Rattle.capi.proofs.stats_calls.tell_number.Goals as goal
 
 pub returns-then-out-ne1 : goal.returns-then-out-ne1

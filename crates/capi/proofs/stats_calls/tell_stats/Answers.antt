@@ -1,7 +1,6 @@
 -- `tell_stats` meets its contract by what it calls. Assumes nothing.
 use Rattle.capi.specs.Calls.{told}
 use mathlib.Core.Path.{ap}
-use borrow.Author.Rules.{rules}
 use Rattle.capi.proofs.stats_calls.tell_stats.Goals as goal
 
 pub returns-in-Stats : goal.returns-in-Stats

@@ -1,11 +1,11 @@
 -- `copy_words` meets its contract: what is written and what is left to copy are the words. Assumes nothing.
-use Rattle.records.proofs.Area.{Writing, begin, complete, next_byte, room}
+use Rattle.records.proofs.Area.{begin, complete, next_byte, room}
 use Rattle.capi.proofs.Stores.{stored_in_law, stored_out}
 use lib.Seq.{drop-cons}
-use lib.ListN.{length, get_or, drop, drop_of_length-le}
+use lib.ListN.{get_or, drop, drop_of_length-le}
 use native.Mathlib.Omega.{arith}
 use native.Mathlib.Numerals.{add-one}
-use Prim.Native.Nat.{ℕ, ◌+◌, ◌-◌}
+use Prim.Native.Nat.{ℕ, ◌+◌}
 use mathlib.Core.List.{List, ◌∷◌}
 use mathlib.Core.Path.{◌≡◌, sym, ◌∙◌}
 use Rattle.capi.proofs.words.copy_words.Goals as goal

@@ -1,7 +1,6 @@
 -- `front_setting` meets its contract by its tests, and by what caps its words. Assumes nothing.
 use Rattle.capi.specs.Words.{setting_in, setting_form}
 use borrow.Author.Tests.{le-leb, lt-leb}
-use borrow.Author.Rules.{rules}
 use Rattle.capi.proofs.words.front_setting.Goals as goal
 
 pub returns-then-flag-gt1 : goal.returns-then-flag-gt1

@@ -1,7 +1,6 @@
 -- `load_builder` meets its contract by its tests. Assumes nothing.
 use Rattle.capi.specs.Words.{builder_in}
 use borrow.Author.Tests.{eq-eqb, ne_eqb}
-use borrow.Author.Rules.{rules}
 use Rattle.capi.proofs.words.load_builder.Goals as goal
 
 pub returns-then-words-ne-BUILDER_WORDS : goal.returns-then-words-ne-BUILDER_WORDS

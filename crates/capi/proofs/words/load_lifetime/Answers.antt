@@ -1,7 +1,6 @@
 -- `load_lifetime` meets its contract by its tests. Assumes nothing.
 use Rattle.capi.specs.Words.{lifetime_in}
 use borrow.Author.Tests.{eq-eqb, ne_eqb}
-use borrow.Author.Rules.{rules}
 use Rattle.capi.proofs.words.load_lifetime.Goals as goal
 
 pub returns-then-words-eq0 : goal.returns-then-words-eq0

@@ -1,7 +1,6 @@
 -- `load_rebuild` meets its contract by its tests. Assumes nothing.
 use Rattle.capi.specs.Words.{rebuild_in}
 use borrow.Author.Tests.{eq-eqb, ne_eqb}
-use borrow.Author.Rules.{rules}
 use Rattle.capi.proofs.words.load_rebuild.Goals as goal
 
 pub returns-then-words-ne-REBUILD_WORDS : goal.returns-then-words-ne-REBUILD_WORDS

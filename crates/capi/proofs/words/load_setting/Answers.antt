@@ -1,7 +1,6 @@
 -- `load_setting` meets its contract by its tests. Assumes nothing.
 use Rattle.capi.specs.Words.{setting_alone}
 use borrow.Author.Tests.{eq-eqb, ne_eqb}
-use borrow.Author.Rules.{rules}
 use Rattle.capi.proofs.words.load_setting.Goals as goal
 
 pub returns-then-words-ne-SETTING_WORDS : goal.returns-then-words-ne-SETTING_WORDS

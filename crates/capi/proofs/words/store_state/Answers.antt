@@ -4,7 +4,6 @@ use mathlib.Core.List.{[]}
 use native.Mathlib.Omega.{arith}
 use Rattle.capi.specs.Words.{setting_before}
 use Rattle.capi.proofs.Stores.{stored_behind, stored_out}
-use borrow.Author.Rules.{rules}
 use Rattle.capi.proofs.words.store_state.Goals as goal
 
 pub returns-then-out-rest : goal.returns-then-out-rest

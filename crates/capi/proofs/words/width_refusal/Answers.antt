@@ -1,8 +1,7 @@
 -- `width_refusal` meets its contract. Assumes nothing.
 use mathlib.Core.Path.{sym, ◌∙◌}
-use borrow.Author.Tests.{le-leb, lt-leb, not-true, not-false}
+use borrow.Author.Tests.{le-leb, lt-leb}
 use Rattle.capi.specs.Words.{ask_widths}
-use borrow.Author.Rules.{rules}
 use Rattle.capi.proofs.words.width_refusal.Goals as goal
 
 pub returns-then-not-tick_nanos_fit : goal.returns-then-not-tick_nanos_fit

@@ -1,11 +1,8 @@
 -- `put_blank` meets its contract: what is written and what is left to write are a blank line. Assumes nothing.
-use mathlib.Core.Path.{◌≡◌}
-use Prim.Native.Nat.{ℕ, ◌-◌, ◌≤◌}
 use native.Mathlib.Omega.{arith}
-use lib.ListN.{length, length-set}
-use Rattle.records.proofs.Area.{Writing, next_byte, room}
-use Rattle.charts.specs.Line.{blank}
-use Rattle.charts.proofs.Columns.{blank_from, blank_begin, blank_end, blank_next}
+use lib.ListN.{length-set}
+use Rattle.records.proofs.Area.{next_byte, room}
+use Rattle.charts.proofs.Columns.{blank_begin, blank_end, blank_next}
 use Rattle.charts.proofs.line.put_blank.Goals as goal
 
 pub loop-i-init : goal.loop-i-init

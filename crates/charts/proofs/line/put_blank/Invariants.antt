@@ -1,11 +1,8 @@
 -- What each turn of the loop keeps.
-use mathlib.Core.Path.{◌≡◌}
-use Prim.Native.Nat.{ℕ, ◌-◌, ◌≤◌}
-use native.Mathlib.Omega.{arith}
-use lib.ListN.{length, length-set}
-use Rattle.records.proofs.Area.{Writing, next_byte, room}
+use Prim.Native.Nat.{◌-◌, ◌≤◌}
+use Rattle.records.proofs.Area.{Writing}
 use Rattle.charts.specs.Line.{blank}
-use Rattle.charts.proofs.Columns.{blank_from, blank_begin, blank_end, blank_next}
+use Rattle.charts.proofs.Columns.{blank_from}
 use Rattle.charts.proofs.line.put_blank.Given as goal
 
 abbrev pub invariant-loop-i : goal.invariant-loop-i

@@ -1,7 +1,6 @@
 -- `put_blank_line` meets its contract: the line that it lends comes home. Assumes nothing.
 use mathlib.Core.Path.{refl}
 use Rattle.charts.proofs.Columns.{length_blank, line_home}
-use borrow.Author.Rules.{rules}
 use Rattle.charts.proofs.line.put_blank_line.Goals as goal
 
 pub returns : goal.returns

@@ -1,10 +1,10 @@
 -- `put_blanks` meets its contract: the lines that are written and those that are left are all of them. Assumes nothing.
 use mathlib.Core.List.{[], ◌++◌}
 use mathlib.Core.Path.{◌≡◌, refl, sym, ap, ◌∙◌}
-use Prim.Native.Nat.{ℕ, ◌+◌, ◌-◌, ◌*◌, ◌≤◌}
+use Prim.Native.Nat.{ℕ, ◌+◌, ◌-◌, ◌*◌}
 use native.Mathlib.Omega.{arith}
 use lib.ListN.{length, length-append}
-use Rattle.records.proofs.Area.{Writing, begin, complete, next, room}
+use Rattle.records.proofs.Area.{begin, complete, next, room}
 use Rattle.charts.specs.Line.{blank, lines}
 use Rattle.charts.proofs.Columns.{length_blank}
 use Rattle.charts.proofs.Pages.{blanks_next, length_blanks, no_blanks}

@@ -4,7 +4,6 @@ use native.Mathlib.Omega.{arith}
 use Rattle.texts.specs.Ascii.{ascii}
 use Rattle.texts.proofs.Spelling.{appended_parts, decimal_short, ended_fits}
 use Rattle.charts.proofs.Columns.{deadline_never, deadline_number}
-use borrow.Author.Rules.{rules}
 use Rattle.charts.proofs.line.put_deadline.Goals as goal
 
 pub returns-then-deadline-eq-NEVER_EXPIRES : goal.returns-then-deadline-eq-NEVER_EXPIRES

@@ -4,7 +4,6 @@ use native.Mathlib.Omega.{arith}
 use Rattle.texts.proofs.Spelling.{decimal_short}
 use Rattle.charts.specs.Line.{line, row}
 use Rattle.charts.proofs.Columns.{deadline_short, length_line, line_home}
-use borrow.Author.Rules.{rules}
 use Rattle.charts.proofs.line.put_row.Goals as goal
 
 pub returns : goal.returns

@@ -1,20 +1,18 @@
 -- `count_rows` meets its contract: what was counted and the rows from the next slot on make up the count. Assumes nothing.
 use mathlib.Core.Bool.{true, false}
 use mathlib.Core.List.{List, [], ◌∷◌}
-use mathlib.Core.Path.{◌≡◌, refl, sym, ap, ◌∙◌}
-use Prim.Native.Nat.{ℕ, ◌+◌, ◌-◌, ◌*◌, ◌<◌, ◌≤◌}
+use mathlib.Core.Path.{◌≡◌, sym, ap, ◌∙◌}
+use Prim.Native.Nat.{ℕ, ◌+◌, ◌-◌, ◌*◌, ◌<◌}
 use native.Mathlib.Omega.{arith}
-use borrow.Author.Tests.{not-true, not-false}
 use Rattle.records.specs.declared.record.RecordAnswer.{RecordAnswer}
 use Rattle.records.specs.declared.record.RecordAnswer.TheVariants.{Read}
 use Rattle.records.specs.declared.record.RecordRef.{RecordRef}
 use Rattle.index.specs.View.{record_in}
 use Rattle.sets.specs.Lookup.{entry_at}
-use Rattle.sets.specs.Walk.{entries_from, entries_in}
+use Rattle.sets.specs.Walk.{entries_in}
 use Rattle.charts.specs.Line.{Row}
-use Rattle.charts.specs.Sheet.{row_count, row_fits, row_of, rows_in}
+use Rattle.charts.specs.Sheet.{row_count, row_fits, row_of}
 use Rattle.charts.proofs.Rows.{count_fits, count_long, count_none, rows_from, rows_hit, rows_miss, rows_none, slot_empty, slot_used}
-use borrow.Author.Rules.{rules}
 use Rattle.charts.proofs.sheet.count_rows.Goals as goal
 use Rattle.charts.proofs.sheet.count_rows.Goals.{After-record_at_location-read, At-loop-slot}
 

@@ -1,7 +1,4 @@
 -- `entry_fits` meets its contract. Assumes nothing.
-use mathlib.Core.Path.{sym}
-use native.Mathlib.Omega.{arith}
-use borrow.Author.Rules.{rules}
 use borrow.Author.Tests.{le-leb, lt-leb}
 use Rattle.charts.proofs.sheet.entry_fits.Goals as goal
 

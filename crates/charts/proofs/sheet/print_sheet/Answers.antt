@@ -1,22 +1,20 @@
 -- `print_sheet` meets its contract: all is asked before anything is written. Assumes nothing.
 use mathlib.Core.Bool.{true}
 use mathlib.Core.List.{List}
-use mathlib.Core.Path.{◌≡◌, refl, sym, ap, ap₂, ◌∙◌}
+use mathlib.Core.Path.{◌≡◌, sym, ap, ap₂, ◌∙◌}
 use Prim.Native.Nat.{ℕ, ◌*◌, ◌≤◌}
 use native.Mathlib.Omega.{arith}
 use lib.ListN.{length}
-use Rattle.hash_parts.specs.Error.{error_number}
 use Rattle.records.specs.Area.{over}
 use Rattle.index.specs.View.{record_in}
 use Rattle.index.specs.declared.view.SegmentView.{SegmentView}
-use Rattle.sets.specs.Answers.{Reply, accept, refuse}
-use Rattle.sets.specs.Lookup.{areas_hold_set, view_of}
+use Rattle.sets.specs.Answers.{Reply, accept}
+use Rattle.sets.specs.Lookup.{areas_hold_set}
 use Rattle.charts.specs.Line.{Row, pages_for, sheet}
-use Rattle.charts.specs.Sheet.{Printed, after_sheet, pages_answer, rows_fit, rows_in, rows_of, sheet_reply, sheet_result}
+use Rattle.charts.specs.Sheet.{pages_answer, rows_fit, rows_in, rows_of, sheet_reply, sheet_result}
 use Rattle.charts.specs.declared.sheet.SheetAnswer.{SheetAnswer}
 use Rattle.charts.specs.declared.sheet.SheetAnswer.TheVariants.{Pages}
 use Rattle.charts.proofs.Asked.{pages_told_law, sheet_fits, sheet_refused, sheet_short, slots_few}
-use borrow.Author.Rules.{rules}
 use Rattle.charts.proofs.sheet.print_sheet.Goals as goal
 use Rattle.charts.proofs.sheet.print_sheet.Goals.{After-sheet_pages-answer}
 

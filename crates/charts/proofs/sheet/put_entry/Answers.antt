@@ -8,7 +8,6 @@ use Rattle.records.specs.Area.{pasted}
 use Rattle.charts.specs.Line.{line, row}
 use Rattle.charts.specs.Sheet.{row_of}
 use Rattle.charts.proofs.Rows.{fits_parts}
-use borrow.Author.Rules.{rules}
 use Rattle.charts.proofs.sheet.put_entry.Goals as goal
 
 pub put_row-requires : goal.put_row-requires

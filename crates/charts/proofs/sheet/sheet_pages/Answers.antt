@@ -1,18 +1,17 @@
 -- `sheet_pages` meets its contract. Assumes nothing.
 use mathlib.Core.Bool.{true}
 use mathlib.Core.Path.{◌≡◌, sym, ap, ◌∙◌}
-use Prim.Native.Nat.{ℕ, ◌*◌, ◌≤◌}
+use Prim.Native.Nat.{ℕ}
 use native.Mathlib.Omega.{arith}
 use lib.ListN.{length}
 use Rattle.index.specs.View.{record_in}
-use Rattle.sets.specs.Answers.{Reply, accept}
+use Rattle.sets.specs.Answers.{accept}
 use Rattle.sets.specs.Lookup.{areas_hold_set, view_of}
 use Rattle.sets.proofs.Said.{said_no, said_yes}
 use Rattle.charts.specs.Line.{pages_for}
 use Rattle.charts.specs.Sheet.{ask_pages, pages_answer, row_count, rows_of}
 use Rattle.charts.proofs.Asked.{count_passed, count_refused, slots_few}
 use Rattle.charts.proofs.Rows.{rows_few}
-use borrow.Author.Rules.{rules}
 use Rattle.charts.proofs.sheet.sheet_pages.Goals as goal
 use Rattle.charts.proofs.sheet.sheet_pages.Goals.{After-count_rows-count, Else-not-areas_hold}
 

@@ -1,14 +1,10 @@
 -- `write_sheet` meets its contract: the lines of the rows, and blank ones behind them. Assumes nothing.
-use mathlib.Core.List.{List, []}
-use mathlib.Core.Path.{◌≡◌, sym, ap, ◌∙◌}
-use Prim.Native.Nat.{ℕ, ◌*◌, ◌-◌, ◌≤◌}
+use mathlib.Core.List.{List}
 use native.Mathlib.Omega.{arith}
-use lib.ListN.{length, length-drop, length-take}
 use Rattle.index.specs.View.{record_in}
-use Rattle.charts.specs.Line.{Row, lines, pages_for, sheet}
+use Rattle.charts.specs.Line.{Row}
 use Rattle.charts.specs.Sheet.{rows_in}
 use Rattle.charts.proofs.Pages.{sheet_home}
-use borrow.Author.Rules.{rules}
 use Rattle.charts.proofs.sheet.write_sheet.Goals as goal
 use Rattle.charts.proofs.sheet.write_sheet.Goals.{Start}
 

@@ -1,9 +1,6 @@
 -- `find_byte` meets its contract: the byte stands where it stands in what is left. Assumes nothing.
-use mathlib.Core.Path.{◌≡◌, refl, ◌∙◌}
-use Prim.Native.Nat.{◌-◌, ◌≤◌}
+use mathlib.Core.Path.{refl, ◌∙◌}
 use native.Mathlib.Omega.{arith}
-use lib.ListN.{length}
-use Rattle.passage_lines.specs.Bytes.{first_from}
 use Rattle.passage_lines.proofs.Search.{first_here, first_later, first_none}
 use Rattle.passage_lines.proofs.bytes.find_byte.Goals as goal
 

@@ -1,10 +1,8 @@
 -- What each turn of the loop keeps.
-use mathlib.Core.Path.{◌≡◌, refl, ◌∙◌}
+use mathlib.Core.Path.{◌≡◌}
 use Prim.Native.Nat.{◌-◌, ◌≤◌}
-use native.Mathlib.Omega.{arith}
 use lib.ListN.{length}
 use Rattle.passage_lines.specs.Bytes.{first_from}
-use Rattle.passage_lines.proofs.Search.{first_here, first_later, first_none}
 use Rattle.passage_lines.proofs.bytes.find_byte.Given as goal
 
 abbrev pub invariant-loop-i : goal.invariant-loop-i

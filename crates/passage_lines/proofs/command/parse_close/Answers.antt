@@ -3,7 +3,6 @@ use mathlib.Core.Path.{sym, ap, ◌∙◌}
 use Rattle.passage_lines.specs.Command.{close_form}
 use Rattle.passage_lines.specs.Fields.{decimal, got_number}
 use Rattle.passage_lines.proofs.Forms.{next_none, next_some, done_none, done_more}
-use borrow.Author.Rules.{rules}
 use Rattle.passage_lines.proofs.command.parse_close.Goals as goal
 
 pub returns-in_default : goal.returns-in_default

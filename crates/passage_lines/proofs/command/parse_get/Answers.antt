@@ -7,7 +7,6 @@ use Rattle.passage_lines.specs.declared.command.Command.{Command}
 use Rattle.passage_lines.specs.declared.command.Command.TheVariants.{Get}
 use Rattle.passage_lines.specs.Fields.{Field, bytes, decimal, fields_at, got_bytes, got_number, hash}
 use Rattle.passage_lines.proofs.Forms.{next_none, next_some, done_none, done_more}
-use borrow.Author.Rules.{rules}
 use Rattle.passage_lines.proofs.command.parse_get.Goals as goal
 use Rattle.passage_lines.proofs.command.parse_get.Goals.{In-Spelled, In-Value, In-Value-number_field}
 

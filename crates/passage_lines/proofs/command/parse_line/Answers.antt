@@ -3,7 +3,6 @@ use borrow.Author.Tests.{lt-ltb}
 use lib.ListN.{length}
 use Rattle.passage_lines.specs.Command.{command_of}
 use Rattle.passage_lines.proofs.Forms.{command_is}
-use borrow.Author.Rules.{rules}
 use Rattle.passage_lines.proofs.command.parse_line.Goals as goal
 
 pub returns-then-line-gt-MAX_LINE_BYTES : goal.returns-then-line-gt-MAX_LINE_BYTES

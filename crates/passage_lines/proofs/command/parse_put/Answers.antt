@@ -7,7 +7,6 @@ use Rattle.passage_lines.specs.declared.command.Command.{Command}
 use Rattle.passage_lines.specs.declared.command.Command.TheVariants.{Put}
 use Rattle.passage_lines.specs.Fields.{Field, bytes, fields_at, got_bytes, got_lifetime, got_number, hash, lifetime}
 use Rattle.passage_lines.proofs.Forms.{next_none, next_some, done_none, done_more}
-use borrow.Author.Rules.{rules}
 use Rattle.passage_lines.proofs.command.parse_put.Goals as goal
 use Rattle.passage_lines.proofs.command.parse_put.Goals.{In-Of, In-Spelled, In-Spelled-bytes_field, In-Value}
 

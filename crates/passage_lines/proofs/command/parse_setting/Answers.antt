@@ -9,7 +9,6 @@ use Rattle.passage_lines.specs.declared.command.Command.{Command}
 use Rattle.passage_lines.specs.declared.command.Command.TheVariants.{Open}
 use Rattle.passage_lines.specs.Fields.{Field, decimal, fields_at, got_layout, got_number, got_tick, layout, tick_length}
 use Rattle.passage_lines.proofs.Forms.{next_none, next_some, done_none, done_more, field_limit}
-use borrow.Author.Rules.{rules}
 use Rattle.passage_lines.proofs.command.parse_setting.Goals as goal
 use Rattle.passage_lines.proofs.command.parse_setting.Goals.{In-Of, In-Packed, In-Value, In-Value-number_field}
 

@@ -5,7 +5,6 @@ use Prim.Native.String.{String}
 use Rattle.records.specs.Area.{same_bytes}
 use Rattle.passage_lines.specs.Ascii.{ascii}
 use Rattle.passage_lines.specs.Command.{word_form}
-use borrow.Author.Rules.{rules}
 use Rattle.passage_lines.proofs.command.parse_word.Goals as goal
 use Rattle.passage_lines.proofs.command.parse_word.Goals.{Else-same_bytes, Else-same_bytes-2, Else-same_bytes-3}
 

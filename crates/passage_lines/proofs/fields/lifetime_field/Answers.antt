@@ -3,7 +3,6 @@ use mathlib.Core.Path.{sym, ap, ◌∙◌}
 use Rattle.passage_lines.specs.Fields.{lifetime}
 use Rattle.passage_lines.specs.Text.{lifetime_given}
 use Rattle.passage_lines.proofs.Forms.{field_none, field_got}
-use borrow.Author.Rules.{rules}
 use Rattle.passage_lines.proofs.fields.lifetime_field.Goals as goal
 
 pub returns-then-line-at : goal.returns-then-line-at

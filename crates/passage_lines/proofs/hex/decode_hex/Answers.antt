@@ -2,10 +2,8 @@
 use mathlib.Core.Path.{◌≡◌, refl, sym, ◌∙◌}
 use mathlib.Core.Bool.{true}
 use native.Mathlib.Omega.{arith}
-use borrow.Author.Tests.{not-true, not-false}
 use Rattle.passage_lines.specs.Hex.{is_hex}
 use Rattle.passage_lines.proofs.Digits.{bytes_length, decoded_in, decoded_short, decoded_bad}
-use borrow.Author.Rules.{rules}
 use Rattle.passage_lines.proofs.hex.decode_hex.Goals as goal
 use Rattle.passage_lines.proofs.hex.decode_hex.Goals.{Else-not-is_hex}
 

@@ -2,7 +2,6 @@
 use mathlib.Core.Path.{sym, ◌∙◌}
 use borrow.Author.Tests.{eq-eqb, ne_eqb}
 use Rattle.passage_lines.specs.Hex.{hex_length}
-use borrow.Author.Rules.{rules}
 use Rattle.passage_lines.proofs.hex.hex_length.Goals as goal
 
 pub returns-then-same_bytes : goal.returns-then-same_bytes

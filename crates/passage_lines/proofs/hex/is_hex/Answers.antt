@@ -1,8 +1,6 @@
 -- `is_hex` meets its contract: the text is digits where what is left of it is. Assumes nothing.
-use mathlib.Core.Path.{◌≡◌, refl, sym, ap, ◌∙◌}
-use Prim.Native.Nat.{◌-◌, ◌≤◌}
+use mathlib.Core.Path.{refl, sym, ap, ◌∙◌}
 use native.Mathlib.Omega.{arith}
-use lib.ListN.{length, drop}
 use Rattle.passage_lines.specs.Hex.{spells, is_hex}
 use Rattle.passage_lines.proofs.Digits.{high_bad, low_bad, is_hex_next, hex_end}
 use Rattle.passage_lines.proofs.hex.is_hex.Goals as goal

@@ -1,10 +1,8 @@
 -- What each turn of the loop keeps.
-use mathlib.Core.Path.{◌≡◌, refl, sym, ap, ◌∙◌}
+use mathlib.Core.Path.{◌≡◌}
 use Prim.Native.Nat.{◌-◌, ◌≤◌}
-use native.Mathlib.Omega.{arith}
 use lib.ListN.{length, drop}
-use Rattle.passage_lines.specs.Hex.{spells, is_hex}
-use Rattle.passage_lines.proofs.Digits.{high_bad, low_bad, is_hex_next, hex_end}
+use Rattle.passage_lines.specs.Hex.{is_hex}
 use Rattle.passage_lines.proofs.hex.is_hex.Given as goal
 
 abbrev pub invariant-loop-i : goal.invariant-loop-i

@@ -1,12 +1,11 @@
 -- `write_bytes` meets its contract: what is written and what is left to write are the bytes of the text. Assumes nothing.
 use mathlib.Core.Path.{◌≡◌, ap}
-use mathlib.Core.Bool.{true}
 use mathlib.Core.List.{◌∷◌}
-use Prim.Native.Nat.{◌+◌, ◌*◌, ◌-◌, ◌^◌, ◌≤◌, ◌<◌}
+use Prim.Native.Nat.{◌+◌, ◌*◌, ◌^◌, ◌≤◌, ◌<◌}
 use native.Mathlib.Omega.{arith}
 use lib.ListN.{length, drop}
-use Rattle.records.proofs.Area.{Writing, begin, room, next_byte, complete}
-use Rattle.passage_lines.specs.Hex.{hex_bytes, is_hex}
+use Rattle.records.proofs.Area.{begin, room, next_byte, complete}
+use Rattle.passage_lines.specs.Hex.{hex_bytes}
 use Rattle.passage_lines.proofs.Digits.{two_left, high_digit, low_digit, rest_hex, bytes_next, bytes_end, bytes_length}
 use Rattle.passage_lines.proofs.hex.write_bytes.Goals as goal
 use Rattle.passage_lines.proofs.hex.write_bytes.Goals.{After-digit-low, In-loop-i}

@@ -1,13 +1,10 @@
 -- What each turn of the loop keeps.
-use mathlib.Core.Path.{◌≡◌, ap}
+use mathlib.Core.Path.{◌≡◌}
 use mathlib.Core.Bool.{true}
-use mathlib.Core.List.{◌∷◌}
-use Prim.Native.Nat.{◌+◌, ◌*◌, ◌-◌, ◌^◌, ◌≤◌, ◌<◌}
-use native.Mathlib.Omega.{arith}
+use Prim.Native.Nat.{◌-◌}
 use lib.ListN.{length, drop}
-use Rattle.records.proofs.Area.{Writing, begin, room, next_byte, complete}
+use Rattle.records.proofs.Area.{Writing}
 use Rattle.passage_lines.specs.Hex.{hex_bytes, is_hex}
-use Rattle.passage_lines.proofs.Digits.{two_left, high_digit, low_digit, rest_hex, bytes_next, bytes_end, bytes_length}
 use Rattle.passage_lines.proofs.hex.write_bytes.Given as goal
 
 abbrev pub invariant-loop-i : goal.invariant-loop-i

@@ -1,7 +1,6 @@
 -- `keep_unread` meets its contract. Assumes nothing.
 use borrow.Author.Tests.{lt-ltb, le-ltb}
 use Rattle.passage_lines.specs.Input.{kept_unread}
-use borrow.Author.Rules.{rules}
 use Rattle.passage_lines.proofs.input.keep_unread.Goals as goal
 
 pub returns-then-end-block : goal.returns-then-end-block

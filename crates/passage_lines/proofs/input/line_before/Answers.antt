@@ -1,6 +1,5 @@
 -- `line_before` meets its contract. Assumes nothing.
 use borrow.Author.Tests.{lt-ltb, le-ltb}
-use borrow.Author.Rules.{rules}
 use Rattle.passage_lines.proofs.input.line_before.Goals as goal
 
 pub returns-then-feed-end : goal.returns-then-feed-end

@@ -1,9 +1,9 @@
 -- `move_front` meets its contract: what is moved and what is left to move are the part. Assumes nothing.
-use Prim.Native.Nat.{◌-◌, ◌≤◌}
+use Prim.Native.Nat.{◌≤◌}
 use native.Mathlib.Omega.{arith}
-use lib.ListN.{length, drop, drop_of_length-le}
+use lib.ListN.{length, drop_of_length-le}
 use Rattle.records.specs.Area.{part}
-use Rattle.records.proofs.Area.{Writing, begin, room, next_byte, complete}
+use Rattle.records.proofs.Area.{begin, room, next_byte, complete}
 use Rattle.passage_lines.proofs.Lines.{part_length, moved}
 use Rattle.passage_lines.proofs.input.move_front.Goals as goal
 

@@ -1,10 +1,8 @@
 -- What each turn of the loop keeps.
-use Prim.Native.Nat.{◌-◌, ◌≤◌}
-use native.Mathlib.Omega.{arith}
-use lib.ListN.{length, drop, drop_of_length-le}
+use Prim.Native.Nat.{◌-◌}
+use lib.ListN.{drop}
 use Rattle.records.specs.Area.{part}
-use Rattle.records.proofs.Area.{Writing, begin, room, next_byte, complete}
-use Rattle.passage_lines.proofs.Lines.{part_length, moved}
+use Rattle.records.proofs.Area.{Writing}
 use Rattle.passage_lines.proofs.input.move_front.Given as goal
 
 abbrev pub invariant-loop-i : goal.invariant-loop-i

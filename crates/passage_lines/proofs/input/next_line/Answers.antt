@@ -4,7 +4,6 @@ use Prim.Native.Nat.{◌-◌}
 use native.Mathlib.Omega.{arith}
 use borrow.Author.Tests.{lt-ltb, le-ltb}
 use Rattle.passage_lines.specs.Input.{next_line}
-use borrow.Author.Rules.{rules}
 use Rattle.passage_lines.proofs.input.next_line.Goals as goal
 
 pub returns-then-end-block : goal.returns-then-end-block

@@ -1,6 +1,5 @@
 -- `hex_digit` meets its contract. Assumes nothing.
 use borrow.Author.Tests.{lt-ltb, le-ltb}
-use borrow.Author.Rules.{rules}
 use Rattle.passage_lines.proofs.output.hex_digit.Goals as goal
 
 pub returns-then-value-lt10 : goal.returns-then-value-lt10

@@ -1,7 +1,6 @@
 -- `put_hex` meets its contract: two digits to a byte. Assumes nothing.
 use native.Mathlib.Omega.{arith}
 use Rattle.passage_lines.proofs.Spelling.{hex_length_law, bytes_none, bytes_some, appended_in, appended_out}
-use borrow.Author.Rules.{rules}
 use Rattle.passage_lines.proofs.output.put_hex.Goals as goal
 
 pub returns-then-bytes-eq0 : goal.returns-then-bytes-eq0

@@ -2,7 +2,6 @@
 use mathlib.Core.Path.{refl}
 use native.Mathlib.Omega.{arith}
 use Rattle.passage_lines.proofs.Spelling.{appended_in, appended_out}
-use borrow.Author.Rules.{rules}
 use Rattle.passage_lines.proofs.output.put_text.Goals as goal
 
 pub returns-then-out-at : goal.returns-then-out-at

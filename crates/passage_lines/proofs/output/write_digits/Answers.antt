@@ -2,7 +2,7 @@
 use native.Mathlib.Omega.{arith}
 use lib.ListN.{length-set}
 use mathlib.Core.Path.{sym, ◌∙◌}
-use Rattle.passage_lines.proofs.Spelling.{Spelt, spelt_start, spelt_room, spelt_next, spelt_last}
+use Rattle.passage_lines.proofs.Spelling.{spelt_start, spelt_room, spelt_next, spelt_last}
 use Rattle.passage_lines.proofs.output.write_digits.Goals as goal
 
 pub loop-rest-init : goal.loop-rest-init

@@ -1,8 +1,5 @@
 -- What each turn of the loop keeps.
-use native.Mathlib.Omega.{arith}
-use lib.ListN.{length-set}
-use mathlib.Core.Path.{sym, ◌∙◌}
-use Rattle.passage_lines.proofs.Spelling.{Spelt, spelt_start, spelt_room, spelt_next, spelt_last}
+use Rattle.passage_lines.proofs.Spelling.{Spelt}
 use Rattle.passage_lines.proofs.output.write_digits.Given as goal
 
 abbrev pub invariant-loop-rest : goal.invariant-loop-rest

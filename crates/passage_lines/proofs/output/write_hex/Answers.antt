@@ -1,10 +1,10 @@
 -- `write_hex` meets its contract: what is written and what is left to write are the digits of the bytes. Assumes nothing.
 use mathlib.Core.Path.{◌≡◌, refl, sym, ap, ap₂, ◌∙◌}
 use mathlib.Core.List.{◌∷◌}
-use Prim.Native.Nat.{ℕ, ◌+◌, ◌-◌, ◌/◌, ◌%◌, ◌≤◌}
+use Prim.Native.Nat.{ℕ, ◌+◌, ◌/◌, ◌%◌, ◌≤◌}
 use native.Mathlib.Omega.{arith}
 use lib.ListN.{length, get_or, drop, length-set}
-use Rattle.records.proofs.Area.{Writing, begin, room, next_byte, complete}
+use Rattle.records.proofs.Area.{begin, room, next_byte, complete}
 use Rattle.passage_lines.specs.Output.{hex_digit, hex_text}
 use Rattle.passage_lines.proofs.Spelling.{hex_next, hex_none, hex_length_law}
 use Rattle.passage_lines.proofs.output.write_hex.Goals as goal

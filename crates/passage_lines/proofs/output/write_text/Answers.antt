@@ -1,12 +1,12 @@
 -- `write_text` meets its contract: what is written and what is left to copy are the text. Assumes nothing.
 use mathlib.Core.Path.{◌≡◌}
 use mathlib.Core.List.{List, ◌∷◌}
-use Prim.Native.Nat.{ℕ, ◌+◌, ◌-◌}
+use Prim.Native.Nat.{ℕ, ◌+◌}
 use native.Mathlib.Numerals.{add-one}
 use native.Mathlib.Omega.{arith}
-use lib.ListN.{length, get_or, drop, drop_of_length-le}
+use lib.ListN.{get_or, drop, drop_of_length-le}
 use lib.Seq.{drop-cons}
-use Rattle.records.proofs.Area.{Writing, begin, room, next_byte, complete}
+use Rattle.records.proofs.Area.{begin, room, next_byte, complete}
 use Rattle.passage_lines.proofs.output.write_text.Goals as goal
 
 pub loop-i-init : goal.loop-i-init

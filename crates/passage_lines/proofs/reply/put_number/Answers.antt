@@ -5,7 +5,6 @@ use native.Mathlib.Omega.{arith}
 use lib.ListN.{length}
 use Rattle.passage_lines.specs.Output.{decimal_text}
 use Rattle.passage_lines.proofs.Replies.{appended_parts, pasted_length, pasted_more}
-use borrow.Author.Rules.{rules}
 use Rattle.passage_lines.proofs.reply.put_number.Goals as goal
 
 pub returns : goal.returns

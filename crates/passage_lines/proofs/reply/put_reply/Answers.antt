@@ -2,7 +2,6 @@
 use mathlib.Core.Path.{◌∙◌}
 use Rattle.passage_lines.specs.Reply.{reply_text}
 use Rattle.passage_lines.proofs.Replies.{over_front}
-use borrow.Author.Rules.{rules}
 use Rattle.passage_lines.proofs.reply.put_reply.Goals as goal
 
 pub returns : goal.returns

@@ -1,5 +1,4 @@
 -- `put_value` meets its contract: the rest of the area that it lends comes home. Assumes nothing.
-use borrow.Author.Rules.{rules}
 use native.Mathlib.Omega.{arith}
 use lib.ListN.{length-take, length-drop}
 use Rattle.passage_lines.proofs.Spelling.{appended_in, appended_out}

@@ -1,5 +1,4 @@
 -- `put_word` meets its contract. Assumes nothing.
-use borrow.Author.Rules.{rules}
 use Rattle.passage_lines.proofs.reply.put_word.Goals as goal
 
 pub returns-in-Open : goal.returns-in-Open

@@ -7,7 +7,6 @@ use lib.ListN.{length}
 use Rattle.records.proofs.Area.{Writing, begin, complete}
 use Rattle.passage_lines.specs.Reply.{word_text, line_feed, number_field, accepted_text}
 use Rattle.passage_lines.proofs.Replies.{next_text, number_fits, next_number, accepted_short}
-use borrow.Author.Rules.{rules}
 use Rattle.passage_lines.proofs.reply.write_accepted.Goals as goal
 use Rattle.passage_lines.proofs.reply.write_accepted.Goals.{After-put_number-end, After-put_number-first_end, After-put_number-zero_end, After-put_word-word_end, Start}
 

@@ -7,7 +7,6 @@ use lib.ListN.{length}
 use Rattle.records.proofs.Area.{Writing, begin, complete}
 use Rattle.passage_lines.specs.Reply.{word_text, line_feed, number_field, refused_text}
 use Rattle.passage_lines.proofs.Replies.{next_text, number_fits, next_number, refused_short}
-use borrow.Author.Rules.{rules}
 use Rattle.passage_lines.proofs.reply.write_refused.Goals as goal
 use Rattle.passage_lines.proofs.reply.write_refused.Goals.{After-put_number-end, After-put_word-word_end, Start}
 

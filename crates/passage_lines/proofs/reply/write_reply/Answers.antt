@@ -1,5 +1,4 @@
 -- `write_reply` meets its contract: each kind of reply is its line. Assumes nothing.
-use borrow.Author.Rules.{rules}
 use native.Mathlib.Omega.{arith}
 use Rattle.passage_lines.specs.Ascii.{ascii}
 use Rattle.passage_lines.specs.Reply.{reply_text}

@@ -5,7 +5,6 @@ use Rattle.passage_lines.specs.Ascii.{ascii}
 use Rattle.passage_lines.specs.Output.{bytes_text}
 use Rattle.passage_lines.specs.Reply.{line_feed, value_text}
 use Rattle.passage_lines.proofs.Replies.{next_text}
-use borrow.Author.Rules.{rules}
 use Rattle.passage_lines.proofs.reply.write_value.Goals as goal
 
 pub returns : goal.returns

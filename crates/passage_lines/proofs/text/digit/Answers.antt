@@ -2,7 +2,6 @@
 use native.Mathlib.Omega.{arith}
 use borrow.Author.Tests.{lt-ltb, le-ltb, le-leb, lt-leb}
 use Rattle.passage_lines.specs.Text.{digit_of}
-use borrow.Author.Rules.{rules}
 use Rattle.passage_lines.proofs.text.digit.Goals as goal
 
 pub returns-then-character-lt48 : goal.returns-then-character-lt48

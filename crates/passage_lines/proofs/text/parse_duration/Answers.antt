@@ -6,7 +6,6 @@ use lib.ListN.{length}
 use lib.Seq.{length-take-le}
 use Rattle.passage_lines.specs.Text.{number_given}
 use Rattle.passage_lines.proofs.Numbers.{number_limit, duration_short, duration_no_point, duration_is}
-use borrow.Author.Rules.{rules}
 use Rattle.passage_lines.proofs.text.parse_duration.Goals as goal
 
 pub returns-then-text-lt11 : goal.returns-then-text-lt11

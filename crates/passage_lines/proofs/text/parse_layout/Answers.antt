@@ -1,7 +1,6 @@
 -- `parse_layout` meets its contract. Assumes nothing.
 use mathlib.Core.Path.{sym, ◌∙◌}
 use Rattle.passage_lines.specs.Text.{layout_of}
-use borrow.Author.Rules.{rules}
 use Rattle.passage_lines.proofs.text.parse_layout.Goals as goal
 
 pub returns-then-same_bytes : goal.returns-then-same_bytes

@@ -1,7 +1,6 @@
 -- `parse_lifetime` meets its contract. Assumes nothing.
 use mathlib.Core.Path.{sym, ap, ◌∙◌}
 use Rattle.passage_lines.specs.Text.{lifetime_of, duration_given}
-use borrow.Author.Rules.{rules}
 use Rattle.passage_lines.proofs.text.parse_lifetime.Goals as goal
 
 pub returns-then-same_bytes : goal.returns-then-same_bytes

@@ -1,8 +1,8 @@
 -- `parse_number` meets its contract: the digits left, after the value read so far, spell the number that was asked. Assumes nothing.
 use mathlib.Core.Path.{◌≡◌, sym, ap, ◌∙◌}
-use Prim.Native.Nat.{◌+◌, ◌*◌, ◌-◌, ◌≤◌}
+use Prim.Native.Nat.{◌+◌, ◌*◌, ◌≤◌}
 use native.Mathlib.Omega.{arith}
-use lib.ListN.{length, drop}
+use lib.ListN.{drop}
 use Rattle.passage_lines.specs.Text.{spelled, at_most, number_in}
 use Rattle.passage_lines.proofs.Numbers.{spelled_next, spelled_bad, spelled_end, past, in_limit, step_in, step_out, number_start, number_none}
 use Rattle.passage_lines.proofs.text.parse_number.Goals as goal

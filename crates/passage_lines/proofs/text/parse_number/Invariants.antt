@@ -1,10 +1,8 @@
 -- What each turn of the loop keeps.
-use mathlib.Core.Path.{◌≡◌, sym, ap, ◌∙◌}
-use Prim.Native.Nat.{◌+◌, ◌*◌, ◌-◌, ◌≤◌}
-use native.Mathlib.Omega.{arith}
+use mathlib.Core.Path.{◌≡◌}
+use Prim.Native.Nat.{◌-◌, ◌≤◌}
 use lib.ListN.{length, drop}
 use Rattle.passage_lines.specs.Text.{spelled, at_most, number_in}
-use Rattle.passage_lines.proofs.Numbers.{spelled_next, spelled_bad, spelled_end, past, in_limit, step_in, step_out, number_start, number_none}
 use Rattle.passage_lines.proofs.text.parse_number.Given as goal
 
 abbrev pub invariant-loop-i : goal.invariant-loop-i

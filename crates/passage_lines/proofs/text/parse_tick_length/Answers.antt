@@ -1,7 +1,6 @@
 -- `parse_tick_length` meets its contract. Assumes nothing.
 use mathlib.Core.Path.{sym, ap, ◌∙◌}
 use Rattle.passage_lines.specs.Text.{tick_length_of, duration_given}
-use borrow.Author.Rules.{rules}
 use Rattle.passage_lines.proofs.text.parse_tick_length.Goals as goal
 
 pub returns-then-same_bytes : goal.returns-then-same_bytes

@@ -1,5 +1,4 @@
 -- `slot_code` meets its contract: each case of a slot has document 01's number. Assumes nothing.
-use borrow.Author.Rules.{rules}
 use Rattle.test_exports.specs.Exports.{code_of}
 use Rattle.test_exports.proofs.index_calls.slot_code.Goals as goal
 

@@ -1,5 +1,4 @@
 -- `test_find_empty_build_slot` meets its contract: it answers with the code of the slot that the call finds. Assumes nothing.
-use borrow.Author.Rules.{rules}
 use Rattle.test_exports.proofs.index_calls.test_find_empty_build_slot.Goals as goal
 
 pub returns : goal.returns

@@ -3,7 +3,6 @@ use mathlib.Core.Path.{ap}
 use Rattle.test_exports.proofs.Answers.{placed_none}
 use Rattle.test_exports.specs.Exports.{told}
 use mathlib.Core.Bool.{true, false}
-use borrow.Author.Rules.{rules}
 use Rattle.test_exports.proofs.index_calls.test_record_at_location.Goals as goal
 
 pub returns-in_default : goal.returns-in_default

@@ -2,7 +2,6 @@
 use mathlib.Core.Path.{refl}
 use Rattle.test_exports.proofs.Answers.{code_refused}
 use Rattle.test_exports.specs.Exports.{code_of}
-use borrow.Author.Rules.{rules}
 use Rattle.test_exports.proofs.index_calls.test_split_record_segments.Goals as goal
 
 pub returns-in-Segments : goal.returns-in-Segments
