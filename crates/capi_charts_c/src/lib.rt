@@ -1,4 +1,6 @@
-// A set on paper.
+// The calls of capi_charts for C, as a static library: each export is one call of the function of its name, with the same clauses.
+#![tactic(auto)]
+
 ghost use Rattle.std.specs.Prelude.{◌≡◌};
 ghost use Rattle.capi.specs.Calls.{told};
 ghost use Rattle.capi_charts.specs.Charts.{exported_print_sheet, exported_sheet_pages, sheet_words};

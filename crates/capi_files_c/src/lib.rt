@@ -1,4 +1,6 @@
-// Sets as files.
+// The calls of capi_files for C, as a static library: each export is one call of the function of its name, with the same clauses.
+#![tactic(auto)]
+
 ghost use Rattle.std.specs.Prelude.{◌≡◌};
 ghost use Rattle.capi.specs.Calls.{told};
 ghost use Rattle.capi_files.specs.Files.{exported_file_bytes, exported_file_needs, exported_load_file, exported_write_file, load_words, write_words};
