@@ -2,8 +2,7 @@
 
 # Proves and builds the program passage and runs document 01's example.
 run:
-	rt check passage_run
-	target/bin/passage_run <crates/passage_run/stdin
+	cd crates/passage_run && rt run <stdin
 
 # The gate.
 test:
@@ -34,12 +33,12 @@ bench:
 library:
 	bindings/library
 
-# Library, headers and the program passage below PREFIX; DESTDIR stages them elsewhere.
+# Library, headers and the program passage below PREFIX; DESTDIR stages them elsewhere. rt builds a program when it runs it.
 PREFIX ?= /usr/local
 
 install: library
-	rt check passage_run
+	cd crates/passage_run && rt run <stdin >/dev/null
 	install -d $(DESTDIR)$(PREFIX)/lib $(DESTDIR)$(PREFIX)/include $(DESTDIR)$(PREFIX)/bin
 	install -m 644 target/staticlib/libcapi.a $(DESTDIR)$(PREFIX)/lib/
 	install -m 644 bindings/segment_cache.h bindings/segment_cache_words.h $(DESTDIR)$(PREFIX)/include/
-	install -m 755 target/bin/passage_run $(DESTDIR)$(PREFIX)/bin/passage
+	install -m 755 crates/passage_run/out/passage_run $(DESTDIR)$(PREFIX)/bin/passage

@@ -65,7 +65,8 @@
  *    3 CapacityOverflow          7 ArenaTooLarge           11 InvalidState
  *    4 DuplicateKey              8 InvalidSegmentTarget    12 RecordMismatch
  *   13 FileFraming              14 FileKinds               15 FileContent
- *   16 FieldTooLong
+ *
+ * The two calls on sheets also answer 16 FieldTooLong; segment_cache_sheet_refusal_name names their refusals.
  *
  * A refusal changes no area, answers included, with one exception: finish refused with 7 leaves the
  * first 256 starts in `starts`. A builder or rebuild stays open after any refusal. Each call below lists

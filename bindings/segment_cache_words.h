@@ -252,9 +252,13 @@ static inline const char *segment_cache_refusal_name(uint64_t refusal) {
         "Accepted",          "InvalidBucketOccupancy", "ZeroExpiryTick",       "CapacityOverflow",
         "DuplicateKey",      "ExpiryDisabled",         "ExpiryOutOfRange",     "ArenaTooLarge",
         "InvalidSegmentTarget", "InvalidNanoseconds",  "AreaTooShort",         "InvalidState",
-        "RecordMismatch",    "FileFraming",            "FileKinds",            "FileContent",
-        "FieldTooLong"};
-    return refusal <= SEGMENT_CACHE_FIELD_TOO_LONG ? names[refusal] : "unknown";
+        "RecordMismatch",    "FileFraming",            "FileKinds",            "FileContent"};
+    return refusal <= SEGMENT_CACHE_FILE_CONTENT ? names[refusal] : "unknown";
+}
+
+/* The same for what the two calls on sheets answer, 16 too. */
+static inline const char *segment_cache_sheet_refusal_name(uint64_t refusal) {
+    return refusal == SEGMENT_CACHE_FIELD_TOO_LONG ? "FieldTooLong" : segment_cache_refusal_name(refusal);
 }
 
 /* A hash for keys: FNV-1a, then the finisher of MurmurHash3. FNV-1a alone leaves the upper bits of short

@@ -1,7 +1,7 @@
 /*
  * Depths by cell and notes of a harbour, some with a lapse time: built, asked before and after they
- * lapse, stepped through segment by segment, rebuilt after a new survey, written as a file and loaded; and
- * the depths on paper. Prints what it finds; any call that is refused unexpectedly ends it with status 1.
+ * lapse, stepped through segment by segment, rebuilt after a new survey, written as a file and loaded.
+ * Prints what it finds; any call that is refused unexpectedly ends it with status 1.
  */
 #include <stdio.h>
 #include <stdlib.h>
@@ -71,21 +71,21 @@ static void check_areas(const uint64_t *setting, size_t records) {
     if (need[SEGMENT_CACHE_AREA_INDEX] > 8 || need[SEGMENT_CACHE_AREA_FILTER] > 1) exit(1);
 }
 
-/* Opens a builder in the arena, where that ends every other set. */
-static void open_set(uint64_t *builder, struct set *set, size_t records) {
-    uint64_t setting[SEGMENT_CACHE_SETTING_WORDS];
+static void build(struct set *set) {
+    uint64_t setting[SEGMENT_CACHE_SETTING_WORDS], builder[SEGMENT_CACHE_BUILDER_WORDS];
+    uint64_t scratch[1];
     segment_cache_setting_with_relative_expiry(setting, MINUTES, 0);
     segment_cache_setting_filter_bits(setting, 8);
-    check_areas(setting, records);
-    must(segment_cache_open(setting, SEGMENT_CACHE_SETTING_WORDS, records, builder,
+    check_areas(setting, 4);
+    must(segment_cache_open(setting, SEGMENT_CACHE_SETTING_WORDS, 4, builder,
                             SEGMENT_CACHE_BUILDER_WORDS, set->index, 8, set->filter, 1,
                             set->starts, SEGMENT_CACHE_SEGMENT_WORDS, set->lengths,
                             SEGMENT_CACHE_SEGMENT_WORDS, arena, ARENA_BYTES),
          "open");
-}
-
-static void finish_set(const uint64_t *builder, struct set *set) {
-    uint64_t scratch[1];
+    for (int i = 0; i < 3; i++) must(put(builder, set, &notes[i]), "push");
+    printf("%s again: %s\n", notes[0].key,
+           segment_cache_refusal_name(put(builder, set, &notes[0])));
+    must(put(builder, set, &notes[3]), "push");
     must(segment_cache_finish(builder, SEGMENT_CACHE_BUILDER_WORDS, SEGMENT_TARGET, set->index, 8,
                               set->starts, SEGMENT_CACHE_SEGMENT_WORDS, set->lengths,
                               SEGMENT_CACHE_SEGMENT_WORDS, scratch, 1, arena, ARENA_BYTES,
@@ -94,16 +94,6 @@ static void finish_set(const uint64_t *builder, struct set *set) {
     printf("built: %d records, %d segments, %d bytes\n",
            (int)set->words[SEGMENT_CACHE_SET_ENTRIES], (int)set->words[SEGMENT_CACHE_SET_SEGMENTS],
            (int)set->words[SEGMENT_CACHE_SET_FILLED]);
-}
-
-static void build(struct set *set) {
-    uint64_t builder[SEGMENT_CACHE_BUILDER_WORDS];
-    open_set(builder, set, 4);
-    for (int i = 0; i < 3; i++) must(put(builder, set, &notes[i]), "push");
-    printf("%s again: %s\n", notes[0].key,
-           segment_cache_refusal_name(put(builder, set, &notes[0])));
-    must(put(builder, set, &notes[3]), "push");
-    finish_set(builder, set);
 }
 
 static void ask(struct set *set, const char *name, const char *key, uint64_t tick) {
@@ -333,25 +323,6 @@ static void load_file(const uint8_t *file, size_t file_len, struct set *set) {
            (int)set->words[SEGMENT_CACHE_SET_FILLED]);
 }
 
-/* A set on paper, without its blank lines. One page will do: a bucket has 8 slots. Notes that are longer than
-   their columns are refused. */
-static void print_sheet(const struct set *set, const char *name) {
-    static uint8_t page[SEGMENT_CACHE_PAGE_BYTES];
-    uint64_t pages[1];
-    uint64_t refusal = segment_cache_print_sheet(
-        set->words, SEGMENT_CACHE_SET_WORDS, set->index, 8, set->starts,
-        SEGMENT_CACHE_SEGMENT_WORDS, set->lengths, SEGMENT_CACHE_SEGMENT_WORDS, arena, ARENA_BYTES,
-        page, SEGMENT_CACHE_PAGE_BYTES, pages, 1);
-    if (refusal == SEGMENT_CACHE_FIELD_TOO_LONG) {
-        printf("%s on paper: %s\n", name, segment_cache_refusal_name(refusal));
-        return;
-    }
-    must(refusal, "print_sheet");
-    printf("%s on paper, pages: %d\n", name, (int)pages[0]);
-    for (size_t at = 0; at < pages[0] * SEGMENT_CACHE_PAGE_BYTES; at += SEGMENT_CACHE_LINE_BYTES)
-        if (page[at + 7] != ' ') printf("%.*s", SEGMENT_CACHE_LINE_BYTES, (const char *)page + at);
-}
-
 /* Marks don't travel: what was asked before the file was written is not asked in the loaded set. */
 static void travel(const struct set *set) {
     static uint8_t file[FILE_BYTES];
@@ -364,17 +335,6 @@ static void travel(const struct set *set) {
     take_mark(&loaded, "Aurora");
     walk(&loaded, 31);
     step_segments(&loaded);
-    print_sheet(&loaded, "loaded");
-}
-
-/* The depths alone, which are short. */
-static void print_depths(void) {
-    static struct set depths;
-    uint64_t builder[SEGMENT_CACHE_BUILDER_WORDS];
-    open_set(builder, &depths, 2);
-    for (int i = 0; i < 2; i++) must(put(builder, &depths, &notes[i]), "push");
-    finish_set(builder, &depths);
-    print_sheet(&depths, "depths");
 }
 
 int main(void) {
@@ -402,6 +362,5 @@ int main(void) {
     walk(&second, 31);
     step_segments(&second);
     travel(&second);
-    print_depths();
     return 0;
 }

@@ -1,6 +1,6 @@
 //! Depths by cell and notes of a harbour, some with a lapse time: built, asked before and after they
-//! lapse, stepped through segment by segment, rebuilt after a new survey, written as a file and loaded; and the
-//! depths on paper. Prints the lines of harbour.c.
+//! lapse, stepped through segment by segment, rebuilt after a new survey, written as a file and loaded. Prints
+//! the lines of harbour.c.
 use segment_cache::{
     AreaWords, Arena, Builder, FileNeeds, Refusal, Remaining, Set, Setting, StoredRecord, hash,
 };
@@ -39,19 +39,25 @@ fn put(builder: &mut Builder<'_>, note: &Note) -> Result<(), Refusal> {
     Ok(())
 }
 
-// Opens a builder in the arena, where that ends every other set.
-fn open(arena: &mut Arena, records: usize) -> Result<Builder<'_>, Refusal> {
+fn build(arena: &mut Arena) -> Result<Set, Refusal> {
     let setting = Setting::with_relative_expiry(Duration::from_secs(60))
         .with_negative_filter_bits_per_entry(8);
-    let need = AreaWords::of(&setting, records)?;
+    let need = AreaWords::of(&setting, NOTES.len())?;
     println!(
-        "{records} records: index {}, filter {}, scratch {} words",
-        need.index, need.filter, need.scratch
+        "{} records: index {}, filter {}, scratch {} words",
+        NOTES.len(),
+        need.index,
+        need.filter,
+        need.scratch
     );
-    Builder::open(arena, &setting, records)
-}
-
-fn finish(builder: Builder<'_>) -> Result<Set, Refusal> {
+    let mut builder = Builder::open(arena, &setting, NOTES.len())?;
+    for note in &NOTES[..3] {
+        put(&mut builder, note)?;
+    }
+    if let Err(refusal) = put(&mut builder, &NOTES[0]) {
+        println!("{} again: {refusal:?}", NOTES[0].key);
+    }
+    put(&mut builder, &NOTES[3])?;
     let set = builder.finish(SEGMENT_TARGET)?;
     println!(
         "built: {} records, {} segments, {} bytes",
@@ -60,18 +66,6 @@ fn finish(builder: Builder<'_>) -> Result<Set, Refusal> {
         set.filled_bytes()
     );
     Ok(set)
-}
-
-fn build(arena: &mut Arena) -> Result<Set, Refusal> {
-    let mut builder = open(arena, NOTES.len())?;
-    for note in &NOTES[..3] {
-        put(&mut builder, note)?;
-    }
-    if let Err(refusal) = put(&mut builder, &NOTES[0]) {
-        println!("{} again: {refusal:?}", NOTES[0].key);
-    }
-    put(&mut builder, &NOTES[3])?;
-    finish(builder)
 }
 
 fn ask(set: &mut Set, arena: &Arena, name: &str, key: &str, tick: u64) -> Result<(), Refusal> {
@@ -220,32 +214,6 @@ fn load_file(arena: &mut Arena, file: &[u8]) -> Result<Set, Refusal> {
     Ok(set)
 }
 
-// A set on paper, without its blank lines. Notes that are longer than their columns are refused.
-fn print_sheet(set: &Set, arena: &Arena, name: &str) -> Result<(), Refusal> {
-    let sheet = match set.sheet(arena) {
-        Err(Refusal::FieldTooLong) => {
-            println!("{name} on paper: {:?}", Refusal::FieldTooLong);
-            return Ok(());
-        }
-        sheet => sheet?,
-    };
-    println!("{name} on paper, pages: {}", set.sheet_pages(arena)?);
-    for line in sheet.lines().filter(|line| !line.trim().is_empty()) {
-        println!("{line}");
-    }
-    Ok(())
-}
-
-// The depths alone, which are short.
-fn print_depths(arena: &mut Arena) -> Result<(), Refusal> {
-    let mut builder = open(arena, 2)?;
-    for note in &NOTES[..2] {
-        put(&mut builder, note)?;
-    }
-    let depths = finish(builder)?;
-    print_sheet(&depths, arena, "depths")
-}
-
 // Marks don't travel: what was asked before the file was written is not asked in the loaded set.
 fn travel(arena: &mut Arena, set: &Set) -> Result<(), Refusal> {
     let file = set.to_file(arena)?;
@@ -257,8 +225,7 @@ fn travel(arena: &mut Arena, set: &Set) -> Result<(), Refusal> {
     ask(&mut loaded, arena, "loaded", "Aurora", 359)?;
     take_mark(&mut loaded, arena, "Aurora")?;
     walk(&loaded, arena, 31)?;
-    step_segments(&loaded, arena)?;
-    print_sheet(&loaded, arena, "loaded")
+    step_segments(&loaded, arena)
 }
 
 fn main() -> Result<(), Refusal> {
@@ -275,5 +242,5 @@ fn main() -> Result<(), Refusal> {
     step_segments(&first, &arena)?;
     count(&first)?;
     rebuild_and_ask(&mut arena, &mut first)?;
-    print_depths(&mut arena)
+    Ok(())
 }

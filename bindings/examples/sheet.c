@@ -15,7 +15,8 @@ static void fail(const char *what) {
 
 static void must(uint64_t refusal) {
     if (refusal == SEGMENT_CACHE_ACCEPTED) return;
-    fprintf(stderr, "sheet: %s (refusal %d)\n", segment_cache_refusal_name(refusal), (int)refusal);
+    fprintf(stderr, "sheet: %s (refusal %d)\n", segment_cache_sheet_refusal_name(refusal),
+            (int)refusal);
     exit(1);
 }
 

@@ -106,7 +106,10 @@ int main(void) {
                                        left_is(SEGMENT_CACHE_REMAINING_FINITE, 2, 59, 7) &&
                                        left_is(SEGMENT_CACHE_REMAINING_NOTHING, 2, 0, 0));
     well &= same("names", strcmp(segment_cache_refusal_name(12), "RecordMismatch") == 0 &&
-                              strcmp(segment_cache_refusal_name(16), "FieldTooLong") == 0 &&
-                              strcmp(segment_cache_refusal_name(17), "unknown") == 0);
+                              strcmp(segment_cache_refusal_name(15), "FileContent") == 0 &&
+                              strcmp(segment_cache_refusal_name(16), "unknown") == 0);
+    well &= same("names of sheets", strcmp(segment_cache_sheet_refusal_name(15), "FileContent") == 0 &&
+                                        strcmp(segment_cache_sheet_refusal_name(16), "FieldTooLong") == 0 &&
+                                        strcmp(segment_cache_sheet_refusal_name(17), "unknown") == 0);
     return well ? 0 : 1;
 }

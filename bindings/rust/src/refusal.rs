@@ -42,7 +42,8 @@ pub enum Refusal {
     FieldTooLong = 16,
 }
 
-const ALL: [Refusal; 16] = [
+// Those that have a number in every call: all but that of sheets.
+const ALL: [Refusal; 15] = [
     Refusal::InvalidBucketOccupancy,
     Refusal::ZeroExpiryTick,
     Refusal::CapacityOverflow,
@@ -58,7 +59,6 @@ const ALL: [Refusal; 16] = [
     Refusal::FileFraming,
     Refusal::FileKinds,
     Refusal::FileContent,
-    Refusal::FieldTooLong,
 ];
 
 impl Refusal {
@@ -67,7 +67,7 @@ impl Refusal {
         self as u64
     }
 
-    /// The refusal of a number.
+    /// The refusal of a number, 1 to 15: [`Refusal::FieldTooLong`] comes from sheets alone.
     ///
     /// ```
     /// use segment_cache::Refusal;
@@ -86,6 +86,14 @@ impl Refusal {
             (_, Some(refusal)) => Err(refusal),
             (_, None) => panic!("libcapi.a answered {number}, which is no refusal"),
         }
+    }
+
+    // The same of a call on sheets.
+    pub(crate) fn check_sheet(number: u64) -> Result<(), Refusal> {
+        if number == Refusal::FieldTooLong.number() {
+            return Err(Refusal::FieldTooLong);
+        }
+        Refusal::check(number)
     }
 }
 

@@ -14,7 +14,7 @@ impl Set {
         let (words, areas, stamp) = self.parts();
         arena.holds(stamp)?;
         let mut pages = [0];
-        Refusal::check(ffi::segment_cache_sheet_pages(
+        Refusal::check_sheet(ffi::segment_cache_sheet_pages(
             words,
             &areas.index,
             &areas.starts,
@@ -56,7 +56,7 @@ impl Set {
         let mut page = vec![0; PAGE_BYTES * self.sheet_pages(arena)?];
         let (words, areas, _) = self.parts();
         let mut pages = [0];
-        Refusal::check(ffi::segment_cache_print_sheet(
+        Refusal::check_sheet(ffi::segment_cache_print_sheet(
             words,
             &areas.index,
             &areas.starts,

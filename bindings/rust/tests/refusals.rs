@@ -15,13 +15,19 @@ fn open_refusal(setting: Setting, records: usize) -> Option<Refusal> {
 fn names_have_their_numbers() {
     let names = "InvalidBucketOccupancy ZeroExpiryTick CapacityOverflow DuplicateKey ExpiryDisabled \
         ExpiryOutOfRange ArenaTooLarge InvalidSegmentTarget InvalidNanoseconds AreaTooShort \
-        InvalidState RecordMismatch FileFraming FileKinds FileContent FieldTooLong";
+        InvalidState RecordMismatch FileFraming FileKinds FileContent";
     for (name, number) in names.split(' ').zip(1..) {
         let refusal = Refusal::from_number(number).unwrap();
         assert_eq!(refusal.number(), number);
         assert_eq!(refusal.to_string(), format!("{name} (refusal {number})"));
     }
-    assert_eq!(Refusal::from_number(17), None);
+    assert_eq!(Refusal::from_number(16), None);
+}
+
+#[test]
+fn a_sheet_has_one_more() {
+    assert_eq!(Refusal::FieldTooLong.number(), 16);
+    assert_eq!(Refusal::FieldTooLong.to_string(), "FieldTooLong (refusal 16)");
 }
 
 #[test]

@@ -2,7 +2,7 @@
 // answer that does not fit one number goes to lent words, and only if all of it fits there.
 #![tactic(auto)]
 
-mod index_calls;
+pub mod index_calls;
 
 ghost use Rattle.std.specs.Prelude.{◌≡◌, ◌*◌, ◌%◌, ◌^◌, length};
 ghost use Rattle.hash_parts.specs.Duration.{encoded_expiry, lives_at, nanos_of, nanos_words, remaining};

@@ -152,12 +152,13 @@ pub fn model_of_calls(group: &mut Group, random: u64) {
 fn one(group: &mut Group, rng: &mut Rng, by: By, spread: &Spread, count: usize, setting: Setting) {
     let buckets = count.div_ceil(setting.occupied.into()).max(1);
     let mut list = entries(rng, spread, count, buckets, setting.tick);
-    // Every fourth set fits a sheet.
-    if rng.one_in(4) {
-        cut(&mut list);
-    }
     let about = format!("{}, {count} records, {setting:?}", spread.name);
     asked(group, rng, by, &about, setting, &list);
+    // Every fourth set once more, so that it fits a sheet.
+    if rng.one_in(4) {
+        cut(&mut list);
+        asked(group, rng, by, &format!("{about}, cut"), setting, &list);
+    }
 }
 
 fn asked(group: &mut Group, rng: &mut Rng, by: By, about: &str, setting: Setting, list: &[Entry]) {

@@ -29,6 +29,10 @@ pub fn stages(rng: &mut Rng) -> Vec<Stage> {
             for on in [0, 1] {
                 let setting = [on, on * 2, on * 500_000_000, occupied, packed, bits];
                 made(rng, &setting, count, &mut stages);
+                // Half of the sets once more, so that they fit a sheet.
+                if on == packed {
+                    made_by(rng, &setting, count, cut, &mut stages);
+                }
             }
         }
     }
@@ -37,6 +41,16 @@ pub fn stages(rng: &mut Rng) -> Vec<Stage> {
 
 // Half of the records in, all of them, and finished.
 pub fn made(rng: &mut Rng, setting: &[u64; 6], count: usize, stages: &mut Vec<Stage>) {
+    made_by(rng, setting, count, |_| (), stages);
+}
+
+fn made_by(
+    rng: &mut Rng,
+    setting: &[u64; 6],
+    count: usize,
+    change: fn(&mut [Entry]),
+    stages: &mut Vec<Stage>,
+) {
     let Some(rules) = Setting::of(setting) else {
         return;
     };
@@ -48,10 +62,7 @@ pub fn made(rng: &mut Rng, setting: &[u64; 6], count: usize, stages: &mut Vec<St
     // With 20 records of one hash some are two buckets past their first.
     let spread = if count < 30 { &SPREADS[1] } else { &SPREADS[0] };
     let mut list = entries(rng, spread, count, buckets, tick);
-    // Half of the sets fit a sheet.
-    if rules.on == rules.packed {
-        cut(&mut list);
-    }
+    change(&mut list);
     let arena = total(&list, rules.on) + 40;
     let mut world = World::new(setting, Sizes::for_counts(buckets, words, arena));
     model(

@@ -1,0 +1,7 @@
+// The calls of capi for C, as a static library: each export is one call of the function of its name, with the same clauses.
+#![tactic(auto)]
+
+mod build_calls;
+mod rebuild_calls;
+mod record_calls;
+mod stats_calls;

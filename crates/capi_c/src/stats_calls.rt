@@ -1,0 +1,31 @@
+// Statistics of a set, and the numbers worked out of statistics.
+ghost use Rattle.std.specs.Prelude.{◌≡◌};
+ghost use Rattle.capi.specs.Calls.{exported_number, exported_stats, load_in, overhead_in, retained_in, told};
+
+#[unsafe(no_mangle)]
+pub extern "C" fn segment_cache_stats(set: &[u64], stats: &mut [u64]) -> u64
+    ensures { told result stats.new ≡ exported_stats set.now stats.old }
+{
+    capi::stats_calls::segment_cache_stats(set, stats)
+}
+
+#[unsafe(no_mangle)]
+pub extern "C" fn segment_cache_modeled_retained_bytes(stats: &[u64], out: &mut [u64]) -> u64
+    ensures { told result out.new ≡ exported_number retained_in stats.now out.old }
+{
+    capi::stats_calls::segment_cache_modeled_retained_bytes(stats, out)
+}
+
+#[unsafe(no_mangle)]
+pub extern "C" fn segment_cache_modeled_overhead_bytes(stats: &[u64], out: &mut [u64]) -> u64
+    ensures { told result out.new ≡ exported_number overhead_in stats.now out.old }
+{
+    capi::stats_calls::segment_cache_modeled_overhead_bytes(stats, out)
+}
+
+#[unsafe(no_mangle)]
+pub extern "C" fn segment_cache_index_load_bps(stats: &[u64], out: &mut [u64]) -> u64
+    ensures { told result out.new ≡ exported_number load_in stats.now out.old }
+{
+    capi::stats_calls::segment_cache_index_load_bps(stats, out)
+}
