@@ -2,7 +2,7 @@
 use Rattle.std.proofs.Common.{◌≡◌, ℕ, ◌+◌, ◌^◌, ◌<◌, arith}
 use Rattle.index.specs.Word.{word_of, word_tag, word_stored, marked, unmarked}
 
-module _ (tag location : ℕ) (tag_Fits : tag < 2 ^ 23) (location_fits : location + 1 < 2 ^ 40) where
+module _ (tag location : ℕ) (tag_fits : tag < 2 ^ 23) (location_fits : location + 1 < 2 ^ 40) where
   pub tag_back : word_tag (word_of tag location) ≡ tag
   tag_back = omega arith
 

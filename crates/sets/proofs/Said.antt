@@ -1,12 +1,20 @@
 -- Questions asked in order: what a call that was asked said, in the terms of its contract, and what is left after some yes. Assumes nothing.
-use Rattle.std.proofs.Common.{◌≡◌, ℕ, Bool, true, false, List, drop, sym, ◌∙◌}
+use Rattle.std.proofs.Common.{◌≡◌, ℕ, Bool, true, false, not, List, drop, sym, ap, ◌∙◌}
+use borrow.Author.Tests.{not-true, not-false}
 
--- `!asked` was taken, since the answer was no, or it was not
-pub said_no : {answer meaning : Bool} → answer ≡ meaning → answer ≡ false → meaning ≡ false
-said_no ensures taken = sym ensures ∙ taken
+-- `!asked` was taken, or it was not
+pub said_no : {answer meaning : Bool} → answer ≡ meaning → not answer ≡ true → meaning ≡ false
+said_no {answer} ensures taken = sym ensures ∙ not-true answer taken
 
-pub said_yes : {answer meaning : Bool} → answer ≡ meaning → answer ≡ true → meaning ≡ true
-said_yes ensures left = sym ensures ∙ left
+pub said_yes : {answer meaning : Bool} → answer ≡ meaning → not answer ≡ false → meaning ≡ true
+said_yes {answer} ensures left = sym ensures ∙ not-false answer left
+
+-- the same of the answer itself, which is what a test of `!asked` tells
+pub answered_no : {answer meaning : Bool} → answer ≡ meaning → answer ≡ false → meaning ≡ false
+answered_no ensures said = said_no ensures (ap not said)
+
+pub answered_yes : {answer meaning : Bool} → answer ≡ meaning → answer ≡ true → meaning ≡ true
+answered_yes ensures said = said_yes ensures (ap not said)
 
 -- what questions come to, where the first n are answered yes, is what those after them come to
 abbrev pub Past : {Q A : Type 0} → (List Q → A) → ℕ → List Q → Type 0

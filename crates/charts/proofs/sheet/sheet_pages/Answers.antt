@@ -7,7 +7,7 @@ use lib.ListN.{length}
 use Rattle.index.specs.View.{record_in}
 use Rattle.sets.specs.Answers.{accept}
 use Rattle.sets.specs.Lookup.{areas_hold_set, view_of}
-use Rattle.sets.proofs.Said.{said_no, said_yes}
+use Rattle.sets.proofs.Said.{answered_no, answered_yes}
 use Rattle.charts.specs.Line.{pages_for}
 use Rattle.charts.specs.Sheet.{ask_pages, pages_answer, row_count, rows_of}
 use Rattle.charts.proofs.Asked.{count_passed, count_refused, slots_few}
@@ -17,7 +17,7 @@ use Rattle.charts.proofs.sheet.sheet_pages.Goals.{After-count_rows-count, Else-n
 
 held : (c : Else-not-areas_hold) → let a = c.args in
     areas_hold_set a.set (length a.index.now) (length a.starts.now) (length a.lengths.now) (length a.arena.now) ≡ true
-held c = said_yes c.areas_hold.ensures c.if-not-areas_hold.false
+held c = answered_yes c.areas_hold.ensures c.if-not-areas_hold.false
 
 -- the rows that were counted are the set's
 counted : (c : After-count_rows-count) → let a = c.args in
@@ -26,7 +26,7 @@ counted c = c.count_rows-count.ensures ∙ rw c.view.ensures
 
 pub returns-then-not-areas_hold : goal.returns-then-not-areas_hold
 unfolding pages_answer ask_pages
-returns-then-not-areas_hold c = rw (said_no c.areas_hold.ensures c.if-not-areas_hold.true)
+returns-then-not-areas_hold c = rw (answered_no c.areas_hold.ensures c.if-not-areas_hold.true)
 
 pub count_rows-count-requires : goal.count_rows-count-requires
 count_rows-count-requires c = (slots_few _ _ _ _ _ (held (goal.at.count_rows-count-requires c).Else-not-areas_hold)).0

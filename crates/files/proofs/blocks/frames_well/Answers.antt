@@ -6,7 +6,7 @@ use Prim.Native.Nat.{ℕ, suc, ◌-◌, ◌<◌}
 use native.Mathlib.Omega.{arith}
 use lib.Dec.{leb}
 use lib.ListN.{length, drop}
-use Rattle.sets.proofs.Said.{said_no, said_yes}
+use Rattle.sets.proofs.Said.{answered_no, answered_yes}
 use Rattle.files.specs.Blocks.{behind, frames_well, is_whole}
 use Rattle.files.proofs.Positions.{frames_last, frames_next, frames_none, from_end, length_from, rest_none}
 use Rattle.files.proofs.blocks.frames_well.Goals as goal
@@ -31,14 +31,14 @@ pub returns-then-not-is_whole : goal.returns-then-not-is_whole
 returns-then-not-is_whole c =
     let l = c.loop-left in
     let f = c.args.file.now in
-    let broken = said_no c.is_whole.ensures c.if-not-is_whole.true in
+    let broken = answered_no c.is_whole.ensures c.if-not-is_whole.true in
     sym (one_more f l.at l.left (omega arith) (omega arith) ∙ rw broken) ∙ l.invariant.1
 
 pub loop-left-preserved : goal.loop-left-preserved
 loop-left-preserved c =
     let l = c.loop-left in
     let f = c.args.file.now in
-    let whole = said_yes c.is_whole.ensures c.if-not-is_whole.false in
+    let whole = answered_yes c.is_whole.ensures c.if-not-is_whole.false in
     let one : frames_well l.left (drop l.at f) ≡ frames_well (l.left - 1) (behind (drop l.at f)) =
     one_more f l.at l.left (omega arith) (omega arith) ∙ rw whole in
     (c.next_block-at.ensures.1, ap (frames_well (l.left - 1)) c.next_block-at.ensures.0 ∙ sym one ∙ l.invariant.1)

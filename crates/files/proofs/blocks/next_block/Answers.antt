@@ -5,7 +5,7 @@ use native.Mathlib.Nat.{le_refl}
 use native.Mathlib.Omega.{arith}
 use borrow.Author.Rules.{rules}
 use lib.ListN.{length, drop}
-use Rattle.sets.proofs.Said.{said_no, said_yes}
+use Rattle.sets.proofs.Said.{answered_no, answered_yes}
 use Rattle.files.specs.Blocks.{size_in}
 use Rattle.files.proofs.Positions.{behind_at, broken_behind, from_end, length_from, whole_room}
 use Rattle.files.proofs.blocks.next_block.Goals as goal
@@ -16,13 +16,13 @@ room : (c : Else-not-is_whole) → let a = c.args in a.at + 6 + size_in (drop a.
 room c =
     let a = c.args in
     let g = drop a.at a.file.now in
-    omega (arith, whole_room g (said_yes c.is_whole.ensures c.if-not-is_whole.false), length_from a.file.now a.at)
+    omega (arith, whole_room g (answered_yes c.is_whole.ensures c.if-not-is_whole.false), length_from a.file.now a.at)
 
 pub returns-then-not-is_whole : goal.returns-then-not-is_whole
 returns-then-not-is_whole c =
     let a = c.args in
     let f = a.file.now in (
-      from_end f (length f) (le_refl (length f)) ∙ sym (broken_behind (drop a.at f) (said_no c.is_whole.ensures c.if-not-is_whole.true)),
+      from_end f (length f) (le_refl (length f)) ∙ sym (broken_behind (drop a.at f) (answered_no c.is_whole.ensures c.if-not-is_whole.true)),
       le_refl (length f),
     )
 

@@ -4,7 +4,7 @@ use mathlib.Core.Path.{◌≡◌, sym, ap, ap₂, ◌∙◌}
 use Prim.Native.Nat.{ℕ}
 use lib.ListN.{length}
 use borrow.Author.Tests.{eq-eqb, ne_eqb}
-use Rattle.sets.proofs.Said.{said_no, said_yes}
+use Rattle.sets.proofs.Said.{answered_no, answered_yes}
 use Rattle.sets.specs.Lookup.{set_fits}
 use Rattle.sets.specs.declared.cache.FrozenSegmentCache.{FrozenSegmentCache}
 use Rattle.files.specs.Blocks.{content_of}
@@ -19,10 +19,10 @@ one : (c : Else-content_of-ne-COUNT_BYTES) → length (content_of 0 c.args.file.
 one c = ap length (sym c.content_of.ensures) ∙ c.if-content_of-ne-COUNT_BYTES.false
 
 two : (c : Else-not-flags_fit) → flags_fit c.args.file.now ≡ true
-two c = said_yes c.flags_fit.ensures c.if-not-flags_fit.false
+two c = answered_yes c.flags_fit.ensures c.if-not-flags_fit.false
 
 three : (c : Else-not-fits) → set_fits (file_set c.args.file.now) ≡ true
-three c = said_yes (c.fits.ensures ∙ ap set_fits c.set_in-set.ensures) c.if-not-fits.false
+three c = answered_yes (c.fits.ensures ∙ ap set_fits c.set_in-set.ensures) c.if-not-fits.false
 
 pub returns-then-content_of-ne-COUNT_BYTES : goal.returns-then-content_of-ne-COUNT_BYTES
 returns-then-content_of-ne-COUNT_BYTES c =
@@ -33,13 +33,13 @@ pub returns-then-not-flags_fit : goal.returns-then-not-flags_fit
 returns-then-not-flags_fit c =
     let at = goal.at.returns-then-not-flags_fit c in
     let f = c.args.file.now in
-    sym (content_is f ∙ rw (eq-eqb _ _ (one at.Else-content_of-ne-COUNT_BYTES), said_no c.flags_fit.ensures c.if-not-flags_fit.true))
+    sym (content_is f ∙ rw (eq-eqb _ _ (one at.Else-content_of-ne-COUNT_BYTES), answered_no c.flags_fit.ensures c.if-not-flags_fit.true))
 
 pub returns-then-not-fits : goal.returns-then-not-fits
 returns-then-not-fits c =
     let at = goal.at.returns-then-not-fits c in
     let f = c.args.file.now in
-    sym (content_is f ∙ rw (eq-eqb _ _ (one at.Else-content_of-ne-COUNT_BYTES), (two at.Else-not-flags_fit), said_no (c.fits.ensures ∙ ap set_fits c.set_in-set.ensures) c.if-not-fits.true))
+    sym (content_is f ∙ rw (eq-eqb _ _ (one at.Else-content_of-ne-COUNT_BYTES), (two at.Else-not-flags_fit), answered_no (c.fits.ensures ∙ ap set_fits c.set_in-set.ensures) c.if-not-fits.true))
 
 pub returns : goal.returns
 returns c =

@@ -1,7 +1,7 @@
 -- `plan_file` meets its contract. Assumes nothing.
 use mathlib.Core.Bool.{true}
 use mathlib.Core.Path.{◌≡◌, ap}
-use Rattle.sets.proofs.Said.{said_no, said_yes}
+use Rattle.sets.proofs.Said.{answered_no, answered_yes}
 use Rattle.sets.specs.Answers.{accept}
 use Rattle.sets.specs.declared.cache.FrozenSegmentCache.{FrozenSegmentCache}
 use Rattle.files.specs.Blocks.{frames_well, kinds_from}
@@ -13,29 +13,29 @@ use Rattle.files.proofs.content.plan_file.Goals.{Else-not-content_fits, Else-not
 
 -- the questions that were answered yes
 one : (c : Else-not-frames_well) → frames_well 5 c.args.file.now ≡ true
-one c = said_yes c.frames_well.ensures c.if-not-frames_well.false
+one c = answered_yes c.frames_well.ensures c.if-not-frames_well.false
 
 two : (c : Else-not-kinds_in_order) → kinds_from 1 5 c.args.file.now ≡ true
-two c = said_yes c.kinds_in_order.ensures c.if-not-kinds_in_order.false
+two c = answered_yes c.kinds_in_order.ensures c.if-not-kinds_in_order.false
 
 three : (c : Else-not-content_fits) → content_fits c.args.file.now ≡ true
-three c = said_yes c.content_fits.ensures c.if-not-content_fits.false
+three c = answered_yes c.content_fits.ensures c.if-not-content_fits.false
 
 pub returns-then-not-frames_well : goal.returns-then-not-frames_well
 unfolding file_asked ask_file
-returns-then-not-frames_well c = rw (said_no c.frames_well.ensures c.if-not-frames_well.true)
+returns-then-not-frames_well c = rw (answered_no c.frames_well.ensures c.if-not-frames_well.true)
 
 pub returns-then-not-kinds_in_order : goal.returns-then-not-kinds_in_order
 unfolding file_asked ask_file
 returns-then-not-kinds_in_order c =
     let at = goal.at.returns-then-not-kinds_in_order c in
-    rw ((one at.Else-not-frames_well), said_no c.kinds_in_order.ensures c.if-not-kinds_in_order.true)
+    rw ((one at.Else-not-frames_well), answered_no c.kinds_in_order.ensures c.if-not-kinds_in_order.true)
 
 pub returns-then-not-content_fits : goal.returns-then-not-content_fits
 unfolding file_asked ask_file
 returns-then-not-content_fits c =
     let at = goal.at.returns-then-not-content_fits c in
-    rw ((one at.Else-not-frames_well), (two at.Else-not-kinds_in_order), said_no c.content_fits.ensures c.if-not-content_fits.true)
+    rw ((one at.Else-not-frames_well), (two at.Else-not-kinds_in_order), answered_no c.content_fits.ensures c.if-not-content_fits.true)
 
 pub returns : goal.returns
 unfolding file_asked ask_file

@@ -8,7 +8,7 @@ use lib.ListN.{length}
 use Rattle.records.specs.Area.{over}
 use Rattle.index.specs.Packed.{words_of}
 use Rattle.index.specs.Segments.{padded}
-use Rattle.sets.proofs.Said.{said_no, said_yes}
+use Rattle.sets.proofs.Said.{answered_no, answered_yes}
 use Rattle.sets.specs.Lookup.{areas_hold_lookup}
 use Rattle.sets.specs.declared.cache.FrozenSegmentCache.{FrozenSegmentCache}
 use Rattle.files.specs.Contents.{starts_by, sum, unmarked_index}
@@ -24,7 +24,7 @@ returns-then-not-lookup_areas_hold c =
     let f = a.file.now in
     let areas = areas_same f (length a.index.now) (length a.filter.now) (length a.starts.now) (length a.lengths.now) (length a.arena.now) c.requires.1 in
     load_short f a.index.now a.filter.now a.starts.now a.lengths.now a.arena.now c.requires.1
-    (said_no
+    (answered_no
     (c.lookup_areas_hold.ensures
     ∙ ap
     (λ (s : FrozenSegmentCache). areas_hold_lookup s (length a.index.now) (length a.filter.now) (length a.starts.now) (length a.lengths.now) (length a.arena.now))
@@ -39,7 +39,7 @@ held c =
     let a = c.args in
     let f = a.file.now in
     let areas = areas_same f (length a.index.now) (length a.filter.now) (length a.starts.now) (length a.lengths.now) (length a.arena.now) c.requires.1 in
-    said_yes
+    answered_yes
     (c.lookup_areas_hold.ensures
     ∙ ap
     (λ (s : FrozenSegmentCache). areas_hold_lookup s (length a.index.now) (length a.filter.now) (length a.starts.now) (length a.lengths.now) (length a.arena.now))

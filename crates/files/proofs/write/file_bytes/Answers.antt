@@ -7,7 +7,7 @@ use Rattle.sets.proofs.Counts.{set_counts}
 use Rattle.sets.proofs.Finding.{few_buckets, few_words}
 use Rattle.sets.proofs.RebuildAsked.{SourceHolds, source_areas_asked}
 use Rattle.sets.proofs.RebuildSteps.{sum_inside}
-use Rattle.sets.proofs.Said.{said_no, said_yes}
+use Rattle.sets.proofs.Said.{answered_no, answered_yes}
 use Rattle.files.specs.Write.{ask_size, size_answer}
 use Rattle.files.proofs.write.file_bytes.Goals as goal
 use Rattle.files.proofs.write.file_bytes.Goals.{Else-bytes-gt-MAX_ARENA_BYTES, Else-not-source_holds}
@@ -16,11 +16,11 @@ use Rattle.files.proofs.write.file_bytes.Goals.{Else-bytes-gt-MAX_ARENA_BYTES, E
 held : (c : Else-not-source_holds) → let a = c.args in SourceHolds a.set a.starts.now a.lengths.now a.set.filled
 held c =
     let a = c.args in
-    source_areas_asked a.set a.starts.now a.lengths.now a.set.filled (said_yes c.source_holds.ensures c.if-not-source_holds.false)
+    source_areas_asked a.set a.starts.now a.lengths.now a.set.filled (answered_yes c.source_holds.ensures c.if-not-source_holds.false)
 
 pub returns-then-not-source_holds : goal.returns-then-not-source_holds
 unfolding size_answer ask_size
-returns-then-not-source_holds c = rw (said_no c.source_holds.ensures c.if-not-source_holds.true)
+returns-then-not-source_holds c = rw (answered_no c.source_holds.ensures c.if-not-source_holds.true)
 
 pub sum_of-bytes-requires : goal.sum_of-bytes-requires
 sum_of-bytes-requires c =
@@ -33,7 +33,7 @@ pub returns-then-bytes-gt-MAX_ARENA_BYTES : goal.returns-then-bytes-gt-MAX_ARENA
 unfolding size_answer ask_size
 returns-then-bytes-gt-MAX_ARENA_BYTES c =
     let sum = c.sum_of-bytes.ensures in
-    rw (said_yes c.source_holds.ensures c.if-not-source_holds.false, lt-leb _ _ (rw sum at c.if-bytes-gt-MAX_ARENA_BYTES.true))
+    rw (answered_yes c.source_holds.ensures c.if-not-source_holds.false, lt-leb _ _ (rw sum at c.if-bytes-gt-MAX_ARENA_BYTES.true))
 
 -- the numbers that are added are small
 few : (c : Else-bytes-gt-MAX_ARENA_BYTES)
@@ -85,4 +85,4 @@ pub returns : goal.returns
 unfolding size_answer ask_size
 returns c =
     let sum = c.sum_of-bytes.ensures in
-    rw (said_yes c.source_holds.ensures c.if-not-source_holds.false, ← sum, le-leb _ _ c.if-bytes-gt-MAX_ARENA_BYTES.false) refl
+    rw (answered_yes c.source_holds.ensures c.if-not-source_holds.false, ← sum, le-leb _ _ c.if-bytes-gt-MAX_ARENA_BYTES.false) refl

@@ -6,7 +6,7 @@ use lib.Dec.{leb}
 use lib.ListN.{length}
 use Rattle.sets.specs.Lookup.{areas_hold_lookup}
 use Rattle.sets.specs.Questions.{first_no}
-use Rattle.sets.proofs.Said.{said_no, said_yes}
+use Rattle.sets.proofs.Said.{answered_no, answered_yes}
 use Rattle.files.specs.Write.{after_write, ask_write, file_size, size_reply}
 use Rattle.files.proofs.Sizes.{asked_refused, asked_size}
 use Rattle.files.proofs.write.write_file.Goals as goal
@@ -15,11 +15,11 @@ use Rattle.files.proofs.write.write_file.Goals.{Else-not-lookup_areas_hold, In-B
 -- the set and its areas hold
 held : (c : Else-not-lookup_areas_hold) → let a = c.args in
     areas_hold_lookup a.set (length a.index.now) (length a.filter.now) (length a.starts.now) (length a.lengths.now) (length a.arena.now) ≡ true
-held c = said_yes c.lookup_areas_hold.ensures c.if-not-lookup_areas_hold.false
+held c = answered_yes c.lookup_areas_hold.ensures c.if-not-lookup_areas_hold.false
 
 pub returns-then-not-lookup_areas_hold : goal.returns-then-not-lookup_areas_hold
 unfolding after_write ask_write
-returns-then-not-lookup_areas_hold c = rw (said_no c.lookup_areas_hold.ensures c.if-not-lookup_areas_hold.true)
+returns-then-not-lookup_areas_hold c = rw (answered_no c.lookup_areas_hold.ensures c.if-not-lookup_areas_hold.true)
 
 pub returns-in_default : goal.returns-in_default
 unfolding after_write

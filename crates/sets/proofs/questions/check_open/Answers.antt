@@ -2,7 +2,7 @@
 use Rattle.std.proofs.Common.{ℕ, sym, ◌∙◌, le-leb}
 use borrow.Author.Tests.{lt-leb}
 use Rattle.sets.specs.Questions.{ask_open, first_no}
-use Rattle.sets.proofs.Said.{Past, said_no, said_yes}
+use Rattle.sets.proofs.Said.{Past, answered_no, answered_yes}
 use Rattle.sets.proofs.questions.check_open.Goals as goal
 use Rattle.sets.proofs.questions.check_open.Goals.{Else-entry_count-gt-MAX_RECORDS, Else-not-nanoseconds_fit, Else-not-occupancy_fits, Else-not-open_areas_hold, Else-not-segment_areas_hold, Else-not-tick_runs, Start}
 
@@ -33,19 +33,19 @@ Yes n s =
 
 yes1 : (c : Else-not-nanoseconds_fit) → Yes 1 (from_else_not_nanoseconds_fit c)
 unfolding ask_open
-yes1 c = rw (said_yes c.nanoseconds_fit.ensures c.if-not-nanoseconds_fit.false)
+yes1 c = rw (answered_yes c.nanoseconds_fit.ensures c.if-not-nanoseconds_fit.false)
 
 yes2 : (c : Else-not-occupancy_fits)
     → (Yes 1 (from_else_not_occupancy_fits c))
     → Yes 2 (from_else_not_occupancy_fits c)
 unfolding ask_open
-yes2 c h_yes1 = h_yes1 ∙ rw (said_yes c.occupancy_fits.ensures c.if-not-occupancy_fits.false)
+yes2 c h_yes1 = h_yes1 ∙ rw (answered_yes c.occupancy_fits.ensures c.if-not-occupancy_fits.false)
 
 yes3 : (c : Else-not-tick_runs)
     → (Yes 2 (from_else_not_tick_runs c))
     → Yes 3 (from_else_not_tick_runs c)
 unfolding ask_open
-yes3 c h_yes2 = h_yes2 ∙ rw (said_yes c.tick_runs.ensures c.if-not-tick_runs.false)
+yes3 c h_yes2 = h_yes2 ∙ rw (answered_yes c.tick_runs.ensures c.if-not-tick_runs.false)
 
 yes4 : (c : Else-entry_count-gt-MAX_RECORDS)
     → (Yes 3 (from_else_entry_count_gt_max_records c))
@@ -57,29 +57,29 @@ yes5 : (c : Else-not-open_areas_hold)
     → (Yes 4 (from_else_not_open_areas_hold c))
     → Yes 5 (from_else_not_open_areas_hold c)
 unfolding ask_open
-yes5 c h_yes4 = h_yes4 ∙ rw (said_yes c.open_areas_hold.ensures c.if-not-open_areas_hold.false)
+yes5 c h_yes4 = h_yes4 ∙ rw (answered_yes c.open_areas_hold.ensures c.if-not-open_areas_hold.false)
 
 yes6 : (c : Else-not-segment_areas_hold)
     → (Yes 5 (from_else_not_segment_areas_hold c))
     → Yes 6 (from_else_not_segment_areas_hold c)
 unfolding ask_open
-yes6 c h_yes5 = h_yes5 ∙ rw (said_yes c.segment_areas_hold.ensures c.if-not-segment_areas_hold.false)
+yes6 c h_yes5 = h_yes5 ∙ rw (answered_yes c.segment_areas_hold.ensures c.if-not-segment_areas_hold.false)
 
 pub returns-then-not-nanoseconds_fit : goal.returns-then-not-nanoseconds_fit
 unfolding ask_open
-returns-then-not-nanoseconds_fit c = rw (said_no c.nanoseconds_fit.ensures c.if-not-nanoseconds_fit.true)
+returns-then-not-nanoseconds_fit c = rw (answered_no c.nanoseconds_fit.ensures c.if-not-nanoseconds_fit.true)
 
 pub returns-then-not-occupancy_fits : goal.returns-then-not-occupancy_fits
 unfolding ask_open
 returns-then-not-occupancy_fits c =
     let at = goal.at.returns-then-not-occupancy_fits c in
-    sym ((yes1 at.Else-not-nanoseconds_fit) ∙ rw (said_no c.occupancy_fits.ensures c.if-not-occupancy_fits.true))
+    sym ((yes1 at.Else-not-nanoseconds_fit) ∙ rw (answered_no c.occupancy_fits.ensures c.if-not-occupancy_fits.true))
 
 pub returns-then-not-tick_runs : goal.returns-then-not-tick_runs
 unfolding ask_open
 returns-then-not-tick_runs c =
     let at = goal.at.returns-then-not-tick_runs c in
-    sym ((yes2 at.Else-not-occupancy_fits (yes1 at.Else-not-nanoseconds_fit)) ∙ rw (said_no c.tick_runs.ensures c.if-not-tick_runs.true))
+    sym ((yes2 at.Else-not-occupancy_fits (yes1 at.Else-not-nanoseconds_fit)) ∙ rw (answered_no c.tick_runs.ensures c.if-not-tick_runs.true))
 
 pub returns-then-entry_count-gt-MAX_RECORDS : goal.returns-then-entry_count-gt-MAX_RECORDS
 unfolding ask_open
@@ -91,13 +91,13 @@ pub returns-then-not-open_areas_hold : goal.returns-then-not-open_areas_hold
 unfolding ask_open
 returns-then-not-open_areas_hold c =
     let at = goal.at.returns-then-not-open_areas_hold c in
-    sym ((yes4 at.Else-entry_count-gt-MAX_RECORDS (yes3 at.Else-not-tick_runs (yes2 at.Else-not-occupancy_fits (yes1 at.Else-not-nanoseconds_fit)))) ∙ rw (said_no c.open_areas_hold.ensures c.if-not-open_areas_hold.true))
+    sym ((yes4 at.Else-entry_count-gt-MAX_RECORDS (yes3 at.Else-not-tick_runs (yes2 at.Else-not-occupancy_fits (yes1 at.Else-not-nanoseconds_fit)))) ∙ rw (answered_no c.open_areas_hold.ensures c.if-not-open_areas_hold.true))
 
 pub returns-then-not-segment_areas_hold : goal.returns-then-not-segment_areas_hold
 unfolding ask_open
 returns-then-not-segment_areas_hold c =
     let at = goal.at.returns-then-not-segment_areas_hold c in
-    sym ((yes5 at.Else-not-open_areas_hold (yes4 at.Else-entry_count-gt-MAX_RECORDS (yes3 at.Else-not-tick_runs (yes2 at.Else-not-occupancy_fits (yes1 at.Else-not-nanoseconds_fit))))) ∙ rw (said_no c.segment_areas_hold.ensures c.if-not-segment_areas_hold.true))
+    sym ((yes5 at.Else-not-open_areas_hold (yes4 at.Else-entry_count-gt-MAX_RECORDS (yes3 at.Else-not-tick_runs (yes2 at.Else-not-occupancy_fits (yes1 at.Else-not-nanoseconds_fit))))) ∙ rw (answered_no c.segment_areas_hold.ensures c.if-not-segment_areas_hold.true))
 
 pub returns-then-arena_len-gt-MAX_ARENA_BYTES : goal.returns-then-arena_len-gt-MAX_ARENA_BYTES
 unfolding ask_open

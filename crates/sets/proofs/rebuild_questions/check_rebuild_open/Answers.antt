@@ -6,7 +6,7 @@ use Rattle.sets.specs.Questions.{first_no}
 use Rattle.sets.specs.Rebuild.{areas_hold_source, ask_rebuild_open, segment_for}
 use Rattle.sets.proofs.RebuildAsked.{source_areas_asked}
 use Rattle.sets.proofs.RebuildSteps.{kept_most, segment_most}
-use Rattle.sets.proofs.Said.{Past, said_no, said_yes}
+use Rattle.sets.proofs.Said.{Past, answered_no, answered_yes}
 use Rattle.sets.proofs.rebuild_questions.check_rebuild_open.Goals as goal
 use Rattle.sets.proofs.rebuild_questions.check_rebuild_open.Goals.{After-segment_for, Else-entry_count-gt-MAX_RECORDS, Else-not-open_areas_hold, Else-not-source_holds, Else-retained-segment_for-gt-MAX_RECORD_SEGMENTS, Else-used_source_segments-source, Start}
 
@@ -35,7 +35,7 @@ Yes n s =
     a.used_source_segments.now a.index_len a.filter_len a.starts_len a.lengths_len)
 
 held : (c : Else-not-source_holds) → let a = c.args in areas_hold_source a.source a.source_starts.now a.source_lengths.now a.arena_len ≡ true
-held c = said_yes c.source_holds.ensures c.if-not-source_holds.false
+held c = answered_yes c.source_holds.ensures c.if-not-source_holds.false
 
 -- the segments that it asks for
 segments : (c : After-segment_for) → let a = c.args in
@@ -70,11 +70,11 @@ yes5 : (c : Else-not-open_areas_hold)
     → (Yes 4 (from_else_not_open_areas_hold c))
     → Yes 5 (from_else_not_open_areas_hold c)
 unfolding ask_rebuild_open
-yes5 c h_yes4 = h_yes4 ∙ rw (said_yes c.open_areas_hold.ensures c.if-not-open_areas_hold.false)
+yes5 c h_yes4 = h_yes4 ∙ rw (answered_yes c.open_areas_hold.ensures c.if-not-open_areas_hold.false)
 
 pub returns-then-not-source_holds : goal.returns-then-not-source_holds
 unfolding ask_rebuild_open
-returns-then-not-source_holds c = rw (said_no c.source_holds.ensures c.if-not-source_holds.true)
+returns-then-not-source_holds c = rw (answered_no c.source_holds.ensures c.if-not-source_holds.true)
 
 pub returns-then-used_source_segments-source : goal.returns-then-used_source_segments-source
 unfolding ask_rebuild_open
@@ -104,16 +104,16 @@ pub returns-then-not-open_areas_hold : goal.returns-then-not-open_areas_hold
 unfolding ask_rebuild_open
 returns-then-not-open_areas_hold c =
     let at = goal.at.returns-then-not-open_areas_hold c in
-    sym ((yes4 at.Else-retained-segment_for-gt-MAX_RECORD_SEGMENTS (yes3 at.Else-entry_count-gt-MAX_RECORDS (yes2 at.Else-used_source_segments-source (yes1 at.Else-not-source_holds))) (segments at.After-segment_for)) ∙ rw (said_no c.open_areas_hold.ensures c.if-not-open_areas_hold.true))
+    sym ((yes4 at.Else-retained-segment_for-gt-MAX_RECORD_SEGMENTS (yes3 at.Else-entry_count-gt-MAX_RECORDS (yes2 at.Else-used_source_segments-source (yes1 at.Else-not-source_holds))) (segments at.After-segment_for)) ∙ rw (answered_no c.open_areas_hold.ensures c.if-not-open_areas_hold.true))
 
 pub returns-then-not-segment_areas_hold : goal.returns-then-not-segment_areas_hold
 unfolding ask_rebuild_open
 returns-then-not-segment_areas_hold c =
     let at = goal.at.returns-then-not-segment_areas_hold c in
-    sym ((yes5 at.Else-not-open_areas_hold (yes4 at.Else-retained-segment_for-gt-MAX_RECORD_SEGMENTS (yes3 at.Else-entry_count-gt-MAX_RECORDS (yes2 at.Else-used_source_segments-source (yes1 at.Else-not-source_holds))) (segments at.After-segment_for))) ∙ rw (said_no c.segment_areas_hold.ensures c.if-not-segment_areas_hold.true))
+    sym ((yes5 at.Else-not-open_areas_hold (yes4 at.Else-retained-segment_for-gt-MAX_RECORD_SEGMENTS (yes3 at.Else-entry_count-gt-MAX_RECORDS (yes2 at.Else-used_source_segments-source (yes1 at.Else-not-source_holds))) (segments at.After-segment_for))) ∙ rw (answered_no c.segment_areas_hold.ensures c.if-not-segment_areas_hold.true))
 
 pub returns : goal.returns
 unfolding ask_rebuild_open
 returns c =
     let at = goal.at.returns c in
-    sym ((yes5 at.Else-not-open_areas_hold (yes4 at.Else-retained-segment_for-gt-MAX_RECORD_SEGMENTS (yes3 at.Else-entry_count-gt-MAX_RECORDS (yes2 at.Else-used_source_segments-source (yes1 at.Else-not-source_holds))) (segments at.After-segment_for))) ∙ rw (said_yes c.segment_areas_hold.ensures c.if-not-segment_areas_hold.false))
+    sym ((yes5 at.Else-not-open_areas_hold (yes4 at.Else-retained-segment_for-gt-MAX_RECORD_SEGMENTS (yes3 at.Else-entry_count-gt-MAX_RECORDS (yes2 at.Else-used_source_segments-source (yes1 at.Else-not-source_holds))) (segments at.After-segment_for))) ∙ rw (answered_yes c.segment_areas_hold.ensures c.if-not-segment_areas_hold.false))

@@ -4,12 +4,12 @@ use borrow.Author.Tests.{lt-leb}
 use Rattle.sets.specs.Build.{builder_fits}
 use Rattle.sets.specs.Questions.{all, bytes_fit, counts_fit}
 use Rattle.sets.proofs.Counts.{counts_records}
-use Rattle.sets.proofs.Said.{said_no, said_yes}
+use Rattle.sets.proofs.Said.{answered_no, answered_yes}
 use Rattle.sets.proofs.builder.SegmentCacheBuilder.fits.Goals as goal
 use Rattle.sets.proofs.builder.SegmentCacheBuilder.fits.Goals.{Else-inserted-self, Else-not-bytes_fit, Else-not-bytes_fit-2, Else-not-counts_fit}
 
 counted : (c : Else-not-counts_fit) → let b = c.args.self in counts_fit b.config b.expected_entries b.bucket_count b.filter_words ≡ true
-counted c = said_yes c.counts_fit.ensures c.if-not-counts_fit.false
+counted c = answered_yes c.counts_fit.ensures c.if-not-counts_fit.false
 
 few : (c : Else-inserted-self)
     → (let b = c.args.self in counts_fit b.config b.expected_entries b.bucket_count b.filter_words ≡ true)
@@ -17,10 +17,10 @@ few : (c : Else-inserted-self)
 few c h_counted = omega (arith, c.if-inserted-self.false, counts_records _ _ _ _ h_counted)
 
 keys : (c : Else-not-bytes_fit) → let b = c.args.self in b.logical_key_bytes ≤ b.inserted_entries * 2 ^ 30
-keys c = leb-true _ _ (said_yes c.bytes_fit.ensures c.if-not-bytes_fit.false)
+keys c = leb-true _ _ (answered_yes c.bytes_fit.ensures c.if-not-bytes_fit.false)
 
 values : (c : Else-not-bytes_fit-2) → let b = c.args.self in b.logical_value_bytes ≤ b.inserted_entries * 2 ^ 30
-values c = leb-true _ _ (said_yes c.bytes_fit-2.ensures c.if-not-bytes_fit-2.false)
+values c = leb-true _ _ (answered_yes c.bytes_fit-2.ensures c.if-not-bytes_fit-2.false)
 
 -- what is left to ask after the third question, and after the fourth
 yes3 : (c : Else-not-bytes_fit)
@@ -54,7 +54,7 @@ yes4 c h_yes3 = h_yes3 ∙ rw (le-leb _ _ (values c))
 
 pub returns-then-not-counts_fit : goal.returns-then-not-counts_fit
 unfolding builder_fits
-returns-then-not-counts_fit c = rw (said_no c.counts_fit.ensures c.if-not-counts_fit.true)
+returns-then-not-counts_fit c = rw (answered_no c.counts_fit.ensures c.if-not-counts_fit.true)
 
 pub returns-then-inserted-self : goal.returns-then-inserted-self
 unfolding builder_fits
@@ -67,7 +67,7 @@ pub returns-then-not-bytes_fit : goal.returns-then-not-bytes_fit
 unfolding builder_fits
 returns-then-not-bytes_fit c =
     let at = goal.at.returns-then-not-bytes_fit c in
-    rw ((counted at.Else-not-counts_fit), le-leb _ _ c.if-inserted-self.false, said_no c.bytes_fit.ensures c.if-not-bytes_fit.true)
+    rw ((counted at.Else-not-counts_fit), le-leb _ _ c.if-inserted-self.false, answered_no c.bytes_fit.ensures c.if-not-bytes_fit.true)
 
 pub bytes_fit-requires-2 : goal.bytes_fit-requires-2
 bytes_fit-requires-2 c =
@@ -77,7 +77,7 @@ bytes_fit-requires-2 c =
 pub returns-then-not-bytes_fit-2 : goal.returns-then-not-bytes_fit-2
 returns-then-not-bytes_fit-2 c =
     let at = goal.at.returns-then-not-bytes_fit-2 c in
-    sym ((yes3 at.Else-not-bytes_fit (counted at.Else-not-counts_fit)) ∙ rw (said_no c.bytes_fit-2.ensures c.if-not-bytes_fit-2.true))
+    sym ((yes3 at.Else-not-bytes_fit (counted at.Else-not-counts_fit)) ∙ rw (answered_no c.bytes_fit-2.ensures c.if-not-bytes_fit-2.true))
 
 pub overflow_add-keys : goal.overflow_add-keys
 overflow_add-keys c =

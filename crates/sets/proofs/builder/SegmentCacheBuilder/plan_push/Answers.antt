@@ -6,7 +6,7 @@ use Rattle.sets.specs.Build.{areas_hold_builder, ask_push, deadline_for, push_sl
 use Rattle.sets.specs.BuildPlans.{ask_record, plan_push, plan_record, planned}
 use Rattle.sets.proofs.Counts.{builder_areas_asked}
 use Rattle.sets.proofs.Decides.{plan}
-use Rattle.sets.proofs.Said.{Past, said_no, said_yes}
+use Rattle.sets.proofs.Said.{Past, answered_no, answered_yes}
 use Rattle.sets.proofs.builder.SegmentCacheBuilder.plan_push.Goals as goal
 use Rattle.sets.proofs.builder.SegmentCacheBuilder.plan_push.Goals.{After-find_build_slot, After-plan_record, Else-filter_len-self, Else-not-areas_hold, Else-not-lifetime_fits, Else-self, Start}
 
@@ -31,7 +31,7 @@ Yes n s =
     (ask_push a.self a.hash a.key.now a.value_bytes a.ttl a.index.now a.filter_len a.arena.now)
 
 held : (c : Else-not-areas_hold) → let a = c.args in areas_hold_builder a.self (length a.index.now) (length a.arena.now) ≡ true
-held c = said_yes c.areas_hold.ensures c.if-not-areas_hold.false
+held c = answered_yes c.areas_hold.ensures c.if-not-areas_hold.false
 
 filled : (c : Else-self)
     → (let a = c.args in areas_hold_builder a.self (length a.index.now) (length a.arena.now) ≡ true)
@@ -52,7 +52,7 @@ yes3 : (c : Else-not-lifetime_fits)
     → (Yes 2 (from_else_not_lifetime_fits c))
     → Yes 3 (from_else_not_lifetime_fits c)
 unfolding ask_push
-yes3 c h_yes2 = h_yes2 ∙ rw (said_yes c.lifetime_fits.ensures c.if-not-lifetime_fits.false)
+yes3 c h_yes2 = h_yes2 ∙ rw (answered_yes c.lifetime_fits.ensures c.if-not-lifetime_fits.false)
 
 yes4 : (c : Else-self)
     → (Yes 3 (from_else_self c))
@@ -71,7 +71,7 @@ rest c = sym c.plan_record.ensures
 
 pub returns-then-not-areas_hold : goal.returns-then-not-areas_hold
 unfolding plan_push ask_push plan_record ask_record
-returns-then-not-areas_hold c = rw (said_no c.areas_hold.ensures c.if-not-areas_hold.true)
+returns-then-not-areas_hold c = rw (answered_no c.areas_hold.ensures c.if-not-areas_hold.true)
 
 pub returns-then-filter_len-self : goal.returns-then-filter_len-self
 unfolding plan_push ask_push plan_record ask_record
@@ -81,7 +81,7 @@ pub returns-then-not-lifetime_fits : goal.returns-then-not-lifetime_fits
 unfolding plan_push ask_push plan_record ask_record
 returns-then-not-lifetime_fits c =
     let at = goal.at.returns-then-not-lifetime_fits c in
-    sym ((yes2 at.Else-filter_len-self (yes1 at.Else-not-areas_hold)) ∙ rw (said_no c.lifetime_fits.ensures c.if-not-lifetime_fits.true))
+    sym ((yes2 at.Else-filter_len-self (yes1 at.Else-not-areas_hold)) ∙ rw (answered_no c.lifetime_fits.ensures c.if-not-lifetime_fits.true))
 
 pub returns-then-self : goal.returns-then-self
 unfolding plan_push ask_push plan_record ask_record

@@ -7,7 +7,7 @@ use Rattle.sets.specs.BuildPlans.{ask_record, plan_record}
 use Rattle.sets.specs.Questions.{deadline_refusal}
 use Rattle.sets.proofs.Appends.{room}
 use Rattle.sets.proofs.Decides.{own_refused}
-use Rattle.sets.proofs.Said.{said_no, said_yes}
+use Rattle.sets.proofs.Said.{answered_no, answered_yes}
 use Rattle.sets.proofs.builder.SegmentCacheBuilder.plan_record.Goals as goal
 use Rattle.sets.proofs.builder.SegmentCacheBuilder.plan_record.Goals.{Start}
 
@@ -28,10 +28,10 @@ pub returns-then-not-record_fits : goal.returns-then-not-record_fits
 unfolding plan_record ask_record
 returns-then-not-record_fits c =
     let at = sym c.encode_expiry_at_tick-deadline.ensures ∙ ap expiry_outcome c.in-At.is in
-    rw (at, (asks (goal.at.returns-then-not-record_fits c).Start) ∙ said_no c.record_fits.ensures c.if-not-record_fits.true)
+    rw (at, (asks (goal.at.returns-then-not-record_fits c).Start) ∙ answered_no c.record_fits.ensures c.if-not-record_fits.true)
 
 pub returns : goal.returns
 unfolding plan_record ask_record
 returns c =
     let at = sym c.encode_expiry_at_tick-deadline.ensures ∙ ap expiry_outcome c.in-At.is in
-    rw (at, (asks (goal.at.returns c).Start) ∙ said_yes c.record_fits.ensures c.if-not-record_fits.false)
+    rw (at, (asks (goal.at.returns c).Start) ∙ answered_yes c.record_fits.ensures c.if-not-record_fits.false)

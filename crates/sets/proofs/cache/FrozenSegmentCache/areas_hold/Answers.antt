@@ -3,7 +3,7 @@ use Rattle.std.proofs.Common.{◌≡◌, ◌*◌, ◌<◌, ◌≤◌, [], ◌∷
 use borrow.Author.Tests.{lt-leb}
 use Rattle.sets.specs.Lookup.{areas_hold_set}
 use Rattle.sets.specs.Questions.{all, arena_holds, segment_areas_hold}
-use Rattle.sets.proofs.Said.{said_no, said_yes}
+use Rattle.sets.proofs.Said.{answered_no, answered_yes}
 use Rattle.sets.proofs.cache.FrozenSegmentCache.areas_hold.Goals as goal
 use Rattle.sets.proofs.cache.FrozenSegmentCache.areas_hold.Goals.{Else-index_len-self}
 
@@ -15,24 +15,24 @@ unfolding areas_hold_set
 yes2 c =
     let a = c.args in
     let long : 8 * a.self.buckets ≤ a.index_len = omega (arith, c.if-index_len-self.false) in
-    rw (said_yes c.fits.ensures c.if-not-fits.false, le-leb _ _ long)
+    rw (answered_yes c.fits.ensures c.if-not-fits.false, le-leb _ _ long)
 
 pub returns-then-not-fits : goal.returns-then-not-fits
 unfolding areas_hold_set
-returns-then-not-fits c = rw (said_no c.fits.ensures c.if-not-fits.true)
+returns-then-not-fits c = rw (answered_no c.fits.ensures c.if-not-fits.true)
 
 pub returns-then-index_len-self : goal.returns-then-index_len-self
 unfolding areas_hold_set
 returns-then-index_len-self c =
     let a = c.args in
     let short : a.index_len < 8 * a.self.buckets = omega (arith, c.if-index_len-self.true) in
-    rw (said_yes c.fits.ensures c.if-not-fits.false, lt-leb _ _ short)
+    rw (answered_yes c.fits.ensures c.if-not-fits.false, lt-leb _ _ short)
 
 pub returns-then-not-segment_areas_hold : goal.returns-then-not-segment_areas_hold
 returns-then-not-segment_areas_hold c =
     let at = goal.at.returns-then-not-segment_areas_hold c in
-    sym ((yes2 at.Else-index_len-self) ∙ rw (said_no c.segment_areas_hold.ensures c.if-not-segment_areas_hold.true))
+    sym ((yes2 at.Else-index_len-self) ∙ rw (answered_no c.segment_areas_hold.ensures c.if-not-segment_areas_hold.true))
 
 pub returns : goal.returns
 returns c =
-    c.arena_holds.ensures ∙ sym ((yes2 (goal.at.returns c).Else-index_len-self) ∙ rw (said_yes c.segment_areas_hold.ensures c.if-not-segment_areas_hold.false))
+    c.arena_holds.ensures ∙ sym ((yes2 (goal.at.returns c).Else-index_len-self) ∙ rw (answered_yes c.segment_areas_hold.ensures c.if-not-segment_areas_hold.false))

@@ -3,13 +3,13 @@ use Rattle.std.proofs.Common.{◌≡◌, ◌≤◌, true, [], ◌∷◌, sym, �
 use borrow.Author.Tests.{lt-leb}
 use Rattle.sets.specs.Lookup.{set_fits}
 use Rattle.sets.specs.Questions.{all, bytes_fit, counts_fit}
-use Rattle.sets.proofs.Said.{said_no, said_yes}
+use Rattle.sets.proofs.Said.{answered_no, answered_yes}
 use Rattle.sets.proofs.Counts.{counts_records}
 use Rattle.sets.proofs.cache.FrozenSegmentCache.fits.Goals as goal
 use Rattle.sets.proofs.cache.FrozenSegmentCache.fits.Goals.{Else-not-bytes_fit, Else-not-counts_fit, Else-self-gt-MAX_RECORD_SEGMENTS}
 
 counted : (c : Else-not-counts_fit) → let s = c.args.self in counts_fit s.config s.entries s.buckets s.filter_words ≡ true
-counted c = said_yes c.counts_fit.ensures c.if-not-counts_fit.false
+counted c = answered_yes c.counts_fit.ensures c.if-not-counts_fit.false
 
 few : (c : Else-self-gt-MAX_RECORD_SEGMENTS)
     → (let s = c.args.self in counts_fit s.config s.entries s.buckets s.filter_words ≡ true)
@@ -31,11 +31,11 @@ yes4 : (c : Else-not-bytes_fit)
     ≡ all (bytes_fit s.entries s.logical_key_bytes ∷ bytes_fit s.entries s.logical_value_bytes ∷ bytes_fit s.entries s.record_header_bytes ∷ []))
     → let s = c.args.self in
     set_fits s ≡ all (bytes_fit s.entries s.logical_value_bytes ∷ bytes_fit s.entries s.record_header_bytes ∷ [])
-yes4 c h_yes3 = h_yes3 ∙ rw (said_yes c.bytes_fit.ensures c.if-not-bytes_fit.false)
+yes4 c h_yes3 = h_yes3 ∙ rw (answered_yes c.bytes_fit.ensures c.if-not-bytes_fit.false)
 
 pub returns-then-not-counts_fit : goal.returns-then-not-counts_fit
 unfolding set_fits
-returns-then-not-counts_fit c = rw (said_no c.counts_fit.ensures c.if-not-counts_fit.true)
+returns-then-not-counts_fit c = rw (answered_no c.counts_fit.ensures c.if-not-counts_fit.true)
 
 pub returns-then-self-lt1 : goal.returns-then-self-lt1
 unfolding set_fits
@@ -53,7 +53,7 @@ bytes_fit-requires c = (few c (counted (goal.at.bytes_fit-requires c).Else-not-c
 pub returns-then-not-bytes_fit : goal.returns-then-not-bytes_fit
 returns-then-not-bytes_fit c =
     let at = goal.at.returns-then-not-bytes_fit c in
-    sym ((yes3 at.Else-self-gt-MAX_RECORD_SEGMENTS (counted at.Else-not-counts_fit)) ∙ rw (said_no c.bytes_fit.ensures c.if-not-bytes_fit.true))
+    sym ((yes3 at.Else-self-gt-MAX_RECORD_SEGMENTS (counted at.Else-not-counts_fit)) ∙ rw (answered_no c.bytes_fit.ensures c.if-not-bytes_fit.true))
 
 pub bytes_fit-requires-2 : goal.bytes_fit-requires-2
 bytes_fit-requires-2 c =
@@ -63,7 +63,7 @@ bytes_fit-requires-2 c =
 pub returns-then-not-bytes_fit-2 : goal.returns-then-not-bytes_fit-2
 returns-then-not-bytes_fit-2 c =
     let at = goal.at.returns-then-not-bytes_fit-2 c in
-    sym ((yes4 at.Else-not-bytes_fit (yes3 at.Else-self-gt-MAX_RECORD_SEGMENTS (counted at.Else-not-counts_fit))) ∙ rw (said_no c.bytes_fit-2.ensures c.if-not-bytes_fit-2.true))
+    sym ((yes4 at.Else-not-bytes_fit (yes3 at.Else-self-gt-MAX_RECORD_SEGMENTS (counted at.Else-not-counts_fit))) ∙ rw (answered_no c.bytes_fit-2.ensures c.if-not-bytes_fit-2.true))
 
 pub bytes_fit-requires-3 : goal.bytes_fit-requires-3
 bytes_fit-requires-3 c =
@@ -73,4 +73,4 @@ bytes_fit-requires-3 c =
 pub returns : goal.returns
 returns c =
     let at = goal.at.returns c in
-    c.bytes_fit-3.ensures ∙ sym ((yes4 at.Else-not-bytes_fit (yes3 at.Else-self-gt-MAX_RECORD_SEGMENTS (counted at.Else-not-counts_fit))) ∙ rw (said_yes c.bytes_fit-2.ensures c.if-not-bytes_fit-2.false))
+    c.bytes_fit-3.ensures ∙ sym ((yes4 at.Else-not-bytes_fit (yes3 at.Else-self-gt-MAX_RECORD_SEGMENTS (counted at.Else-not-counts_fit))) ∙ rw (answered_yes c.bytes_fit-2.ensures c.if-not-bytes_fit-2.false))

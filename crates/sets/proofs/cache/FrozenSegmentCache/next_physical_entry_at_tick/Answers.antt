@@ -2,14 +2,14 @@
 use Rattle.std.proofs.Common.{◌≡◌, true, length, sym, refl, ◌∙◌}
 use Rattle.index.specs.View.{record_in}
 use Rattle.sets.specs.Lookup.{areas_hold_set, ask_walk, next_entry, view_of, walk_answer}
-use Rattle.sets.proofs.Said.{said_no, said_yes}
+use Rattle.sets.proofs.Said.{answered_no, answered_yes}
 use Rattle.sets.proofs.Counts.{set_index}
 use Rattle.sets.proofs.cache.FrozenSegmentCache.next_physical_entry_at_tick.Goals as goal
 use Rattle.sets.proofs.cache.FrozenSegmentCache.next_physical_entry_at_tick.Goals.{After-next_entry-next, Else-not-areas_hold}
 
 held : (c : Else-not-areas_hold) → let a = c.args in
     areas_hold_set a.self (length a.index.now) (length a.starts.now) (length a.lengths.now) (length a.arena.now) ≡ true
-held c = said_yes c.areas_hold.ensures c.if-not-areas_hold.false
+held c = answered_yes c.areas_hold.ensures c.if-not-areas_hold.false
 
 -- what the set's own reader finds
 walked : (c : After-next_entry-next) → let a = c.args in
@@ -19,7 +19,7 @@ walked c = sym (c.next_entry-next.ensures ∙ rw c.view.ensures)
 
 pub returns-then-not-areas_hold : goal.returns-then-not-areas_hold
 unfolding walk_answer ask_walk
-returns-then-not-areas_hold c = (rw (said_no c.areas_hold.ensures c.if-not-areas_hold.true), refl)
+returns-then-not-areas_hold c = (rw (answered_no c.areas_hold.ensures c.if-not-areas_hold.true), refl)
 
 pub next_entry-next-requires : goal.next_entry-next-requires
 next_entry-next-requires c = set_index _ _ _ _ _ (held (goal.at.next_entry-next-requires c).Else-not-areas_hold)

@@ -1,13 +1,13 @@
 -- `peek_at_tick` meets its contract. Assumes nothing.
 use Rattle.std.proofs.Common.{◌≡◌, sym, refl, ◌∙◌}
 use Rattle.sets.specs.Lookup.{after_get, after_peek, ask_lookup, find_of}
-use Rattle.sets.proofs.Said.{said_no, said_yes}
+use Rattle.sets.proofs.Said.{answered_no, answered_yes}
 use Rattle.sets.proofs.Finding.{Held, got}
 use Rattle.sets.proofs.cache.FrozenSegmentCache.peek_at_tick.Goals as goal
 use Rattle.sets.proofs.cache.FrozenSegmentCache.peek_at_tick.Goals.{After-find-answer, Else-not-lookup_areas_hold}
 
 held : (c : Else-not-lookup_areas_hold) → let a = c.args in Held a.self a.index.now a.filter.now a.starts.now a.lengths.now a.arena.now
-held c = said_yes c.lookup_areas_hold.ensures c.if-not-lookup_areas_hold.false
+held c = answered_yes c.lookup_areas_hold.ensures c.if-not-lookup_areas_hold.false
 
 found : (c : After-find-answer) → let a = c.args in
     find_of a.self a.hash a.key.now a.index.now a.filter.now a.starts.now a.lengths.now a.arena.now ≡ c.find-answer.result
@@ -15,7 +15,7 @@ found c = sym c.find-answer.ensures
 
 pub returns-then-not-lookup_areas_hold : goal.returns-then-not-lookup_areas_hold
 unfolding after_peek after_get ask_lookup
-returns-then-not-lookup_areas_hold c = rw (said_no c.lookup_areas_hold.ensures c.if-not-lookup_areas_hold.true)
+returns-then-not-lookup_areas_hold c = rw (answered_no c.lookup_areas_hold.ensures c.if-not-lookup_areas_hold.true)
 
 pub returns-in_default : goal.returns-in_default
 unfolding after_peek after_get ask_lookup

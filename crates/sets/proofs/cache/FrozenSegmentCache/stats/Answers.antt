@@ -3,7 +3,7 @@ use Rattle.std.proofs.Common.{◌<◌, ◌≤◌, ap, arith}
 use Rattle.sets.specs.declared.stats.SegmentCacheStats.{SegmentCacheStats}
 use Rattle.sets.specs.Answers.{accept}
 use Rattle.sets.specs.Lookup.{ask_stats, stats_answer}
-use Rattle.sets.proofs.Said.{said_no, said_yes}
+use Rattle.sets.proofs.Said.{answered_no, answered_yes}
 use Rattle.sets.proofs.Counts.{set_counts}
 use Rattle.sets.proofs.Finding.{few_buckets, few_words, stats_made}
 use Rattle.sets.proofs.cache.FrozenSegmentCache.stats.Goals as goal
@@ -13,13 +13,13 @@ use Rattle.sets.proofs.cache.FrozenSegmentCache.stats.Goals.{Else-not-fits}
 few : (c : Else-not-fits) → let b = c.args.self in (b.buckets ≤ 1048582) × (b.filter_words ≤ 4194304)
 few c =
     let b = c.args.self in
-    let counts = set_counts b (said_yes c.fits.ensures c.if-not-fits.false) in
+    let counts = set_counts b (answered_yes c.fits.ensures c.if-not-fits.false) in
     let bits : b.config.negative_filter_bits_per_entry < 256 = omega arith in
     (few_buckets _ _ _ _ counts, few_words _ _ _ _ counts bits)
 
 pub returns-then-not-fits : goal.returns-then-not-fits
 unfolding stats_answer ask_stats
-returns-then-not-fits c = rw (said_no c.fits.ensures c.if-not-fits.true)
+returns-then-not-fits c = rw (answered_no c.fits.ensures c.if-not-fits.true)
 
 pub overflow_mul-result : goal.overflow_mul-result
 overflow_mul-result c = omega (arith, (few (goal.at.overflow_mul-result c).Else-not-fits).0)
@@ -36,4 +36,4 @@ overflow_add-result c = omega (arith, (few (goal.at.overflow_add-result c).Else-
 pub returns : goal.returns
 unfolding stats_answer ask_stats
 returns c =
-    rw (said_yes c.fits.ensures c.if-not-fits.false) (ap (λ (n : SegmentCacheStats). accept n) (stats_made c.args.self))
+    rw (answered_yes c.fits.ensures c.if-not-fits.false) (ap (λ (n : SegmentCacheStats). accept n) (stats_made c.args.self))

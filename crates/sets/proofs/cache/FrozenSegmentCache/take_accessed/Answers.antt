@@ -2,13 +2,13 @@
 use Rattle.std.proofs.Common.{◌≡◌, Bool, sym, ap, ◌∙◌}
 use Rattle.sets.specs.Answers.{accept}
 use Rattle.sets.specs.Lookup.{after_take, ask_lookup, find_of}
-use Rattle.sets.proofs.Said.{said_no, said_yes}
+use Rattle.sets.proofs.Said.{answered_no, answered_yes}
 use Rattle.sets.proofs.Finding.{Held, lookup_slot, taken}
 use Rattle.sets.proofs.cache.FrozenSegmentCache.take_accessed.Goals as goal
 use Rattle.sets.proofs.cache.FrozenSegmentCache.take_accessed.Goals.{After-find-answer, Else-not-lookup_areas_hold}
 
 held : (c : Else-not-lookup_areas_hold) → let a = c.args in Held a.self a.index.now a.filter.now a.starts.now a.lengths.now a.arena.now
-held c = said_yes c.lookup_areas_hold.ensures c.if-not-lookup_areas_hold.false
+held c = answered_yes c.lookup_areas_hold.ensures c.if-not-lookup_areas_hold.false
 
 found : (c : After-find-answer) → let a = c.args in
     find_of a.self a.hash a.key.now a.index.now a.filter.now a.starts.now a.lengths.now a.arena.now ≡ c.find-answer.result
@@ -16,7 +16,7 @@ found c = sym c.find-answer.ensures
 
 pub returns-then-not-lookup_areas_hold : goal.returns-then-not-lookup_areas_hold
 unfolding after_take ask_lookup
-returns-then-not-lookup_areas_hold c = rw (said_no c.lookup_areas_hold.ensures c.if-not-lookup_areas_hold.true)
+returns-then-not-lookup_areas_hold c = rw (answered_no c.lookup_areas_hold.ensures c.if-not-lookup_areas_hold.true)
 
 pub returns-in_default : goal.returns-in_default
 unfolding after_take ask_lookup

@@ -2,7 +2,7 @@
 use Rattle.std.proofs.Common.{ℕ, sym, ◌∙◌, eq-eqb, ne_eqb}
 use Rattle.sets.specs.Rebuild.{ask_rebuild_finish}
 use Rattle.sets.specs.Questions.{first_no}
-use Rattle.sets.proofs.Said.{Past, said_no, said_yes}
+use Rattle.sets.proofs.Said.{Past, answered_no, answered_yes}
 use Rattle.sets.proofs.rebuild.SharedSegmentCacheBuilder.check_finish.Goals as goal
 use Rattle.sets.proofs.rebuild.SharedSegmentCacheBuilder.check_finish.Goals.{Else-not-areas_hold, Else-self, Start}
 
@@ -19,7 +19,7 @@ Yes n s = let a = s.args in Past first_no n (ask_rebuild_finish a.self a.index_l
 
 yes1 : (c : Else-not-areas_hold) → Yes 1 (from_else_not_areas_hold c)
 unfolding ask_rebuild_finish
-yes1 c = rw (said_yes c.areas_hold.ensures c.if-not-areas_hold.false)
+yes1 c = rw (answered_yes c.areas_hold.ensures c.if-not-areas_hold.false)
 
 yes2 : (c : Else-self)
     → (Yes 1 (from_else_self c))
@@ -29,7 +29,7 @@ yes2 c h_yes1 = h_yes1 ∙ rw (eq-eqb _ _ c.if-self.false)
 
 pub returns-then-not-areas_hold : goal.returns-then-not-areas_hold
 unfolding ask_rebuild_finish
-returns-then-not-areas_hold c = rw (said_no c.areas_hold.ensures c.if-not-areas_hold.true)
+returns-then-not-areas_hold c = rw (answered_no c.areas_hold.ensures c.if-not-areas_hold.true)
 
 pub returns-then-self : goal.returns-then-self
 unfolding ask_rebuild_finish
@@ -39,10 +39,10 @@ pub returns-then-not-scratch_holds : goal.returns-then-not-scratch_holds
 unfolding ask_rebuild_finish
 returns-then-not-scratch_holds c =
     let at = goal.at.returns-then-not-scratch_holds c in
-    sym ((yes2 at.Else-self (yes1 at.Else-not-areas_hold)) ∙ rw (said_no c.scratch_holds.ensures c.if-not-scratch_holds.true))
+    sym ((yes2 at.Else-self (yes1 at.Else-not-areas_hold)) ∙ rw (answered_no c.scratch_holds.ensures c.if-not-scratch_holds.true))
 
 pub returns : goal.returns
 unfolding ask_rebuild_finish
 returns c =
     let at = goal.at.returns c in
-    sym ((yes2 at.Else-self (yes1 at.Else-not-areas_hold)) ∙ rw (said_yes c.scratch_holds.ensures c.if-not-scratch_holds.false))
+    sym ((yes2 at.Else-self (yes1 at.Else-not-areas_hold)) ∙ rw (answered_yes c.scratch_holds.ensures c.if-not-scratch_holds.false))

@@ -4,7 +4,7 @@ use borrow.Author.Tests.{lt-leb}
 use Rattle.sets.specs.Kept.{retained}
 use Rattle.sets.specs.Rebuild.{rebuild_fits, segment_for}
 use Rattle.sets.specs.Questions.{all, bytes_fit, counts_fit}
-use Rattle.sets.proofs.Said.{said_no, said_yes}
+use Rattle.sets.proofs.Said.{answered_no, answered_yes}
 use Rattle.sets.proofs.Counts.{counts_records}
 use Rattle.sets.proofs.KeptBits.{retained_256}
 use Rattle.sets.proofs.RebuildSteps.{segment_most}
@@ -12,7 +12,7 @@ use Rattle.sets.proofs.rebuild.SharedSegmentCacheBuilder.fits.Goals as goal
 use Rattle.sets.proofs.rebuild.SharedSegmentCacheBuilder.fits.Goals.{After-segment_for, Else-inserted-self, Else-not-bytes_fit, Else-not-counts_fit, Else-retained-segment_for-gt-MAX_RECORD_SEGMENTS}
 
 counted : (c : Else-not-counts_fit) → let r = c.args.self in counts_fit r.config r.expected_entries r.bucket_count r.filter_words ≡ true
-counted c = said_yes c.counts_fit.ensures c.if-not-counts_fit.false
+counted c = answered_yes c.counts_fit.ensures c.if-not-counts_fit.false
 
 few : (c : Else-inserted-self)
     → (let r = c.args.self in counts_fit r.config r.expected_entries r.bucket_count r.filter_words ≡ true)
@@ -49,11 +49,11 @@ yes4 : (c : Else-not-bytes_fit)
     ∷ []))
     → let r = c.args.self in
     rebuild_fits r ≡ all (bytes_fit r.inserted_entries r.logical_value_bytes ∷ bytes_fit r.inserted_entries r.record_header_bytes ∷ [])
-yes4 c h_yes3 = h_yes3 ∙ rw (said_yes c.bytes_fit.ensures c.if-not-bytes_fit.false)
+yes4 c h_yes3 = h_yes3 ∙ rw (answered_yes c.bytes_fit.ensures c.if-not-bytes_fit.false)
 
 pub returns-then-not-counts_fit : goal.returns-then-not-counts_fit
 unfolding rebuild_fits
-returns-then-not-counts_fit c = rw (said_no c.counts_fit.ensures c.if-not-counts_fit.true)
+returns-then-not-counts_fit c = rw (answered_no c.counts_fit.ensures c.if-not-counts_fit.true)
 
 pub returns-then-inserted-self : goal.returns-then-inserted-self
 unfolding rebuild_fits
@@ -78,7 +78,7 @@ bytes_fit-requires c =
 pub returns-then-not-bytes_fit : goal.returns-then-not-bytes_fit
 returns-then-not-bytes_fit c =
     let at = goal.at.returns-then-not-bytes_fit c in
-    sym ((yes3 at.Else-retained-segment_for-gt-MAX_RECORD_SEGMENTS (counted at.Else-not-counts_fit) (segments at.After-segment_for)) ∙ rw (said_no c.bytes_fit.ensures c.if-not-bytes_fit.true))
+    sym ((yes3 at.Else-retained-segment_for-gt-MAX_RECORD_SEGMENTS (counted at.Else-not-counts_fit) (segments at.After-segment_for)) ∙ rw (answered_no c.bytes_fit.ensures c.if-not-bytes_fit.true))
 
 pub bytes_fit-requires-2 : goal.bytes_fit-requires-2
 bytes_fit-requires-2 c =
@@ -88,7 +88,7 @@ bytes_fit-requires-2 c =
 pub returns-then-not-bytes_fit-2 : goal.returns-then-not-bytes_fit-2
 returns-then-not-bytes_fit-2 c =
     let at = goal.at.returns-then-not-bytes_fit-2 c in
-    sym ((yes4 at.Else-not-bytes_fit (yes3 at.Else-retained-segment_for-gt-MAX_RECORD_SEGMENTS (counted at.Else-not-counts_fit) (segments at.After-segment_for))) ∙ rw (said_no c.bytes_fit-2.ensures c.if-not-bytes_fit-2.true))
+    sym ((yes4 at.Else-not-bytes_fit (yes3 at.Else-retained-segment_for-gt-MAX_RECORD_SEGMENTS (counted at.Else-not-counts_fit) (segments at.After-segment_for))) ∙ rw (answered_no c.bytes_fit-2.ensures c.if-not-bytes_fit-2.true))
 
 pub bytes_fit-requires-3 : goal.bytes_fit-requires-3
 bytes_fit-requires-3 c =
@@ -98,4 +98,4 @@ bytes_fit-requires-3 c =
 pub returns : goal.returns
 returns c =
     let at = goal.at.returns c in
-    c.bytes_fit-3.ensures ∙ sym ((yes4 at.Else-not-bytes_fit (yes3 at.Else-retained-segment_for-gt-MAX_RECORD_SEGMENTS (counted at.Else-not-counts_fit) (segments at.After-segment_for))) ∙ rw (said_yes c.bytes_fit-2.ensures c.if-not-bytes_fit-2.false))
+    c.bytes_fit-3.ensures ∙ sym ((yes4 at.Else-not-bytes_fit (yes3 at.Else-retained-segment_for-gt-MAX_RECORD_SEGMENTS (counted at.Else-not-counts_fit) (segments at.After-segment_for))) ∙ rw (answered_yes c.bytes_fit-2.ensures c.if-not-bytes_fit-2.false))

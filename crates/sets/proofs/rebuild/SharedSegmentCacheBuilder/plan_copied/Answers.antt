@@ -9,7 +9,7 @@ use Rattle.sets.specs.RebuildPlans.{ask_room, plan_copied, plan_room}
 use Rattle.sets.specs.Rebuild.{areas_hold_rebuild, ask_copied, copied_deadline}
 use Rattle.sets.proofs.RebuildAsked.{rebuild_areas_asked}
 use Rattle.sets.proofs.Decides.{own_refused, plan}
-use Rattle.sets.proofs.Said.{Past, said_no, said_yes}
+use Rattle.sets.proofs.Said.{Past, answered_no, answered_yes}
 use Rattle.sets.proofs.rebuild.SharedSegmentCacheBuilder.plan_copied.Goals as goal
 use Rattle.sets.proofs.rebuild.SharedSegmentCacheBuilder.plan_copied.Goals.{After-plan_room, Else-filter_len-self, Else-not-areas_hold, Else-not-lifetime_fits, Else-self, Start}
 
@@ -34,7 +34,7 @@ Yes n s =
     (ask_copied a.self a.hash a.key_bytes a.value_bytes a.ttl a.index.now a.filter_len a.starts.now a.lengths.now a.arena_len)
 
 held : (c : Else-not-areas_hold) → let a = c.args in areas_hold_rebuild a.self (length a.index.now) a.starts.now a.lengths.now a.arena_len ≡ true
-held c = said_yes c.areas_hold.ensures c.if-not-areas_hold.false
+held c = answered_yes c.areas_hold.ensures c.if-not-areas_hold.false
 
 yes1 : (c : Else-not-areas_hold) → Yes 1 (from_else_not_areas_hold c)
 unfolding ask_copied
@@ -50,7 +50,7 @@ yes3 : (c : Else-not-lifetime_fits)
     → (Yes 2 (from_else_not_lifetime_fits c))
     → Yes 3 (from_else_not_lifetime_fits c)
 unfolding ask_copied
-yes3 c h_yes2 = h_yes2 ∙ rw (said_yes c.lifetime_fits.ensures c.if-not-lifetime_fits.false)
+yes3 c h_yes2 = h_yes2 ∙ rw (answered_yes c.lifetime_fits.ensures c.if-not-lifetime_fits.false)
 
 yes4 : (c : Else-self)
     → (Yes 3 (from_else_self c))
@@ -65,7 +65,7 @@ rest c = sym c.plan_room.ensures
 
 pub returns-then-not-areas_hold : goal.returns-then-not-areas_hold
 unfolding plan_copied ask_copied plan_room ask_room
-returns-then-not-areas_hold c = rw (said_no c.areas_hold.ensures c.if-not-areas_hold.true)
+returns-then-not-areas_hold c = rw (answered_no c.areas_hold.ensures c.if-not-areas_hold.true)
 
 pub returns-then-filter_len-self : goal.returns-then-filter_len-self
 unfolding plan_copied ask_copied plan_room ask_room
@@ -75,7 +75,7 @@ pub returns-then-not-lifetime_fits : goal.returns-then-not-lifetime_fits
 unfolding plan_copied ask_copied plan_room ask_room
 returns-then-not-lifetime_fits c =
     let at = goal.at.returns-then-not-lifetime_fits c in
-    sym ((yes2 at.Else-filter_len-self (yes1 at.Else-not-areas_hold)) ∙ rw (said_no c.lifetime_fits.ensures c.if-not-lifetime_fits.true))
+    sym ((yes2 at.Else-filter_len-self (yes1 at.Else-not-areas_hold)) ∙ rw (answered_no c.lifetime_fits.ensures c.if-not-lifetime_fits.true))
 
 pub returns-then-self : goal.returns-then-self
 unfolding plan_copied ask_copied plan_room ask_room

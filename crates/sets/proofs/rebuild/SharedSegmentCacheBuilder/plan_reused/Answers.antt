@@ -6,7 +6,7 @@ use Rattle.sets.specs.RebuildPlans.{plan_reused}
 use Rattle.sets.specs.Rebuild.{areas_hold_rebuild, ask_reused}
 use Rattle.sets.proofs.RebuildAsked.{rebuild_areas_asked}
 use Rattle.sets.proofs.Decides.{plan}
-use Rattle.sets.proofs.Said.{Past, said_no, said_yes}
+use Rattle.sets.proofs.Said.{Past, answered_no, answered_yes}
 use Rattle.sets.proofs.rebuild.SharedSegmentCacheBuilder.plan_reused.Goals as goal
 use Rattle.sets.proofs.rebuild.SharedSegmentCacheBuilder.plan_reused.Goals.{Else-filter_len-self, Else-not-areas_hold, Else-not-holds_record, Else-not-is_kept, Else-self, Start}
 
@@ -34,7 +34,7 @@ Yes n s =
     (ask_reused a.self a.hash a.key.now a.value.now a.source a.index.now a.filter_len a.starts.now a.lengths.now a.arena.now)
 
 held : (c : Else-not-areas_hold) → let a = c.args in areas_hold_rebuild a.self (length a.index.now) a.starts.now a.lengths.now (length a.arena.now) ≡ true
-held c = said_yes c.areas_hold.ensures c.if-not-areas_hold.false
+held c = answered_yes c.areas_hold.ensures c.if-not-areas_hold.false
 
 yes1 : (c : Else-not-areas_hold) → Yes 1 (from_else_not_areas_hold c)
 unfolding ask_reused
@@ -56,17 +56,17 @@ yes4 : (c : Else-not-is_kept)
     → (Yes 3 (from_else_not_is_kept c))
     → Yes 4 (from_else_not_is_kept c)
 unfolding ask_reused
-yes4 c h_yes3 = h_yes3 ∙ rw (said_yes c.is_kept.ensures c.if-not-is_kept.false)
+yes4 c h_yes3 = h_yes3 ∙ rw (answered_yes c.is_kept.ensures c.if-not-is_kept.false)
 
 yes5 : (c : Else-not-holds_record)
     → (Yes 4 (from_else_not_holds_record c))
     → Yes 5 (from_else_not_holds_record c)
 unfolding ask_reused
-yes5 c h_yes4 = h_yes4 ∙ rw (said_yes c.holds_record.ensures c.if-not-holds_record.false)
+yes5 c h_yes4 = h_yes4 ∙ rw (answered_yes c.holds_record.ensures c.if-not-holds_record.false)
 
 pub returns-then-not-areas_hold : goal.returns-then-not-areas_hold
 unfolding plan_reused ask_reused
-returns-then-not-areas_hold c = rw (said_no c.areas_hold.ensures c.if-not-areas_hold.true)
+returns-then-not-areas_hold c = rw (answered_no c.areas_hold.ensures c.if-not-areas_hold.true)
 
 pub returns-then-filter_len-self : goal.returns-then-filter_len-self
 unfolding plan_reused ask_reused
@@ -82,18 +82,18 @@ pub returns-then-not-is_kept : goal.returns-then-not-is_kept
 unfolding plan_reused ask_reused
 returns-then-not-is_kept c =
     let at = goal.at.returns-then-not-is_kept c in
-    sym ((yes3 at.Else-self (yes2 at.Else-filter_len-self (yes1 at.Else-not-areas_hold))) ∙ rw (said_no c.is_kept.ensures c.if-not-is_kept.true))
+    sym ((yes3 at.Else-self (yes2 at.Else-filter_len-self (yes1 at.Else-not-areas_hold))) ∙ rw (answered_no c.is_kept.ensures c.if-not-is_kept.true))
 
 pub holds_record-requires : goal.holds_record-requires
 holds_record-requires c =
     let q = rebuild_areas_asked _ _ _ _ _ (held (goal.at.holds_record-requires c).Else-not-areas_hold) in
-    (said_yes c.is_kept.ensures c.if-not-is_kept.false, omega (arith, q.filled_held, q.arena_short))
+    (answered_yes c.is_kept.ensures c.if-not-is_kept.false, omega (arith, q.filled_held, q.arena_short))
 
 pub returns-then-not-holds_record : goal.returns-then-not-holds_record
 unfolding plan_reused ask_reused
 returns-then-not-holds_record c =
     let at = goal.at.returns-then-not-holds_record c in
-    sym ((yes4 at.Else-not-is_kept (yes3 at.Else-self (yes2 at.Else-filter_len-self (yes1 at.Else-not-areas_hold)))) ∙ rw (said_no c.holds_record.ensures c.if-not-holds_record.true))
+    sym ((yes4 at.Else-not-is_kept (yes3 at.Else-self (yes2 at.Else-filter_len-self (yes1 at.Else-not-areas_hold)))) ∙ rw (answered_no c.holds_record.ensures c.if-not-holds_record.true))
 
 pub returns-in-Duplicate : goal.returns-in-Duplicate
 unfolding plan_reused ask_reused

@@ -5,7 +5,7 @@ use Rattle.sets.specs.RebuildPlans.{ask_room, plan_room}
 use Rattle.sets.specs.Rebuild.{copied_size, rebuild_filled}
 use Rattle.sets.proofs.Appends.{room}
 use Rattle.sets.proofs.Decides.{plan}
-use Rattle.sets.proofs.Said.{Past, said_no, said_yes}
+use Rattle.sets.proofs.Said.{Past, answered_no, answered_yes}
 use Rattle.sets.proofs.rebuild.SharedSegmentCacheBuilder.plan_room.Goals as goal
 use Rattle.sets.proofs.rebuild.SharedSegmentCacheBuilder.plan_room.Goals.{Else-not-record_fits, Else-retained-ge-MAX_RECORD_SEGMENTS, Start}
 
@@ -35,7 +35,7 @@ yes1 : (c : Else-not-record_fits)
     ≡ leb (copied_size a.self a.key_bytes a.value_bytes) (a.arena_len - rebuild_filled a.self))
     → Yes 1 (from_else_not_record_fits c)
 unfolding ask_room
-yes1 c h_asks = rw (h_asks ∙ said_yes c.record_fits.ensures c.if-not-record_fits.false)
+yes1 c h_asks = rw (h_asks ∙ answered_yes c.record_fits.ensures c.if-not-record_fits.false)
 
 yes2 : (c : Else-retained-ge-MAX_RECORD_SEGMENTS)
     → (Yes 1 (from_else_retained_ge_max_record_segments c))
@@ -45,7 +45,7 @@ yes2 c h_yes1 = h_yes1 ∙ rw (← c.retained.ensures, lt-ltb _ _ c.if-retained-
 
 pub returns-then-not-record_fits : goal.returns-then-not-record_fits
 unfolding plan_room ask_room
-returns-then-not-record_fits c = rw ((asks (goal.at.returns-then-not-record_fits c).Start) ∙ said_no c.record_fits.ensures c.if-not-record_fits.true)
+returns-then-not-record_fits c = rw ((asks (goal.at.returns-then-not-record_fits c).Start) ∙ answered_no c.record_fits.ensures c.if-not-record_fits.true)
 
 pub returns-then-retained-ge-MAX_RECORD_SEGMENTS : goal.returns-then-retained-ge-MAX_RECORD_SEGMENTS
 unfolding plan_room ask_room
