@@ -125,70 +125,97 @@ module _ (s : Start) where
       begin (one ++ left1) file
       (omega (arith, long.file_long set index filter starts lengths arena file asked, asked.room))
 
-at1 : (c : After-put_counts-after_counts) → Left (from_after_put_counts_after_counts c) (left1 (from_after_put_counts_after_counts c)) c.put_counts-after_counts.new.file c.put_counts-after_counts.result
+at1 : (c : After-put_counts-after_counts) → let s = from_after_put_counts_after_counts c in
+    Left s (left1 s) c.put_counts-after_counts.new.file c.put_counts-after_counts.result
 at1 c =
-    next (one (from_after_put_counts_after_counts c)) (left1 (from_after_put_counts_after_counts c)) _ _ (at0 (from_after_put_counts_after_counts c)) refl (omega (arith, c.put_counts-after_counts.ensures.0, one_long (from_after_put_counts_after_counts c))) c.put_counts-after_counts.ensures.1
+    let s = from_after_put_counts_after_counts c in
+    let p = c.put_counts-after_counts in
+    next (one s) (left1 s) _ _ (at0 s) refl (omega (arith, p.ensures.0, one_long s)) p.ensures.1
 
-at2 : (c : After-put_front-after_lengths)
-    → (Left (from_after_put_front_after_lengths c) (left1 (from_after_put_front_after_lengths c)) c.put_counts-after_counts.new.file c.put_counts-after_counts.result)
-    → Left (from_after_put_front_after_lengths c) (three (from_after_put_front_after_lengths c) ++ (four (from_after_put_front_after_lengths c) ++ five (from_after_put_front_after_lengths c))) c.put_front-after_lengths.new.file c.put_front-after_lengths.result
-at2 c h_at1 =
-    next (two (from_after_put_front_after_lengths c)) (three (from_after_put_front_after_lengths c) ++ (four (from_after_put_front_after_lengths c) ++ five (from_after_put_front_after_lengths c))) _ _ h_at1 refl (omega (arith, c.put_front-after_lengths.ensures.0, two_long (from_after_put_front_after_lengths c))) c.put_front-after_lengths.ensures.1
+-- after each block, given what held after the one before it
+at2 : (c : After-put_front-after_lengths) → let s = from_after_put_front_after_lengths c in
+    Left s (left1 s) c.put_counts-after_counts.new.file c.put_counts-after_counts.result
+    → Left s (three s ++ (four s ++ five s)) c.put_front-after_lengths.new.file c.put_front-after_lengths.result
+at2 c h =
+    let s = from_after_put_front_after_lengths c in
+    let p = c.put_front-after_lengths in
+    next (two s) (three s ++ (four s ++ five s)) _ _ h refl (omega (arith, p.ensures.0, two_long s)) p.ensures.1
 
-at3 : (c : After-put_index-after_index)
-    → (Left (from_after_put_index_after_index c) (three (from_after_put_index_after_index c) ++ (four (from_after_put_index_after_index c) ++ five (from_after_put_index_after_index c))) c.put_front-after_lengths.new.file c.put_front-after_lengths.result)
-    → Left (from_after_put_index_after_index c) (four (from_after_put_index_after_index c) ++ five (from_after_put_index_after_index c)) c.put_index-after_index.new.file c.put_index-after_index.result
-at3 c h_at2 =
-    next (three (from_after_put_index_after_index c)) (four (from_after_put_index_after_index c) ++ five (from_after_put_index_after_index c)) _ _ h_at2 refl (omega (arith, c.put_index-after_index.ensures.0, three_long (from_after_put_index_after_index c))) c.put_index-after_index.ensures.1
+at3 : (c : After-put_index-after_index) → let s = from_after_put_index_after_index c in
+    Left s (three s ++ (four s ++ five s)) c.put_front-after_lengths.new.file c.put_front-after_lengths.result
+    → Left s (four s ++ five s) c.put_index-after_index.new.file c.put_index-after_index.result
+at3 c h =
+    let s = from_after_put_index_after_index c in
+    let p = c.put_index-after_index in
+    next (three s) (four s ++ five s) _ _ h refl (omega (arith, p.ensures.0, three_long s)) p.ensures.1
 
-at4 : (c : After-put_front-after_filter)
-    → (Left (from_after_put_front_after_filter c) (four (from_after_put_front_after_filter c) ++ five (from_after_put_front_after_filter c)) c.put_index-after_index.new.file c.put_index-after_index.result)
-    → Left (from_after_put_front_after_filter c) (five (from_after_put_front_after_filter c)) c.put_front-after_filter.new.file c.put_front-after_filter.result
-at4 c h_at3 =
-    next (four (from_after_put_front_after_filter c)) (five (from_after_put_front_after_filter c)) _ _ h_at3 refl (omega (arith, c.put_front-after_filter.ensures.0, four_long (from_after_put_front_after_filter c))) c.put_front-after_filter.ensures.1
+at4 : (c : After-put_front-after_filter) → let s = from_after_put_front_after_filter c in
+    Left s (four s ++ five s) c.put_index-after_index.new.file c.put_index-after_index.result
+    → Left s (five s) c.put_front-after_filter.new.file c.put_front-after_filter.result
+at4 c h =
+    let s = from_after_put_front_after_filter c in
+    let p = c.put_front-after_filter in
+    next (four s) (five s) _ _ h refl (omega (arith, p.ensures.0, four_long s)) p.ensures.1
+
+-- all five
+at5 : (c : After-put_segments) → let s = from_after_put_segments c in
+    Left s (five s) c.put_front-after_filter.new.file c.put_front-after_filter.result
+    → Left s [] c.put_segments.new.file c.put_segments.result
+at5 c h =
+    let s = from_after_put_segments c in
+    let p = c.put_segments in
+    next (five s) [] _ _ h (sym (append-nil (five s))) (omega (arith, p.ensures.0, five_long s)) p.ensures.1
 
 pub put_counts-after_counts-requires : goal.put_counts-after_counts-requires
 put_counts-after_counts-requires c =
-    let at = goal.at.put_counts-after_counts-requires c in
-    omega (arith, fits (one at.Start) (left1 at.Start) (at0 at.Start) refl, one_long at.Start)
+    let s = (goal.at.put_counts-after_counts-requires c).Start in
+    omega (arith, fits (one s) (left1 s) (at0 s) refl, one_long s)
 
 pub put_front-after_lengths-requires : goal.put_front-after_lengths-requires
 put_front-after_lengths-requires c =
     let at = goal.at.put_front-after_lengths-requires c in
-    (omega (arith, fits (two at.Start) (three at.Start ++ (four at.Start ++ five at.Start)) (at1 at.After-put_counts-after_counts) refl, two_long at.Start), omega (arith, (asked at.Start).few_segments, (asked at.Start).lengths_hold))
+    let s = at.Start in
+    let left = at1 at.After-put_counts-after_counts in
+    let asked = asked s in (
+      omega (arith, fits (two s) (three s ++ (four s ++ five s)) left refl, two_long s),
+      omega (arith, asked.few_segments, asked.lengths_hold),
+    )
 
 pub put_index-after_index-requires : goal.put_index-after_index-requires
 put_index-after_index-requires c =
     let at = goal.at.put_index-after_index-requires c in
-    (omega (arith, fits (three at.Start) (four at.Start ++ five at.Start) ((at2 at.After-put_front-after_lengths (at1 at.After-put_counts-after_counts))) refl, three_long at.Start), (asked at.Start).index_holds)
+    let s = at.Start in
+    let left = at2 at.After-put_front-after_lengths (at1 at.After-put_counts-after_counts) in
+    (omega (arith, fits (three s) (four s ++ five s) left refl, three_long s), (asked s).index_holds)
 
 pub put_front-after_filter-requires : goal.put_front-after_filter-requires
 put_front-after_filter-requires c =
     let at = goal.at.put_front-after_filter-requires c in
-    (omega (arith, fits (four at.Start) (five at.Start) ((at3 at.After-put_index-after_index (at2 at.After-put_front-after_lengths (at1 at.After-put_counts-after_counts)))) refl, four_long at.Start), (asked at.Start).filter_holds)
+    let s = at.Start in
+    let left = at3 at.After-put_index-after_index (at2 at.After-put_front-after_lengths (at1 at.After-put_counts-after_counts)) in
+    (omega (arith, fits (four s) (five s) left refl, four_long s), (asked s).filter_holds)
 
 pub put_segments-requires : goal.put_segments-requires
 put_segments-requires c =
-    let at = goal.at.put_segments-requires c in (
-      omega (arith, (asked at.Start).few_segments, (asked at.Start).starts_hold),
-      omega (arith, (asked at.Start).few_segments, (asked at.Start).lengths_hold),
-      inside at.Start,
-      omega (arith, fits (five at.Start) [] ((at4 at.After-put_front-after_filter (at3 at.After-put_index-after_index (at2 at.After-put_front-after_lengths (at1 at.After-put_counts-after_counts))))) (sym (append-nil (five at.Start))), five_long at.Start),
+    let at = goal.at.put_segments-requires c in
+    let s = at.Start in
+    let left3 = at3 at.After-put_index-after_index (at2 at.After-put_front-after_lengths (at1 at.After-put_counts-after_counts)) in
+    let left = at4 at.After-put_front-after_filter left3 in
+    let asked = asked s in (
+      omega (arith, asked.few_segments, asked.starts_hold),
+      omega (arith, asked.few_segments, asked.lengths_hold),
+      inside s,
+      omega (arith, fits (five s) [] left (sym (append-nil (five s))), five_long s),
     )
-
--- all five
-at5 : (c : After-put_segments)
-    → (Left (from_after_put_segments c) (five (from_after_put_segments c)) c.put_front-after_filter.new.file c.put_front-after_filter.result)
-    → Left (from_after_put_segments c) [] c.put_segments.new.file c.put_segments.result
-at5 c h_at4 =
-    next (five (from_after_put_segments c)) [] _ _ h_at4 (sym (append-nil (five (from_after_put_segments c)))) (omega (arith, c.put_segments.ensures.0, five_long (from_after_put_segments c))) c.put_segments.ensures.1
 
 pub shape_of-file : goal.shape_of-file
 shape_of-file c =
     let at = goal.at.shape_of-file c in
-    (room ((at5 at.After-put_segments (at4 at.After-put_front-after_filter (at3 at.After-put_index-after_index (at2 at.After-put_front-after_lengths (at1 at.After-put_counts-after_counts))))))).1
+    let left3 = at3 at.After-put_index-after_index (at2 at.After-put_front-after_lengths (at1 at.After-put_counts-after_counts)) in
+    (room (at5 at.After-put_segments (at4 at.After-put_front-after_filter left3))).1
 
 pub returns : goal.returns
 returns c =
     let at = goal.at.returns c in
-    (complete ((at5 at.After-put_segments (at4 at.After-put_front-after_filter (at3 at.After-put_index-after_index (at2 at.After-put_front-after_lengths (at1 at.After-put_counts-after_counts)))))) refl).1
+    let left3 = at3 at.After-put_index-after_index (at2 at.After-put_front-after_lengths (at1 at.After-put_counts-after_counts)) in
+    (complete (at5 at.After-put_segments (at4 at.After-put_front-after_filter left3)) refl).1
