@@ -38,8 +38,8 @@ impl Duration {
     fn checked_mul(self, times: u16) -> Option<Duration>
         ensures { result ≡ product self times }
     {
-        let nanos = u64::from(self.nanos) * u64::from(times);
-        let whole = self.secs.checked_mul(u64::from(times))?;
+        let nanos = self.nanos as u64 * times as u64;
+        let whole = self.secs.checked_mul(times as u64)?;
         let secs = whole.checked_add(nanos / NANOS_PER_SEC)?;
         Some(Duration {
             secs,
@@ -81,7 +81,7 @@ fn deadline_at(base: u64, lifetime: Duration, tick: u128) -> Result<u16, Segment
     ensures { expiry_outcome result ≡ deadline_at base (nanos_of lifetime) tick }
 {
     let ticks = lifetime.as_nanos().div_ceil(tick);
-    let deadline = u128::from(base) + ticks;
+    let deadline = base as u128 + ticks;
     if deadline > MAX_EXPIRY_TICK {
         return Err(SegmentCacheBuildError::ExpiryOutOfRange);
     }
@@ -107,7 +107,7 @@ pub fn remaining_ttl(
     if expires_at == NEVER_EXPIRES {
         return Some(SegmentRemainingTtl::Never);
     }
-    if now_tick >= u64::from(expires_at) {
+    if now_tick >= (expires_at as u64) {
         return None;
     }
     let SegmentExpiry::Relative16 { tick } = expiry else {
