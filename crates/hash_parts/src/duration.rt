@@ -35,6 +35,7 @@ impl Duration {
     }
 
     // So many times this duration, where its seconds fit 64 bits.
+    #[tactic(auto, using(crate::proofs::Deadlines::secs_are, crate::proofs::Deadlines::nanos_are), unfolding(crate::specs::Duration::product))]
     fn checked_mul(self, times: u16) -> Option<Duration>
         ensures { result ≡ product self times }
     {
@@ -56,6 +57,7 @@ pub enum SegmentRemainingTtl {
 }
 
 // The tick at which a record lapses whose lifetime starts at tick now_tick.
+#[tactic(auto, unfolding(crate::specs::Duration::encoded_expiry))]
 pub fn encode_expiry_at_tick(
     expiry: SegmentExpiry,
     ttl: Option<Duration>,
@@ -76,6 +78,7 @@ pub fn encode_expiry_at_tick(
 }
 
 // The lifetime in ticks of so many nanoseconds, rounded up, after tick base.
+#[tactic(auto, using(crate::proofs::Deadlines::rounded_up), unfolding(crate::specs::Duration::deadline_at))]
 fn deadline_at(base: u64, lifetime: Duration, tick: u128) -> Result<u16, SegmentCacheBuildError>
     requires { 0 < tick }
     ensures { expiry_outcome result ≡ deadline_at base (nanos_of lifetime) tick }
@@ -89,6 +92,7 @@ fn deadline_at(base: u64, lifetime: Duration, tick: u128) -> Result<u16, Segment
 }
 
 // Whether a record with this deadline is live.
+#[tactic(auto, unfolding(crate::specs::Duration::lives_at))]
 pub const fn lives_at_tick(expires_at: u16, now_tick: u64) -> bool
     ensures { result ≡ lives_at expires_at now_tick }
 {
@@ -97,6 +101,7 @@ pub const fn lives_at_tick(expires_at: u16, now_tick: u64) -> bool
 
 // How long a record with this deadline still lives; nothing where it has lapsed, or where that is longer than the
 // largest duration.
+#[tactic(auto, unfolding(crate::specs::Duration::remaining))]
 pub fn remaining_ttl(
     expiry: SegmentExpiry,
     expires_at: u16,

@@ -10,6 +10,7 @@ pub const fn hash_tag(hash: u64) -> u64
 }
 
 // The first bucket of a hash.
+#[tactic(auto, using(crate::proofs::Products::first_bucket_below), unfolding(crate::specs::Hash::first_bucket))]
 pub const fn reduce_hash(hash: u64, buckets: usize) -> usize
     ensures { (result ≡ first_bucket hash buckets) × (result ≤ buckets - 1) }
 {
@@ -31,6 +32,7 @@ pub const fn packed_secondary_tag(tag: u64) -> u16
 }
 
 // The hash as the negative filter spreads it.
+#[tactic(auto, using(crate::proofs::Rotation::rotated_law), unfolding(crate::specs::Hash::mixed_hash))]
 pub const fn mixed_hash(hash: u64) -> u64
     ensures { result ≡ mixed_hash hash }
 {

@@ -23,6 +23,7 @@ pub const fn lowest_marked_byte(word: u64) -> usize
 }
 
 // A word without its lowest set bit, so marks without the lowest.
+#[tactic(auto, using(crate::proofs::LowestSet::cleared_none, crate::proofs::LowestSet::cleared_right))]
 pub const fn without_lowest_mark(word: u64) -> u64
     ensures { result ≡ without_lowest word }
 {
