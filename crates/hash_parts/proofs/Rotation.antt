@@ -1,8 +1,7 @@
 -- The library's rotation of 64 bits, by numbers. Assumes nothing.
-use Rattle.std.proofs.Common.{◌≡◌, ℕ, ◌+◌, ◌*◌, ◌/◌, ◌%◌, ◌^◌, ◌<◌, w64, ◌∙◌, arith}
+use Rattle.std.proofs.Common.{◌≡◌, ℕ, ◌*◌, ◌/◌, ◌%◌, ◌^◌, ◌<◌, w64, arith}
 use Rattle.std.proofs.lemmas.Nat.{or_shifted}
 use Rattle.std.specs.Int.{rotate_left}
-use Rattle.std.specs.Int.Bits.{bit_or}
 use Rattle.hash_parts.specs.Hash.{rotated}
 
 -- the lower 37 bits move up, the upper 27 come down, and they share none

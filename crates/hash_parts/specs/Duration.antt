@@ -10,7 +10,7 @@ use Rattle.hash_parts.specs.declared.setting.SegmentExpiry.{SegmentExpiry}
 use Rattle.hash_parts.specs.declared.setting.SegmentExpiry.TheVariants as setting
 use Rattle.hash_parts.specs.Outcome.{Outcome, accepted, refused}
 
--- Setting: "A duration is whole seconds (64 bits) and nanoseconds". Nanoseconds of a second or more count with their value.
+-- A duration is whole seconds, in 64 bits, and nanoseconds. Nanoseconds of a second or more count with their value.
 abbrev pub nanos_of : Duration → ℕ
 nanos_of d = d.secs * 1_000_000_000 + d.nanos
 
@@ -18,17 +18,16 @@ nanos_of d = d.secs * 1_000_000_000 + d.nanos
 abbrev pub ceil_div : ℕ → ℕ → ℕ
 ceil_div n m = (n + (m - 1)) / m
 
--- Setting: "Deadline: base tick plus lifetime divided by tick length, rounded up"; question 4: "Deadline at most 65,534? 6."
+-- "Deadline: base tick plus lifetime divided by tick length, rounded up"; past 65,534 it is refused.
 unfoldable pub deadline_at : ℕ → ℕ → ℕ → Outcome
 deadline_at base lifetime tick =
     cond (nat_le (base + ceil_div lifetime tick) 65534) (accepted (base + ceil_div lifetime tick)) (refused ExpiryOutOfRange)
 
--- Setting: "No lifetime is 65,535, never."
+-- "No lifetime is 65,535, never."
 abbrev pub never_expires : ℕ
 never_expires = 65535
 
--- question 4: "No lifetime where expiry is off? 5." A tick of no length is refused as in the Rust;
--- question 3 refuses it before.
+-- A lifetime where no deadlines are kept is refused, and a tick of no length as in the Rust; a set with such a tick is refused before.
 unfoldable pub encoded_expiry : SegmentExpiry → Option Duration → ℕ → Outcome
 encoded_expiry e None base = accepted never_expires
 encoded_expiry setting.None (Some lifetime) base = refused ExpiryDisabled
@@ -55,6 +54,6 @@ abbrev pub ticks_left : SegmentExpiry → ℕ → Option SegmentRemainingTtl
 ticks_left setting.None n = Some Never
 ticks_left (setting.Relative16 tick) n = option_map Finite (product tick n)
 
--- Answer: "the remaining time: never, a duration, or none"
+-- "the remaining time: never, a duration, or none"
 unfoldable pub remaining : SegmentExpiry → ℕ → ℕ → Option SegmentRemainingTtl
 remaining e deadline tick = cond (deadline == never_expires) (Some Never) (cond (nat_le deadline tick) None (ticks_left e (deadline - tick)))

@@ -12,8 +12,8 @@ const MAX_EXPIRY_TICK: u128 = 65_534;
 
 const NANOS_PER_SEC: u64 = 1_000_000_000;
 
-// Not the library's, which carries a second or more of nanoseconds into the seconds and takes no more than they hold:
-// here each pair of numbers is a duration.
+// Not the library's, which takes a second or more in the nanoseconds only where the seconds hold it too: here every
+// pair of numbers is a duration.
 #[derive(Clone, Copy, Debug, PartialEq, Eq)]
 pub struct Duration {
     pub secs: u64,
@@ -49,7 +49,7 @@ impl Duration {
     }
 }
 
-// How long a record still lives: for ever, or for a while.
+// How long a record still lives, for ever or for a while: the Rust's own type, plainer than an Option in an Option.
 #[derive(Clone, Copy, Debug, PartialEq, Eq)]
 pub enum SegmentRemainingTtl {
     Never,

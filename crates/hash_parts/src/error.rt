@@ -56,28 +56,22 @@ impl SegmentCacheBuildError {
 impl fmt::Display for SegmentCacheBuildError {
     fn fmt<W: fmt::Write>(&self, f: &mut fmt::Formatter<W>) -> fmt::Result {
         f.write_str(match self {
-            SegmentCacheBuildError::InvalidBucketOccupancy =>
-                "a bucket is to hold from one to seven records",
-            SegmentCacheBuildError::ZeroExpiryTick => "a tick of no length counts no deadlines",
-            SegmentCacheBuildError::CapacityOverflow =>
-                "the number of records or bytes does not fit",
-            SegmentCacheBuildError::DuplicateKey => "the key is in the set already",
-            SegmentCacheBuildError::ExpiryDisabled =>
-                "the set keeps no deadlines, so a record can have no lifetime",
-            SegmentCacheBuildError::ExpiryOutOfRange => "the deadline is past the last tick",
-            SegmentCacheBuildError::ArenaTooLarge => "the records need too many segments",
-            SegmentCacheBuildError::InvalidSegmentTarget =>
-                "the segment target is zero or too large",
-            SegmentCacheBuildError::InvalidNanoseconds => "the nanoseconds make a second or more",
-            SegmentCacheBuildError::AreaTooShort => "an area has the wrong length",
-            SegmentCacheBuildError::InvalidState =>
-                "the state and the areas do not belong together",
-            SegmentCacheBuildError::RecordMismatch => "the location holds another record",
-            SegmentCacheBuildError::FileFraming =>
-                "the file's blocks do not end where the file does",
-            SegmentCacheBuildError::FileKinds => "the file's blocks are not those of a set",
-            SegmentCacheBuildError::FileContent => "the file's numbers do not fit together",
-            SegmentCacheBuildError::FieldTooLong => "a key or value is too long for its columns",
+            Self::InvalidBucketOccupancy => "a bucket is to hold from one to seven records",
+            Self::ZeroExpiryTick => "a tick of no length counts no deadlines",
+            Self::CapacityOverflow => "the number of records or bytes does not fit",
+            Self::DuplicateKey => "the key is in the set already",
+            Self::ExpiryDisabled => "the set keeps no deadlines, so a record can have no lifetime",
+            Self::ExpiryOutOfRange => "the deadline is past the last tick",
+            Self::ArenaTooLarge => "the records need too many segments",
+            Self::InvalidSegmentTarget => "the segment target is zero or too large",
+            Self::InvalidNanoseconds => "the nanoseconds make a second or more",
+            Self::AreaTooShort => "an area has the wrong length",
+            Self::InvalidState => "the state and the areas do not belong together",
+            Self::RecordMismatch => "the location holds another record",
+            Self::FileFraming => "the file's blocks do not end where the file does",
+            Self::FileKinds => "the file's blocks are not those of a set",
+            Self::FileContent => "the file's numbers do not fit together",
+            Self::FieldTooLong => "a key or value is too long for its columns",
         })
     }
 }

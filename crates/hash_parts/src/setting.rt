@@ -6,7 +6,7 @@ use crate::duration::Duration;
 
 const DEFAULT_TARGET_OCCUPIED_SLOTS: u8 = 7;
 
-// Whether records keep a deadline, and the length of the ticks that it counts.
+// Whether records keep a deadline, and the length of the ticks that it counts: the Rust's own public type.
 #[derive(Clone, Copy, Debug, PartialEq, Eq)]
 pub enum SegmentExpiry {
     // Records keep no deadline.
