@@ -15,14 +15,13 @@ use Rattle.hash_parts.specs.declared.error.SegmentCacheBuildError.{SegmentCacheB
 use Rattle.hash_parts.specs.declared.error.SegmentCacheBuildError.TheVariants.{CapacityOverflow}
 use Rattle.hash_parts.proofs.Refusals.{refusal_pos}
 use Rattle.hash_parts.specs.declared.setting.SegmentExpiry.{SegmentExpiry}
-use Rattle.hash_parts.specs.declared.setting.SegmentExpiry.TheVariants.{None, Relative16}
+use Rattle.hash_parts.specs.declared.setting.SegmentExpiry.TheVariants as setting
 use Rattle.records.specs.Area.{over}
 use Rattle.records.specs.Compare.{short_prefixes}
 use Rattle.records.specs.Record.{deadline_bytes, record_bytes, record_size, encoded_size, deadline_in, record_of, after_value, after_key, record_at}
 use Rattle.records.specs.Uleb128.{uleb128}
 use Rattle.records.specs.Varint.{read_varint}
-use Rattle.records.specs.declared.record.RecordAnswer.TheVariants.{Read, Unreadable}
-use Rattle.records.specs.declared.varint.Varint.TheVariants as varint
+use Rattle.std.specs.Prelude.{Some, None}
 use Rattle.records.proofs.Prefix.{read_one}
 
 -- ---- prefixes of one byte
@@ -42,14 +41,14 @@ prefixes_short s at = go (leb (at + 2) (length s)) refl (ltb (get_or s at 0) 128
 -- ---- the deadline's bytes
 
 pub deadline_length : (e : SegmentExpiry) (d : ℕ) → length (deadline_bytes e d) ≡ bytes_per_record e
-deadline_length None d = refl
-deadline_length (Relative16 tick) d = refl
+deadline_length setting.None d = refl
+deadline_length (setting.Relative16 tick) d = refl
 
 -- what a set with expiry asks for, and writes
-pub deadline_room : (e : SegmentExpiry) (tick : Duration) (n : ℕ) → e ≡ Relative16 tick → bytes_per_record e ≤ n → 2 ≤ n
+pub deadline_room : (e : SegmentExpiry) (tick : Duration) (n : ℕ) → e ≡ setting.Relative16 tick → bytes_per_record e ≤ n → 2 ≤ n
 deadline_room e tick n q h = rw q at h
 
-pub deadline_set : (e : SegmentExpiry) (tick : Duration) (d : ℕ) (area : List ℕ) → e ≡ Relative16 tick → 2 ≤ length area
+pub deadline_set : (e : SegmentExpiry) (tick : Duration) (d : ℕ) (area : List ℕ) → e ≡ setting.Relative16 tick → 2 ≤ length area
     → (2 ≡ length (deadline_bytes e d)) × (set (set area 0 (d % 256)) 1 (d / 256) ≡ over (deadline_bytes e d) area)
 deadline_set e tick d area q h = rw q (refl, two area h)
   where
@@ -58,7 +57,7 @@ deadline_set e tick d area q h = rw q (refl, two area h)
     two (a ∷ []) h = absurd (omega arith)
     two (a ∷ b ∷ l) h = refl
 
-pub deadline_get : (e : SegmentExpiry) (tick : Duration) (s : List ℕ) (at a b : ℕ) → e ≡ Relative16 tick → a ≡ get_or s at 0 → b ≡ get_or s (at + 1) 0 → a + b * 256 ≡ deadline_in e s at
+pub deadline_get : (e : SegmentExpiry) (tick : Duration) (s : List ℕ) (at a b : ℕ) → e ≡ setting.Relative16 tick → a ≡ get_or s at 0 → b ≡ get_or s (at + 1) 0 → a + b * 256 ≡ deadline_in e s at
 deadline_get e tick s at a b q x y = rw q (ap₂ (λ (m n : ℕ). m + n * 256) x y)
 
 -- ---- sizes
@@ -97,12 +96,12 @@ size_refused e k v x f = go (ltb (record_size e k v) (2 ^ 64)) refl f
 
 -- ---- the record at a position whose prefixes were read
 
-pub of_out : (e : SegmentExpiry) (s : List ℕ) (at key value q w : ℕ) → w ≡ bytes_per_record e → length s < q + w + key + value → Unreadable ≡ record_of e s at key value q
+pub of_out : (e : SegmentExpiry) (s : List ℕ) (at key value q w : ℕ) → w ≡ bytes_per_record e → length s < q + w + key + value → None ≡ record_of e s at key value q
 unfolding record_of
 of_out e s at key value q w x h = rw (← x, lt-leb (q + w + key + value) (length s) h)
 
 pub of_in : (e : SegmentExpiry) (s : List ℕ) (at key value q w d : ℕ) → w ≡ bytes_per_record e → d ≡ deadline_in e s q → q + w + key + value ≤ length s
-    → Read record {
+    → Some record {
       location = at;
       key_offset = q + w - at;
       key = record { at = q + w; len = key };
@@ -117,16 +116,16 @@ of_in e s at key value q w d x y h = rw (← x, ← y, le-leb (q + w + key + val
 -- ---- the record at a position, by what its prefixes read
 
 module _ (e : SegmentExpiry) (s : List ℕ) (at : ℕ) where
-  pub no_key : read_varint s at ≡ varint.Unreadable → record_at e s at ≡ Unreadable
+  pub no_key : read_varint s at ≡ None → record_at e s at ≡ None
   unfolding record_at
   no_key f = ap (after_key e s at) f
 
-  module _ (key p : ℕ) (f : read_varint s at ≡ varint.Value key p) where
-    pub no_value : read_varint s p ≡ varint.Unreadable → record_at e s at ≡ Unreadable
+  module _ (key p : ℕ) (f : read_varint s at ≡ Some (key, p)) where
+    pub no_value : read_varint s p ≡ None → record_at e s at ≡ None
     unfolding record_at
     no_value g = ap (after_key e s at) f ∙ ap (after_value e s at key) g
 
-    pub at_is : (value q : ℕ) → read_varint s p ≡ varint.Value value q → record_at e s at ≡ record_of e s at key value q
+    pub at_is : (value q : ℕ) → read_varint s p ≡ Some (value, q) → record_at e s at ≡ record_of e s at key value q
     unfolding record_at
     at_is value q g = ap (after_key e s at) f ∙ ap (after_value e s at key) g
 

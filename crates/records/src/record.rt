@@ -6,7 +6,7 @@ ghost use Rattle.records.specs.Compare.{short_prefixes, word_in};
 ghost use Rattle.records.specs.Record.{deadline_bytes, deadline_in, encoded_size, record_at, record_bytes, record_of, size_outcome};
 ghost use Rattle.records.specs.Uleb128.{uleb128};
 
-use crate::varint::{Varint, put_varint, read_varint, varint_bytes};
+use crate::varint::{put_varint, read_varint, varint_bytes};
 use hash_parts::duration::NEVER_EXPIRES;
 use hash_parts::error::SegmentCacheBuildError;
 use hash_parts::setting::SegmentExpiry;
@@ -31,34 +31,22 @@ pub struct RecordRef {
     pub expires_at: u16,
 }
 
-#[derive(Clone, Copy)]
-pub enum RecordAnswer {
-    Read(RecordRef),
-    Unreadable,
-}
-
-#[derive(Clone, Copy)]
-pub enum SizeAnswer {
-    Bytes(usize),
-    Refused(SegmentCacheBuildError),
-}
-
 // How many bytes a record takes whose key and value have these lengths.
 pub fn encoded_record_bytes(
     expiry: SegmentExpiry,
     key_bytes: usize,
     value_bytes: usize,
-) -> SizeAnswer
+) -> Result<usize, SegmentCacheBuildError>
     ensures { size_outcome result ≡ encoded_size expiry key_bytes value_bytes }
 {
     let header = varint_bytes(key_bytes) + varint_bytes(value_bytes) + expiry.bytes_per_record();
     if key_bytes > usize::MAX - header {
-        return SizeAnswer::Refused(SegmentCacheBuildError::CapacityOverflow);
+        return Err(SegmentCacheBuildError::CapacityOverflow);
     }
     if value_bytes > usize::MAX - header - key_bytes {
-        return SizeAnswer::Refused(SegmentCacheBuildError::CapacityOverflow);
+        return Err(SegmentCacheBuildError::CapacityOverflow);
     }
-    SizeAnswer::Bytes(header + key_bytes + value_bytes)
+    Ok(header + key_bytes + value_bytes)
 }
 
 // Writes a record to the front of an arena's rest, which is lent from the first free byte, and says
@@ -72,7 +60,7 @@ pub fn append_record(
 ) -> usize
     ensures { (result ≡ (written (record_bytes expiry key.now value.now expires_at) rest.old).answer.value) × (rest.new ≡ (written (record_bytes expiry key.now value.now expires_at) rest.old).area) }
 {
-    let SizeAnswer::Bytes(size) = encoded_record_bytes(expiry, key.len(), value.len()) else {
+    let Ok(size) = encoded_record_bytes(expiry, key.len(), value.len()) else {
         return 0;
     };
     if rest.len() < size {
@@ -140,7 +128,7 @@ fn copy_over(out: &mut [u8], bytes: &[u8])
 }
 
 // The record at a position. Most prefixes take one byte: where both do they are read at once.
-pub fn record_at(records: &[u8], expiry: SegmentExpiry, location: usize) -> RecordAnswer
+pub fn record_at(records: &[u8], expiry: SegmentExpiry, location: usize) -> Option<RecordRef>
     ensures { result ≡ record_at expiry records.now location }
 {
     if one_byte_prefixes(records, location) {
@@ -174,15 +162,11 @@ fn one_byte_prefixes(records: &[u8], location: usize) -> bool
 }
 
 // The same with prefixes of any length.
-fn record_at_prefixes(records: &[u8], expiry: SegmentExpiry, location: usize) -> RecordAnswer
+fn record_at_prefixes(records: &[u8], expiry: SegmentExpiry, location: usize) -> Option<RecordRef>
     ensures { result ≡ record_at expiry records.now location }
 {
-    let Varint::Value(key_len, key_prefix) = read_varint(records, location) else {
-        return RecordAnswer::Unreadable;
-    };
-    let Varint::Value(value_len, cursor) = read_varint(records, key_prefix) else {
-        return RecordAnswer::Unreadable;
-    };
+    let (key_len, key_prefix) = read_varint(records, location)?;
+    let (value_len, cursor) = read_varint(records, key_prefix)?;
     record_at_lengths(records, expiry, location, cursor, key_len, value_len)
 }
 
@@ -195,24 +179,24 @@ fn record_at_lengths(
     cursor: usize,
     key_len: usize,
     value_len: usize,
-) -> RecordAnswer
+) -> Option<RecordRef>
     requires { (location ≤ cursor) × (cursor ≤ length records.now) }
     ensures { result ≡ record_of expiry records.now location key_len value_len cursor }
 {
     let len = records.len();
     let width = expiry.bytes_per_record();
     if len - cursor < width {
-        return RecordAnswer::Unreadable;
+        return None;
     }
     let key_begin = cursor + width;
     if len - key_begin < key_len {
-        return RecordAnswer::Unreadable;
+        return None;
     }
     let key_end = key_begin + key_len;
     if len - key_end < value_len {
-        return RecordAnswer::Unreadable;
+        return None;
     }
-    RecordAnswer::Read(RecordRef {
+    Some(RecordRef {
         location,
         key_offset: key_begin - location,
         key: Span {

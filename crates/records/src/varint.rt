@@ -6,20 +6,6 @@ ghost use Rattle.records.specs.Varint.{read_varint};
 
 use hash_parts::error::SegmentCacheBuildError;
 
-// What reading a number finds: the number, and the position after it.
-#[derive(Clone, Copy)]
-pub enum Varint {
-    Value(usize, usize),
-    Unreadable,
-}
-
-// What writing to the front of an area answers: how many bytes were written.
-#[derive(Clone, Copy)]
-pub enum WriteAnswer {
-    Written(usize),
-    Refused(SegmentCacheBuildError),
-}
-
 pub fn varint_bytes(value: usize) -> usize
     ensures { (result ≡ length (uleb128 value)) × (result ≤ 10) }
 {
@@ -32,13 +18,14 @@ pub fn varint_bytes(value: usize) -> usize
     bytes
 }
 
-pub fn write_varint(output: &mut [u8], value: usize) -> WriteAnswer
+// Writes a number to the front of an area, and says how many bytes it wrote.
+pub fn write_varint(output: &mut [u8], value: usize) -> Result<usize, SegmentCacheBuildError>
     ensures { write_result result output.new ≡ written (uleb128 value) output.old }
 {
     if output.len() < varint_bytes(value) {
-        return WriteAnswer::Refused(SegmentCacheBuildError::AreaTooShort);
+        return Err(SegmentCacheBuildError::AreaTooShort);
     }
-    WriteAnswer::Written(put_varint(output, value))
+    Ok(put_varint(output, value))
 }
 
 // Writes a number where there is room for it.
@@ -64,8 +51,9 @@ fn wide(byte: u8) -> usize
     byte as usize
 }
 
+// The number that begins at a position, and the position after it.
 // Nine bytes of seven bits each cannot pass 64 bits; of the tenth only the lowest bit counts.
-pub fn read_varint(input: &[u8], cursor: usize) -> Varint
+pub fn read_varint(input: &[u8], cursor: usize) -> Option<(usize, usize)>
     ensures { result ≡ read_varint input.now cursor }
 {
     let mut at = cursor;
@@ -74,11 +62,11 @@ pub fn read_varint(input: &[u8], cursor: usize) -> Varint
     let mut left: usize = 9;
     while left > 0 {
         if at >= input.len() {
-            return Varint::Unreadable;
+            return None;
         }
         let byte = wide(input[at]);
         if byte < 128 {
-            return Varint::Value(value + byte * scale, at + 1);
+            return Some((value + byte * scale, at + 1));
         }
         value = value + (byte - 128) * scale;
         scale = scale * 128;
@@ -86,11 +74,11 @@ pub fn read_varint(input: &[u8], cursor: usize) -> Varint
         left -= 1;
     }
     if at >= input.len() {
-        return Varint::Unreadable;
+        return None;
     }
     let byte = wide(input[at]);
     if byte >= 128 {
-        return Varint::Unreadable;
+        return None;
     }
-    Varint::Value(value + (byte % 2) * 0x8000_0000_0000_0000, at + 1)
+    Some((value + (byte % 2) * 0x8000_0000_0000_0000, at + 1))
 }

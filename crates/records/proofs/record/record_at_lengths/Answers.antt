@@ -4,7 +4,7 @@ use Prim.Native.Nat.{◌+◌, ◌<◌}
 use native.Mathlib.Omega.{arith}
 use lib.ListN.{length}
 use Rattle.records.specs.Record.{record_of}
-use Rattle.records.specs.declared.record.RecordAnswer.TheVariants.{Unreadable}
+use Rattle.std.specs.Prelude.{None}
 use Rattle.records.proofs.Parts.{of_in, of_out}
 use Rattle.records.proofs.record.record_at_lengths.Goals as goal
 use Rattle.records.proofs.record.record_at_lengths.Goals.{After-bytes_per_record-width}
@@ -12,7 +12,7 @@ use Rattle.records.proofs.record.record_at_lengths.Goals.{After-bytes_per_record
 -- nothing is read where the record does not lie inside
 out : (c : After-bytes_per_record-width)
     → let a = c.args in length a.records.now < a.cursor + c.bytes_per_record-width.result + a.key_len + a.value_len
-    → Unreadable ≡ record_of a.expiry a.records.now a.location a.key_len a.value_len a.cursor
+    → None ≡ record_of a.expiry a.records.now a.location a.key_len a.value_len a.cursor
 out c h =
     let a = c.args in
     of_out a.expiry a.records.now a.location a.key_len a.value_len a.cursor c.bytes_per_record-width.result c.bytes_per_record-width.ensures.0 h
