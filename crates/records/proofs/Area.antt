@@ -11,6 +11,10 @@ use borrow.Rule.Slice.PartMut.{put_mid}
 use lib.Dec.{eqb}
 use lib.ListN.{length, get_or, take, drop, set, length-append, length-drop, drop_of_length-le, take-append-drop}
 use lib.Seq.{length-take-le, take_all, take_at, drop_at, drop-drop, set_at, drop-cons}
+use denote.Ref.{Bor}
+use Rattle.std.specs.Prelude.{Option, Some, None, unwrap_or}
+use Rattle.std.specs.Slice.{IsGetRangeResult}
+use Rattle.std.proofs.lemmas.Slice.{between_from_start}
 use Rattle.hash_parts.specs.Outcome.{accepted, refused}
 use Rattle.hash_parts.specs.declared.error.SegmentCacheBuildError.TheVariants.{AreaTooShort}
 use Rattle.hash_parts.specs.ZeroBytes.{bytes_of, number_of}
@@ -67,6 +71,15 @@ pub spanned_out : (arena : List ℕ) (span : Span) → length arena < span.at + 
 unfolding spanned
 spanned_out arena span h = rw (lt-leb (span.at + span.len) (length arena) h)
 
+-- what is got of the rest from the span's start on
+pub spanned_got : (arena : List ℕ) (span : Span) (rest : List ℕ) (none : Bor (List ℕ)) (got : Option (Bor (List ℕ))) → span.at ≤ length arena
+    → rest ≡ drop span.at arena → none.now ≡ [] → IsGetRangeResult rest 0 span.len got → (unwrap_or got none).now ≡ spanned arena span
+unfolding spanned
+spanned_got arena span rest none (Some x) h e z p =
+    let fits : span.at + span.len ≤ length arena = omega (arith, p.0.1, ap length e, length-drop span.at arena) in
+    p.0.2 ∙ between_from_start rest span.len ∙ ap (take span.len) e ∙ rw (le-leb (span.at + span.len) (length arena) fits)
+spanned_got arena span rest none None h e z p = z ∙ spanned_out arena span (omega (arith, p.0, ap length e, length-drop span.at arena))
+
 -- ---- writing piece by piece: out is the area after the bytes of `whole` before `left`, which end at a position
 
 pub record Writing (whole left area out : List ℕ) (at : ℕ) : Type 0 where
@@ -100,6 +113,16 @@ next {area = area} {at = at} s rest out' at' w e n f =
       list = f ∙ ap (λ (t : List ℕ). pasted at s t) w.list ∙ over_pasted w.done s area at w.count;
       short = w.short;
     }
+
+-- the same where the rest of the area is lent, and comes home with the piece written to its front
+pub fits_home : {whole left area out : List ℕ} {at : ℕ} (s rest : List ℕ) → Writing whole left area out at → left ≡ s ++ rest
+    → length s ≤ length (take (length out - at) (drop at out))
+fits_home {out = out} {at = at} s rest w e =
+    rw (take_all (length out - at) (drop at out) (le_of_eq (length-drop at out))) (omega (arith, length-drop at out, fits s rest w e))
+
+pub next_home : {whole left area out : List ℕ} {at : ℕ} (s rest home : List ℕ) (n : ℕ) → Writing whole left area out at → left ≡ s ++ rest → n ≡ length s
+    → home ≡ over s (take (length out - at) (drop at out)) → Writing whole rest area (put_mid at (length out - at) out home) (at + n)
+next_home {out = out} {at = at} s rest home n w e k f = next s rest _ (at + n) w e (ap (λ (m : ℕ). at + m) k) (part_home s out home at f)
 
 -- a byte more
 pub next_byte : {whole left area out : List ℕ} {at : ℕ} (b : ℕ) (rest : List ℕ) → Writing whole left area out at → left ≡ b ∷ rest → Writing whole rest area (set out at b) (at + 1)

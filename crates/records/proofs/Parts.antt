@@ -1,6 +1,6 @@
 -- Laws of the parts of a stored record: its size, the deadline's bytes, and what is read at a position by what its two prefixes say.
 -- Assumes nothing.
-use mathlib.Core.Path.{◌≡◌, refl, ap, ap₂, ◌∙◌}
+use mathlib.Core.Path.{◌≡◌, refl, sym, ap, ap₂, ◌∙◌}
 use mathlib.Core.Bool.{Bool, true, false, cond}
 use mathlib.Core.List.{List, [], ◌∷◌}
 use Prim.Native.Nat.{ℕ, ◌+◌, ◌*◌, ◌-◌, ◌/◌, ◌%◌, ◌^◌, ◌≤◌, ◌<◌}
@@ -18,10 +18,10 @@ use Rattle.hash_parts.specs.declared.setting.SegmentExpiry.{SegmentExpiry}
 use Rattle.hash_parts.specs.declared.setting.SegmentExpiry.TheVariants as setting
 use Rattle.records.specs.Area.{over}
 use Rattle.records.specs.Compare.{short_prefixes}
-use Rattle.records.specs.Record.{deadline_bytes, record_bytes, record_size, encoded_size, deadline_in, record_of, after_value, after_key, record_at}
+use Rattle.records.specs.Record.{deadline_bytes, record_bytes, record_size, size_outcome, encoded_size, deadline_in, record_of, after_value, after_key, record_at}
 use Rattle.records.specs.Uleb128.{uleb128}
 use Rattle.records.specs.Varint.{read_varint}
-use Rattle.std.specs.Prelude.{Some, None}
+use Rattle.std.specs.Prelude.{Option, Some, None, Ok, Err, SomeIff, ok_or}
 use Rattle.records.proofs.Prefix.{read_one}
 
 -- ---- prefixes of one byte
@@ -76,6 +76,23 @@ pub size_out : (e : SegmentExpiry) (k v a b w : ℕ) → a ≡ length (uleb128 k
     → refused CapacityOverflow ≡ encoded_size e k v
 unfolding encoded_size record_size
 size_out e k v a b w x y z h = rw (← x, ← y, ← z, le-ltb (a + b + w + k + v) (2 ^ 64) h)
+
+-- a sum that may overflow, with a refusal where it does
+pub sum_refused : (sum : Option ℕ) (P : Type 0) (v : ℕ) (e x : SegmentCacheBuildError) → SomeIff sum P v → ok_or sum e ≡ Err x → (¬ P) × (e ≡ x)
+sum_refused None P v e x n q = let same : e ≡ x = cc in (n, same)
+sum_refused (Some m) P v e x p q = cc
+
+pub sum_accepted : (sum : Option ℕ) (P : Type 0) (v n : ℕ) (e : SegmentCacheBuildError) → SomeIff sum P v → ok_or sum e ≡ Ok n → P × (n ≡ v)
+sum_accepted None P v n e p q = cc
+sum_accepted (Some m) P v n e p q = let same : m ≡ n = cc in (p.0, sym same ∙ p.1)
+
+-- the whole size, where all but the value is known to fit
+pub size_answer : (e : SegmentExpiry) (k v a b w at : ℕ) (sum : Option ℕ) → a ≡ length (uleb128 k) → b ≡ length (uleb128 v) → w ≡ bytes_per_record e
+    → at ≡ a + b + w + k → SomeIff sum (at + v < 2 ^ 64) (at + v) → size_outcome (ok_or sum CapacityOverflow) ≡ encoded_size e k v
+size_answer e k v a b w at None x y z f n = size_out e k v a b w x y z (omega (arith, n))
+size_answer e k v a b w at (Some s) x y z f p =
+    let g : s ≡ a + b + w + k + v = omega (arith, p.1) in
+    ap accepted g ∙ size_in_law e k v a b w x y z (omega (arith, p.0))
 
 -- an accepted size is the record's, and a refused one does not fit 64 bits
 pub size_accepted : (e : SegmentExpiry) (k v n : ℕ) → accepted n ≡ encoded_size e k v → n ≡ record_size e k v
