@@ -1,8 +1,7 @@
 // Stored records: key length, value length, the deadline where the set has one, key, value.
-ghost use Rattle.std.specs.Prelude.{◌≡◌, ◌+◌, ◌<◌, ◌≤◌, drop, get_or, length};
+ghost use Rattle.std.specs.Prelude.{◌≡◌, ◌+◌, ◌≤◌, length};
 ghost use Rattle.hash_parts.specs.Setting.{bytes_per_record};
-ghost use Rattle.records.specs.Area.{over, pasted, same_bytes, spanned, written};
-ghost use Rattle.records.specs.Compare.{short_prefixes, word_in};
+ghost use Rattle.records.specs.Area.{over, same_bytes, spanned, written};
 ghost use Rattle.records.specs.Record.{deadline_bytes, deadline_in, encoded_size, record_at, record_bytes, record_of, size_outcome};
 ghost use Rattle.records.specs.Uleb128.{uleb128};
 
@@ -168,59 +167,10 @@ impl Records<'_> {
     }
 }
 
-// Eight bytes at a time: what compiles to the load and compare of one word.
 pub fn same_bytes(a: &[u8], b: &[u8]) -> bool
     ensures { result ≡ same_bytes a.now b.now }
 {
-    if a.len() != b.len() {
-        return false;
-    }
-    let mut i = 0;
-    while a.len() - i >= 8 {
-        if word_at(a, i) != word_at(b, i) {
-            return false;
-        }
-        i += 8;
-    }
-    same_rest(a, b, i)
-}
-
-// Eight bytes as one number.
-fn word_at(bytes: &[u8], at: usize) -> u64
-    requires { at + 8 ≤ length bytes.now }
-    ensures { result ≡ word_in bytes.now at }
-{
-    byte_at(bytes, at)
-        + byte_at(bytes, at + 1) * 0x100
-        + byte_at(bytes, at + 2) * 0x1_0000
-        + byte_at(bytes, at + 3) * 0x100_0000
-        + byte_at(bytes, at + 4) * 0x1_0000_0000
-        + byte_at(bytes, at + 5) * 0x100_0000_0000
-        + byte_at(bytes, at + 6) * 0x1_0000_0000_0000
-        + byte_at(bytes, at + 7) * 0x100_0000_0000_0000
-}
-
-// A byte as a number that is known to be below 256, so that sums of bytes are known to fit.
-fn byte_at(bytes: &[u8], at: usize) -> u64
-    requires { at < length bytes.now }
-    ensures { (result ≡ get_or bytes.now at 0) × (result < 256) }
-{
-    bytes[at] as u64
-}
-
-// The bytes from a position on, one by one.
-fn same_rest(a: &[u8], b: &[u8], from: usize) -> bool
-    requires { length a.now ≡ length b.now }
-    ensures { result ≡ same_bytes (drop from a.now) (drop from b.now) }
-{
-    let mut i = from;
-    while i < a.len() {
-        if a[i] != b[i] {
-            return false;
-        }
-        i += 1;
-    }
-    true
+    a == b
 }
 
 // The bytes of a value, where they stand in the arena; no bytes for a span that leaves it.
