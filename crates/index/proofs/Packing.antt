@@ -1,5 +1,6 @@
 -- Packing a bucket. Assumes nothing.
 use Rattle.std.proofs.Common.{◌≡◌, ℕ, ◌+◌, ◌*◌, ◌/◌, ◌%◌, ◌^◌, ◌<◌, ◌≤◌, Bool, true, false, cond, eqb, List, [], ◌∷◌, ◌++◌, length, take, drop, set, sym, refl, ap, ◌∙◌, ap₂, append_assoc, add-one, arith, length-append, drop-drop, eq-eqb, ne_eqb}
+use Rattle.std.specs.Prelude.{Some, None}
 use mathlib.Core.List.{flat_map}
 use native.Mathlib.Numerals.{add-two, add-three, add-four, add_five, add_six}
 use lib.Seq.{sets-eq}
@@ -8,7 +9,6 @@ use Rattle.hash_parts.specs.ZeroBytes.{bytes_of, number_of}
 use Rattle.hash_parts.proofs.Bytes.{Bytes, bytes_append, bytes_of_law, length_bytes, bytes_number, number_small, number_bytes, number_two}
 use Rattle.records.specs.Area.{pasted}
 use Rattle.index.specs.Packed.{words_of, control_byte, control_word, reference_bytes, reference_words, packed_slot}
-use Rattle.index.specs.declared.slot.IndexSlot.TheVariants.{Empty, Used}
 use Rattle.index.specs.Word.{word_tag, word_stored}
 use Rattle.index.proofs.Bytes.{number_front, seven_words}
 
@@ -60,12 +60,12 @@ reference_used w {s = s} {l = l} n e f g =
 
 -- ---- a slot read back
 
-pub slot_empty : (control : ℕ) (bytes : List ℕ) → control % 128 ≡ 0 → Empty ≡ packed_slot control bytes
+pub slot_empty : (control : ℕ) (bytes : List ℕ) → control % 128 ≡ 0 → None ≡ packed_slot control bytes
 unfolding packed_slot
 slot_empty control bytes e = rw (eq-eqb (control % 128) 0 e)
 
 pub slot_used : (control : ℕ) {tag number : ℕ} {bytes : List ℕ} → Bytes bytes → tag ≡ control % 128 → (tag ≡ 0 → ⊥) → number ≡ number_of bytes
-    → Used (tag + 128 * (number % 0x1_0000)) (number / 0x1_0000) ≡ packed_slot control bytes
+    → Some (tag + 128 * (number % 0x1_0000), number / 0x1_0000) ≡ packed_slot control bytes
 unfolding packed_slot
 slot_used control {tag = tag} r e n f = rw (← e, ne_eqb tag 0 n, f, (number_front r).0, (number_front r).1)
 

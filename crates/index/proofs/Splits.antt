@@ -1,5 +1,6 @@
 -- Laws of splitting: the segment of a location, split words, the lengths, and what a split leaves. Assumes nothing.
 use Rattle.std.proofs.Common.{◌≡◌, ℕ, zero, suc, ◌+◌, ◌-◌, ◌*◌, ◌/◌, ◌^◌, ◌<◌, ◌≤◌, ◌⊎◌, List, [], ◌∷◌, ◌++◌, map, length, get_or, take, drop, set, sym, refl, ap, ◌∙◌, ap₂, inl, inr, not-suc-le-zero, add-one, arith, drop_of_length-le, length-take-le, drop-cons, get_or-take, eq-eqb, ne_eqb, le-leb}
+use Rattle.std.specs.Prelude.{Ok, Err, Result}
 use native.Mathlib.Decide.{dec_lt}
 use borrow.Author.Tests.{lt-leb}
 use Rattle.hash_parts.specs.declared.error.SegmentCacheBuildError.TheVariants.{ArenaTooLarge, AreaTooShort}
@@ -7,7 +8,6 @@ use Rattle.records.specs.Area.{over}
 use Rattle.index.specs.Word.{word_of, word_tag, word_stored}
 use Rattle.index.specs.Segments.{starts_of, lengths_of, segment_of, segmented, split_word, padded, split, split_by, split_result}
 use Rattle.index.specs.SegmentStarts.{Ascends, StartsIn}
-use Rattle.index.specs.declared.segments.SplitAnswer.TheVariants.{Segments, Refused}
 use Rattle.index.proofs.Filling.{over_padded_length, filled_back}
 use Rattle.index.proofs.Starts.{starts_ascend, starts_first}
 
@@ -128,7 +128,7 @@ module _ (area : List ℕ) (count i : ℕ) (starts : StartsIn area count) where
 -- ---- what a split leaves
 
 module _ (index : List ℕ) (buckets filled target : ℕ) (starts lengths : List ℕ) where
-  pub short_index : length index / 8 < buckets → split_result (Refused AreaTooShort) index starts lengths ≡ split index buckets filled target starts lengths
+  pub short_index : length index / 8 < buckets → split_result (Err AreaTooShort) index starts lengths ≡ split index buckets filled target starts lengths
   unfolding split
   short_index h = let s : length index < 8 * buckets = omega arith in simp (lt-leb (8 * buckets) (length index) s)
 
@@ -136,12 +136,12 @@ module _ (index : List ℕ) (buckets filled target : ℕ) (starts lengths : List
     words_in : 8 * buckets ≤ length index
     words_in = omega arith
 
-    pub short_starts : length starts < 256 → split_result (Refused AreaTooShort) index starts lengths ≡ split index buckets filled target starts lengths
+    pub short_starts : length starts < 256 → split_result (Err AreaTooShort) index starts lengths ≡ split index buckets filled target starts lengths
     unfolding split
     short_starts h = simp (le-leb (8 * buckets) (length index) words_in, lt-leb 256 (length starts) h)
 
     module _ (in_starts : 256 ≤ length starts) where
-      pub short_lengths : length lengths < 256 → split_result (Refused AreaTooShort) index starts lengths ≡ split index buckets filled target starts lengths
+      pub short_lengths : length lengths < 256 → split_result (Err AreaTooShort) index starts lengths ≡ split index buckets filled target starts lengths
       unfolding split
       short_lengths h = simp (le-leb (8 * buckets) (length index) words_in, le-leb 256 (length starts) in_starts, lt-leb 256 (length lengths) h)
 
@@ -155,7 +155,7 @@ module _ (index : List ℕ) (buckets filled target : ℕ) (starts lengths : List
 
         -- the starts area after the starts were written, and their count
         module _ (count : ℕ) (starts' : List ℕ) (counted : count ≡ length all_starts) (written : starts' ≡ over (padded all_starts) starts) where
-          pub split_refused : 256 < count → split_result (Refused ArenaTooLarge) index starts' lengths ≡ split index buckets filled target starts lengths
+          pub split_refused : 256 < count → split_result (Err ArenaTooLarge) index starts' lengths ≡ split index buckets filled target starts lengths
           split_refused h =
               let many : 256 < length all_starts = omega arith in
               sym (areas_long ∙ rw written (simp (lt-leb (length all_starts) 256 many)))
@@ -179,11 +179,11 @@ module _ (index : List ℕ) (buckets filled target : ℕ) (starts lengths : List
                 }
 
             module _ (lengths' : List ℕ) (measured : lengths' ≡ over (padded (lengths_of filled (take count starts'))) lengths) where
-              pub split_whole : filled ≤ target → split_result (Segments count) index starts' lengths' ≡ split index buckets filled target starts lengths
+              pub split_whole : filled ≤ target → split_result (Ok count) index starts' lengths' ≡ split index buckets filled target starts lengths
               split_whole h =
                   sym (areas_long ∙ rw (measured, starts_back, written, counted) (simp (le-leb (length all_starts) 256 few_starts, le-leb filled target h)))
 
               pub split_parts : target < filled → (index' : List ℕ) → index' ≡ map (split_word (take count starts')) (take (8 * buckets) index) ++ drop (8 * buckets) index
-                  → split_result (Segments count) index' starts' lengths' ≡ split index buckets filled target starts lengths
+                  → split_result (Ok count) index' starts' lengths' ≡ split index buckets filled target starts lengths
               split_parts h index' e =
                   sym (areas_long ∙ rw (e, measured, starts_back, written, counted) (simp (le-leb (length all_starts) 256 few_starts, lt-leb filled target h)))

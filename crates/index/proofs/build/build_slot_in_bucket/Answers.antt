@@ -1,7 +1,8 @@
 -- `build_slot_in_bucket` meets its contract: the slots left answer as the bucket does. Assumes nothing.
 use Rattle.std.proofs.Common.{◌≡◌, get_or, sym, ◌∙◌, mul_comm, arith}
+use Rattle.std.specs.Prelude.{Ok, Err}
+use Rattle.hash_parts.specs.declared.error.SegmentCacheBuildError.TheVariants.{CapacityOverflow}
 use Rattle.index.specs.Build.{holds_key, build_record}
-use Rattle.index.specs.declared.build.BuildSlot.TheVariants.{Full}
 use Rattle.index.proofs.Slots.{slot_vacant, slot_same, slot_passed, slot_end}
 use Rattle.index.proofs.build.build_slot_in_bucket.Goals as goal
 use Rattle.index.proofs.build.build_slot_in_bucket.Goals.{After-holds_key}
@@ -19,7 +20,7 @@ returns-then-word-eq0 c =
     let a = c.args in
     let t = holds_key (build_record a.expiry a.records.now) a.key.now a.tag in
     sym
-    (slot_vacant t a.index.now c.loop-left.left c.loop-left.slot Full
+    (slot_vacant t a.index.now c.loop-left.left c.loop-left.slot (Err CapacityOverflow)
     c.loop-left-test.true (omega arith) c.if-word-eq0.true)
     ∙ c.loop-left.invariant.1
 
@@ -28,7 +29,7 @@ returns-then-holds_key c =
     let a = c.args in
     let t = holds_key (build_record a.expiry a.records.now) a.key.now a.tag in
     sym
-    (slot_same t a.index.now c.loop-left.left c.loop-left.slot Full
+    (slot_same t a.index.now c.loop-left.left c.loop-left.slot (Err CapacityOverflow)
     c.loop-left-test.true (omega arith) c.if-word-eq0.false (held (goal.at.returns-then-holds_key c).After-holds_key ∙ c.if-holds_key.true))
     ∙ c.loop-left.invariant.1
 
@@ -38,7 +39,7 @@ loop-left-preserved c =
     let t = holds_key (build_record a.expiry a.records.now) a.key.now a.tag in (
       omega arith,
       sym
-          (slot_passed t a.index.now c.loop-left.left c.loop-left.slot Full
+          (slot_passed t a.index.now c.loop-left.left c.loop-left.slot (Err CapacityOverflow)
           c.loop-left-test.true (omega arith) c.if-word-eq0.false (held (goal.at.loop-left-preserved c).After-holds_key ∙ c.if-holds_key.false))
           ∙ c.loop-left.invariant.1,
     )
@@ -47,4 +48,4 @@ pub returns : goal.returns
 returns c =
     let a = c.args in
     let t = holds_key (build_record a.expiry a.records.now) a.key.now a.tag in
-    sym (slot_end t a.index.now c.loop-left.left c.loop-left.slot Full c.loop-left-test.false) ∙ c.loop-left.invariant.1
+    sym (slot_end t a.index.now c.loop-left.left c.loop-left.slot (Err CapacityOverflow) c.loop-left-test.false) ∙ c.loop-left.invariant.1

@@ -1,13 +1,14 @@
 -- What each turn of the loop keeps.
 use Rattle.std.proofs.Common.{◌≡◌, ◌+◌, ◌*◌}
+use Rattle.std.specs.Prelude.{Ok, Err}
+use Rattle.hash_parts.specs.declared.error.SegmentCacheBuildError.TheVariants.{CapacityOverflow}
 use Rattle.index.specs.Build.{never}
-use Rattle.index.specs.declared.build.BuildSlot.TheVariants.{Full}
 use Rattle.index.proofs.Slots.{slots_answer}
 use Rattle.index.proofs.build.empty_slot_in_bucket.Given as goal
 
 abbrev pub invariant-loop-left : goal.invariant-loop-left
 invariant-loop-left l =
-    (l.slot + l.left ≡ 8 * l.bucket + 8) × (slots_answer never l.index l.left l.slot Full ≡ slots_answer never l.index 8 (8 * l.bucket) Full)
+    (l.slot + l.left ≡ 8 * l.bucket + 8) × (slots_answer never l.index l.left l.slot (Err CapacityOverflow) ≡ slots_answer never l.index 8 (8 * l.bucket) (Err CapacityOverflow))
 
 abbrev pub decreases-loop-left : goal.decreases-loop-left
 decreases-loop-left l = l.left

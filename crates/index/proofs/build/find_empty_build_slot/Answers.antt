@@ -1,8 +1,9 @@
 -- `find_empty_build_slot` meets its contract: the buckets left answer as the whole walk does. Without buckets a hash's first bucket is 0, so buckets are bounded
 -- by `buckets - 1`. Assumes nothing.
 use Rattle.std.proofs.Common.{◌≡◌, sym, ap, ◌∙◌, arith}
+use Rattle.std.specs.Prelude.{Ok, Err}
+use Rattle.hash_parts.specs.declared.error.SegmentCacheBuildError.TheVariants.{CapacityOverflow}
 use Rattle.hash_parts.specs.Hash.{first_bucket}
-use Rattle.index.specs.declared.build.BuildSlot.TheVariants.{Full}
 use Rattle.index.specs.Build.{never, slot_outcome}
 use Rattle.index.proofs.Walks.{next_within}
 use Rattle.index.proofs.Slots.{slots_short, buckets_first, buckets_end, buckets_on, buckets_found_law}
@@ -17,13 +18,13 @@ loop-left-init c =
     let e : c.reduce_hash-bucket.result ≡ first_bucket a.hash a.buckets = c.reduce_hash-bucket.ensures.0 in
     (c.reduce_hash-bucket.ensures.1, omega arith, rw e (buckets_first never a.index.now a.buckets a.hash (omega arith) (omega arith)))
 
--- the arm is left by the variants 0 and 1, and `Full` is the variant 2
+-- the arm is left by the variants 0 and 1, and `(Err CapacityOverflow)` is the variant 2
 pub returns-in_default : goal.returns-in_default
 returns-in_default c =
     let a = c.args in
     let r = c.empty_slot_in_bucket-found.result in
     let e = c.empty_slot_in_bucket-found.ensures in
-    let other : r ≡ Full → ⊥ = c.in_default.not-Full in
+    let other : r ≡ (Err CapacityOverflow) → ⊥ = c.in_default.not-Full in
     ap slot_outcome
     (e
     ∙ sym (buckets_found_law never a.index.now a.buckets c.loop-left.left c.loop-left.bucket

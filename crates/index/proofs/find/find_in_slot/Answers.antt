@@ -1,13 +1,14 @@
 -- `find_in_slot` meets its contract, case by case. Assumes nothing.
 use Rattle.std.proofs.Common.{ℕ, List, sym, ap, ◌∙◌}
+use Rattle.std.specs.Prelude.{Option, Some, None}
+use Rattle.records.specs.declared.record.RecordRef.{RecordRef}
 use Rattle.records.specs.Area.{same_bytes}
-use Rattle.records.specs.declared.record.RecordAnswer.{RecordAnswer}
 use Rattle.index.specs.View.{record_in}
 use Rattle.index.proofs.Finds.{slot_empty, slot_other, slot_broken, slot_match, slot_differs}
 use Rattle.index.proofs.find.find_in_slot.Goals as goal
 use Rattle.index.proofs.find.find_in_slot.Goals.{Start}
 
-abbrev reads : Start → ℕ → RecordAnswer
+abbrev reads : Start → ℕ → Option RecordRef
 reads s =
     let a = s.args in
     record_in a.view a.arena.now a.starts.now a.lengths.now
