@@ -1,8 +1,7 @@
 -- What a lookup makes of the slots of its walk is the first entry of its key in them: in both layouts, with the filter and the early stop. Assumes nothing.
 use Rattle.std.proofs.Common.{◌≡◌, ℕ, suc, ◌+◌, ◌*◌, ◌<◌, ◌≤◌, Bool, true, false, cond, not, eqb, List, [], ◌∷◌, ◌++◌, length, drop, sym, refl, ap, ◌∙◌, arith, eqb-true}
-use Rattle.std.specs.Prelude.{Some, None, Option}
-use mathlib.Core.Option.{map}
-use mathlib.Core.List.{flatten, head?, Forall₂}
+use Rattle.std.specs.Prelude.{Some, None, Option, option_map, slice_get}
+use mathlib.Core.List.{flatten, Forall₂}
 use lib.Seq.{drop-append-add}
 use Rattle.records.specs.Record.{Stored, contents}
 use Rattle.index.specs.Find.{ends_at, Look, empty, other, match, scan, sweep, has_empty, ended, in_bucket, followed, found}
@@ -38,7 +37,7 @@ module _ {E : Type 0} (stored : E → Stored) (arena k : List ℕ) where
 
   -- an answer is the first entry of the key in the slots d
   abbrev pub IsFirst : Option FoundRecord → List (Option E) → Type 0
-  IsFirst a d = found_stored arena a ≡ map stored (head? (hits has d))
+  IsFirst a d = found_stored arena a ≡ option_map stored (slice_get (hits has d) 0)
 
   match_first : (x : FoundRecord) (e : E) (d : List (Option E)) → has e ≡ true → contents arena (Some x.entry) ≡ Some (stored e) → IsFirst (Some x) (Some e ∷ d)
   match_first x e d h v = rw h v

@@ -1,8 +1,7 @@
 -- A lookup in a finished index finds the first entry of its key, and nothing where there is None. Assumes nothing.
 use Rattle.std.proofs.Common.{◌≡◌, ℕ, zero, suc, ◌+◌, ◌-◌, ◌*◌, ◌%◌, ◌^◌, ◌<◌, ◌≤◌, Bool, true, false, cond, eqb, List, [], ◌∷◌, length, take, drop, sym, refl, ap, ◌∙◌, arith, length-take, take_all, drop-drop, le-leb}
-use Rattle.std.specs.Prelude.{Option, Some, None}
-use mathlib.Core.Option.{map}
-use mathlib.Core.List.{head?, Forall₂}
+use Rattle.std.specs.Prelude.{Option, Some, None, option_map, slice_get}
+use mathlib.Core.List.{Forall₂}
 use borrow.Author.Tests.{eqb-false}
 use Rattle.hash_parts.specs.Hash.{tag_of, first_bucket}
 use Rattle.hash_parts.proofs.Products.{first_bucket_below}
@@ -91,14 +90,14 @@ module _ {E : Type 0} {stored : E → Stored} {H : List ℕ → ℕ} {packed : B
     (long : 8 * buckets ≤ length index) (held : (l : ℕ) (e : E) → Holds l e → stored_in view arena starts lengths l ≡ Some (stored e))
     (k : List ℕ) (h : ℕ) (hash : h ≡ H k) (bound : h < 2 ^ 64) where
   -- the answer has key, value and deadline of the first entry of the key
-  pub find_first : found_stored arena (find_in view packed index buckets filter words starts lengths arena k h) ≡ map stored (head? (only (keyed stored k) r))
+  pub find_first : found_stored arena (find_in view packed index buckets filter words starts lengths arena k h) ≡ option_map stored (slice_get (only (keyed stored k) r) 0)
   unfolding find_in
   find_first =
       simp (le-leb _ _ long)
       (walk_first stored arena k packed (filter_has filter words h) _ t buckets x.size sees 0 (walk_below buckets (first_bucket h buckets) (first_bucket_below h buckets bound))
       (ap (λ (l : List (Option E)). hits (keyed stored k) (past l)) walk ∙ x.placed.front k) denied
-      ∙ ap (λ (l : List (Option E)). map stored (head? (hits (keyed stored k) l))) walk
-      ∙ ap (λ (l : List E). map stored (head? l)) (x.placed.whole k))
+      ∙ ap (λ (l : List (Option E)). option_map stored (slice_get (hits (keyed stored k) l) 0)) walk
+      ∙ ap (λ (l : List E). option_map stored (slice_get l 0)) (x.placed.whole k))
     where
       t : List (Option E)
       t = x.table
@@ -128,7 +127,7 @@ module _ {E : Type 0} {stored : E → Stored} {H : List ℕ → ℕ} {packed : B
 
   -- nothing, where no entry has the key
   pub find_nothing : only (keyed stored k) r ≡ [] → find_in view packed index buckets filter words starts lengths arena k h ≡ None
-  find_nothing none_has = go _ (find_first ∙ ap (λ (l : List E). map stored (head? l)) none_has)
+  find_nothing none_has = go _ (find_first ∙ ap (λ (l : List E). option_map stored (slice_get l 0)) none_has)
     where
       go : (a : Option FoundRecord) → found_stored arena a ≡ None → a ≡ None
       go None f = refl
@@ -137,7 +136,7 @@ module _ {E : Type 0} {stored : E → Stored} {H : List ℕ → ℕ} {packed : B
   -- else a record of the first that has it
   pub find_found : {e : E} {l : List E} → only (keyed stored k) r ≡ e ∷ l
       → (y : FoundRecord) × (find_in view packed index buckets filter words starts lengths arena k h ≡ Some y) × (contents arena (Some y.entry) ≡ Some (stored e))
-  find_found {e} {l} first = go _ refl (find_first ∙ ap (λ (m : List E). map stored (head? m)) first)
+  find_found {e} {l} first = go _ refl (find_first ∙ ap (λ (m : List E). option_map stored (slice_get m 0)) first)
     where
       answer : Option FoundRecord
       answer = find_in view packed index buckets filter words starts lengths arena k h

@@ -5,6 +5,7 @@ use Rattle.hash_parts.specs.declared.error.SegmentCacheBuildError.TheVariants.{C
 use borrow.Author.Tests.{lt-leb}
 use Rattle.hash_parts.specs.Hash.{first_bucket}
 use Rattle.hash_parts.specs.declared.setting.SegmentExpiry.{SegmentExpiry}
+use Rattle.hash_parts.proofs.Refusals.{refusal_pos}
 use Rattle.records.specs.Area.{same_bytes, spanned}
 use Rattle.records.specs.Record.{record_at, stored_at, contents}
 use Rattle.records.specs.declared.record.RecordRef.{RecordRef}
@@ -18,8 +19,7 @@ use Rattle.index.proofs.Walks.{part_cons}
 -- a slot that was found
 pub slot_accepted : (s : SlotAnswer) → (slot_outcome s).number ≡ 0 → s ≡ Ok (slot_outcome s).value
 slot_accepted (Ok s) e = refl
-slot_accepted (Err DuplicateKey) e = absurd (omega (arith, e))
-slot_accepted (Err CapacityOverflow) e = absurd (omega (arith, e))
+slot_accepted (Err r) e = absurd (omega (arith, e, refusal_pos r))
 
 -- ---- a word that holds the key
 
@@ -84,21 +84,12 @@ module _ (taken : ℕ → Bool) (index : List ℕ) (left slot : ℕ) (after : Sl
   unfolding looks searched
   slot_end z = let e : left ≡ 0 = omega arith in rw e
 
--- ---- a bucket's answer is the answer, unless all its slots are passed over
-
-pub searched_on : (b : List PushLook) (after : SlotAnswer) → searched b (Err CapacityOverflow) ≡ (Err CapacityOverflow) → searched b after ≡ after
-unfolding searched
-searched_on [] after e = refl
-searched_on (vacant i ∷ b) after e = absurd (let z : ◌≡◌ {A = ℕ} 0 1 = cc in omega arith)
-searched_on (same ∷ b) after e = absurd (let z : ◌≡◌ {A = ℕ} 0 1 = cc in omega arith)
-searched_on (passed ∷ b) after e = searched_on b after e
-
-pub searched_ends : (b : List PushLook) (after : SlotAnswer) → (searched b (Err CapacityOverflow) ≡ (Err CapacityOverflow) → ⊥) → searched b after ≡ searched b (Err CapacityOverflow)
-unfolding searched
-searched_ends [] after n = absurd (n refl)
-searched_ends (vacant i ∷ b) after n = refl
-searched_ends (same ∷ b) after n = refl
-searched_ends (passed ∷ b) after n = searched_ends b after n
+pub slots_whole : (taken : ℕ → Bool) (index : List ℕ) (bucket : ℕ) (after : SlotAnswer) → 8 * bucket + 8 ≤ length index
+    → slots_answer taken index (8 * bucket + 8 - bucket * 8) (bucket * 8) after ≡ slots_answer taken index 8 (8 * bucket) after
+slots_whole taken index bucket after h =
+    let e : bucket * 8 ≡ 8 * bucket = omega arith in
+    let n : 8 * bucket + 8 - 8 * bucket ≡ 8 = omega arith in
+    rw (e, n)
 
 -- ---- the loop over the buckets
 
@@ -139,8 +130,9 @@ module _ (taken : ℕ → Bool) (index : List ℕ) (buckets : ℕ) where
     unfolding buckets_answer searched_all
     buckets_step = ap (searched_all (bucket_looks taken index)) (around_step left bucket buckets some_left)
 
-    pub buckets_on : bucket_answer taken index bucket (Err CapacityOverflow) ≡ (Err CapacityOverflow) → buckets_answer taken index buckets left bucket ≡ rest
-    buckets_on e = buckets_step ∙ searched_on (bucket_looks taken index bucket) rest e
+    -- where the bucket's slots are all passed over, and where they are not
+    pub buckets_on : bucket_answer taken index bucket rest ≡ rest → buckets_answer taken index buckets left bucket ≡ rest
+    buckets_on e = buckets_step ∙ e
 
-    pub buckets_found_law : (bucket_answer taken index bucket (Err CapacityOverflow) ≡ (Err CapacityOverflow) → ⊥) → buckets_answer taken index buckets left bucket ≡ bucket_answer taken index bucket (Err CapacityOverflow)
-    buckets_found_law n = buckets_step ∙ searched_ends (bucket_looks taken index bucket) rest n
+    pub buckets_found_law : (found : SlotAnswer) → bucket_answer taken index bucket rest ≡ found → buckets_answer taken index buckets left bucket ≡ found
+    buckets_found_law found e = buckets_step ∙ e

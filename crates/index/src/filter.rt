@@ -107,7 +107,7 @@ pub fn mark_displaced(filter: &mut [u64], words: usize, hash: u64, slot: usize, 
 impl NegativeFilter<'_> {
     // Whether a hash may have been marked. Without words every hash may.
     pub fn may_contain(self, hash: u64) -> bool
-        ensures { result ≡ filter_has self.words.now self.count hash }
+        ensures { result ≡ filter_has self.entry.words.now self.entry.count hash }
     {
         if self.count == 0 {
             return true;

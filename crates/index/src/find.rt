@@ -58,7 +58,7 @@ pub fn find_record(
     key: &[u8],
     hash: u64,
 ) -> Option<FoundRecord>
-    ensures { result ≡ find_in view index.packed index.words.now index.buckets filter.words.now filter.count areas.starts.now areas.lengths.now areas.arena.now key.now hash }
+    ensures { result ≡ find_in view index.entry.packed index.entry.words.now index.entry.buckets filter.entry.words.now filter.entry.count areas.entry.starts.now areas.entry.lengths.now areas.entry.arena.now key.now hash }
 {
     if index.words.len() / BUCKET_SLOTS < index.buckets {
         return None;
@@ -83,7 +83,7 @@ pub fn find_record(
 
 // Whether the filter ends a walk after so many buckets and one: it is asked after the second.
 fn ends_at_filter(probe: usize, filter: NegativeFilter<'_>, hash: u64) -> bool
-    ensures { result ≡ ends_at probe (filter_has filter.words.now filter.count hash) }
+    ensures { result ≡ ends_at probe (filter_has filter.entry.words.now filter.entry.count hash) }
 {
     if probe != 1 {
         return false;
@@ -102,7 +102,7 @@ fn find_in_bucket(
     bucket: usize,
 ) -> FindStep
     requires { (bucket < index.buckets) × (8 * index.buckets ≤ length index.words.now) }
-    ensures { result ≡ in_bucket index.packed (looks_from (record_in view areas.arena.now areas.starts.now areas.lengths.now) areas.arena.now key.now (kept_tag index.packed tag) (8 * bucket) (slots_of index.packed index.buckets index.words.now bucket)) }
+    ensures { result ≡ in_bucket index.entry.packed (looks_from (record_in view areas.entry.arena.now areas.entry.starts.now areas.entry.lengths.now) areas.entry.arena.now key.now (kept_tag index.entry.packed tag) (8 * bucket) (slots_of index.entry.packed index.entry.buckets index.entry.words.now bucket)) }
 {
     let kept = kept_tag(index.packed, tag);
     let mut candidates = index.candidate_marks(bucket, tag);
@@ -131,7 +131,7 @@ fn find_in_slot(
     slot: usize,
     content: IndexSlot,
 ) -> FindStep
-    ensures { result ≡ step_of (look (record_in view areas.arena.now areas.starts.now areas.lengths.now) areas.arena.now key.now tag slot content) }
+    ensures { result ≡ step_of (look (record_in view areas.entry.arena.now areas.entry.starts.now areas.entry.lengths.now) areas.entry.arena.now key.now tag slot content) }
 {
     let Some((kept, stored)) = content else {
         return FindStep::Stop;
@@ -193,7 +193,7 @@ fn marks_from(slot: usize) -> u64
 impl FinishedIndex<'_> {
     // A slot, in either layout; empty past the buckets, and where the area holds fewer.
     pub fn slot_at(self, slot: usize) -> IndexSlot
-        ensures { result ≡ slot_at self.packed self.buckets self.words.now slot }
+        ensures { result ≡ slot_at self.entry.packed self.entry.buckets self.entry.words.now slot }
     {
         if self.words.len() / BUCKET_SLOTS < self.buckets {
             return None;
@@ -207,7 +207,7 @@ impl FinishedIndex<'_> {
     // The slots of a bucket that are looked at, as marks on the bytes of a word.
     fn candidate_marks(self, bucket: usize, tag: u64) -> u64
         requires { 8 * bucket + 8 ≤ length self.words.now }
-        ensures { result ≡ marks (candidates self.packed tag self.words.now bucket) }
+        ensures { result ≡ marks (candidates self.entry.packed tag self.entry.words.now bucket) }
     {
         if self.packed {
             return tagged_bytes(self.words[bucket], packed_control_tag(tag) as u64);
@@ -219,7 +219,7 @@ impl FinishedIndex<'_> {
     // Whether a bucket of the packed layout has an empty slot.
     fn has_empty(self, bucket: usize) -> bool
         requires { bucket < length self.words.now }
-        ensures { result ≡ (if self.packed then nat_lt 0 (marks (tagged 0 (slice_index self.words.now bucket))) else false) }
+        ensures { result ≡ (if self.entry.packed then nat_lt 0 (marks (tagged 0 (slice_index self.entry.words.now bucket))) else false) }
     {
         if self.packed {
             return tagged_bytes(self.words[bucket], 0) > 0;
@@ -230,7 +230,7 @@ impl FinishedIndex<'_> {
     // A slot of a bucket, in either layout.
     fn bucket_slot(self, bucket: usize, offset: usize) -> IndexSlot
         requires { (bucket < self.buckets) × (8 * self.buckets ≤ length self.words.now) × (offset < 8) }
-        ensures { result ≡ slice_index_or (slots_of self.packed self.buckets self.words.now bucket) offset None }
+        ensures { result ≡ slice_index_or (slots_of self.entry.packed self.entry.buckets self.entry.words.now bucket) offset None }
     {
         if self.packed {
             return self.packed_slot_at(bucket, offset);
@@ -242,7 +242,7 @@ impl FinishedIndex<'_> {
     // 6's end.
     fn packed_slot_at(self, bucket: usize, offset: usize) -> IndexSlot
         requires { (bucket < self.buckets) × (8 * self.buckets ≤ length self.words.now) × (offset < 8) }
-        ensures { result ≡ slice_index_or (packed_bucket self.buckets self.words.now bucket) offset None }
+        ensures { result ≡ slice_index_or (packed_bucket self.entry.buckets self.entry.words.now bucket) offset None }
     {
         let control = self.words[bucket];
         let at = self.buckets + 7 * bucket + offset;

@@ -52,7 +52,7 @@ pub fn next_start(index: &[u64], buckets: usize, bound: u64) -> u64
     if index.len() / BUCKET_SLOTS < buckets {
         return NO_START;
     }
-    index[..buckets * BUCKET_SLOTS]
+    index[..BUCKET_SLOTS * buckets]
         .iter()
         .fold(NO_START, |lowest, word| lower_start(*word, bound, lowest))
 }
@@ -78,7 +78,7 @@ pub fn locations_inside(index: &[u64], buckets: usize, filled: usize) -> bool
     if index.len() / BUCKET_SLOTS < buckets {
         return false;
     }
-    index[..buckets * BUCKET_SLOTS]
+    index[..BUCKET_SLOTS * buckets]
         .iter()
         .all(|word| location_inside(*word, filled))
 }
@@ -163,7 +163,7 @@ fn split_words(index: &mut [u64], buckets: usize, starts: &[u64], count: usize)
     requires { (8 * buckets ≤ length index.old) × StartsIn starts.now count × (count ≤ most_segments) }
     ensures { index.new ≡ map (split_word (take count starts.now)) (take (8 * buckets) index.old) ++ drop (8 * buckets) index.old }
 {
-    for word in &mut index[..buckets * BUCKET_SLOTS] {
+    for word in &mut index[..BUCKET_SLOTS * buckets] {
         *word = split_word(*word, starts, count);
     }
 }

@@ -28,7 +28,7 @@ impl SegmentView {
     // The record under a stored location, which is segment × 2^32 + offset, plus 1. Its spans count
     // from the arena's start, its end as its location does: in its segment.
     pub fn record_at_location(self, areas: SegmentAreas<'_>, stored: u64) -> Option<RecordRef>
-        ensures { result ≡ record_in self areas.arena.now areas.starts.now areas.lengths.now stored }
+        ensures { result ≡ record_in self areas.entry.arena.now areas.entry.starts.now areas.entry.lengths.now stored }
     {
         let location = stored.checked_sub(1)?;
         let segment = (location / SEGMENT_BYTES) as usize;

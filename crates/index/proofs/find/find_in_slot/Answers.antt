@@ -36,11 +36,11 @@ returns-then-same_bytes c =
     let a = c.args in
     let compared = sym (c.same_bytes.ensures ∙ ap (λ (l : List ℕ). same_bytes l a.key.now) c.value_slice.ensures) in
     slot_match (reads (goal.at.returns-then-same_bytes c).Start) a.arena.now a.key.now a.tag a.slot a.content c.in-Used.kept c.in-Used.stored c.in-Used.is
-    c.if-kept-tag.false c.in-Read.entry (sym c.record_at_location.ensures ∙ c.in-Read.is) (compared ∙ c.if-same_bytes.true)
+    c.if-kept-tag.false c.in-Some.entry (sym c.record_at_location.ensures ∙ c.in-Some.is) (compared ∙ c.if-same_bytes.true)
 
 pub returns : goal.returns
 returns c =
     let a = c.args in
     let compared = sym (c.same_bytes.ensures ∙ ap (λ (l : List ℕ). same_bytes l a.key.now) c.value_slice.ensures) in
     slot_differs (reads (goal.at.returns c).Start) a.arena.now a.key.now a.tag a.slot a.content c.in-Used.kept c.in-Used.stored c.in-Used.is
-    c.if-kept-tag.false c.in-Read.entry (sym c.record_at_location.ensures ∙ c.in-Read.is) (compared ∙ c.if-same_bytes.false)
+    c.if-kept-tag.false c.in-Some.entry (sym c.record_at_location.ensures ∙ c.in-Some.is) (compared ∙ c.if-same_bytes.false)

@@ -31,8 +31,8 @@ moved_record-requires c =
     let a = c.args in
     let e = length-take a.view.filled a.arena.now in
     let s : List ℕ = take (a.start + a.length - a.start) (drop a.start a.arena.now) in
-    let o = c.in-Read.read in
-    let r = record_inside a.view.expiry s _ o (sym c.record_at.ensures ∙ c.in-Read.is) in
+    let o = c.in-Some.read in
+    let r = record_inside a.view.expiry s _ o (sym c.record_at.ensures ∙ c.in-Some.is) in
     let l : length s ≤ a.length = omega (arith, length-take (a.start + a.length - a.start) (drop a.start a.arena.now)) in
     let v : o.value.at + o.value.len ≤ length s = r.4 in
     let k : o.value.at ≡ o.key.at + o.key.len = r.3 in
@@ -45,6 +45,6 @@ returns c =
     let e = length-take a.view.filled a.arena.now in
     let w : a.start + a.length - a.start ≡ a.length = omega arith in
     ap Some c.moved_record.ensures
-    ∙ segment_gives a.view.expiry (take a.view.filled a.arena.now) a.start a.length a.location _ (Some c.in-Read.read) (omega arith)
+    ∙ segment_gives a.view.expiry (take a.view.filled a.arena.now) a.start a.length a.location _ (Some c.in-Some.read) (omega arith)
     (ap (λ (n : ℕ). take n (drop a.start a.arena.now)) w ∙ sym (part_front a.start a.length a.view.filled a.arena.now (omega arith)))
-    (sym c.record_at.ensures ∙ c.in-Read.is)
+    (sym c.record_at.ensures ∙ c.in-Some.is)

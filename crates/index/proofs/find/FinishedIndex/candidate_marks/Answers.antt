@@ -2,7 +2,7 @@
 use Rattle.std.proofs.Common.{ℕ, get_or, ap, ◌∙◌}
 use Rattle.hash_parts.specs.ZeroBytes.{marks}
 use Rattle.index.specs.FindSteps.{from_on, tagged}
-use Rattle.index.proofs.find.candidate_marks.Goals as goal
+use Rattle.index.proofs.find.FinishedIndex.candidate_marks.Goals as goal
 
 pub returns-then-packed : goal.returns-then-packed
 returns-then-packed c =

@@ -1,7 +1,7 @@
 -- `packed_slot_at` meets its contract: a reference lies in the two words that end and begin it. Assumes nothing.
 use Rattle.std.proofs.Common.{◌≡◌, ◌+◌, ◌*◌, ◌%◌, ◌<◌, get_or, sym, refl, arith}
 use Rattle.index.proofs.PackedReads.{slot_at}
-use Rattle.index.proofs.find.packed_slot_at.Goals as goal
+use Rattle.index.proofs.find.FinishedIndex.packed_slot_at.Goals as goal
 
 pub returns-then-offset-eq7 : goal.returns-then-offset-eq7
 returns-then-offset-eq7 c =

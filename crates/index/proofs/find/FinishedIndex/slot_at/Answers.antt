@@ -1,7 +1,7 @@
 -- `slot_at` meets its contract. Assumes nothing.
 use Rattle.std.proofs.Common.{sym, arith}
 use Rattle.index.proofs.SlotReads.{slot_short, slot_past, slot_in}
-use Rattle.index.proofs.find.slot_at.Goals as goal
+use Rattle.index.proofs.find.FinishedIndex.slot_at.Goals as goal
 
 pub returns-then-index-buckets : goal.returns-then-index-buckets
 returns-then-index-buckets c =
