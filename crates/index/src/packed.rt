@@ -32,7 +32,7 @@ fn pack_bucket(index: &mut [u64], buckets: usize, bucket: usize) -> u64
     requires { (bucket < buckets) × (8 * buckets ≤ length index.old) }
     ensures { (result ≡ control_word (take 8 (drop (8 * bucket) index.old))) × (index.new ≡ pasted (buckets + 7 * bucket) (reference_words (take 8 (drop (8 * bucket) index.old))) index.old) }
 {
-    let begin = bucket * BUCKET_SLOTS;
+    let begin = BUCKET_SLOTS * bucket;
     let mut words = [0; BUCKET_SLOTS];
     words.copy_from_slice(&index[begin..begin + BUCKET_SLOTS]);
     write_references(index, buckets + 7 * bucket, words);
