@@ -98,27 +98,33 @@ answer_start s at = go (decode (drop at s))
         ap (λ (x : ℕ). cond {A = Option (ℕ × ℕ)} (leb n 10) (Some (x % 2 ^ 64, at + n)) None) e
     go unended = refl
 
--- one more byte, of payload b - 128
-pub answer_next : (acc scale i b left : ℕ) (d : Decoded) → 128 ≤ b → b < 256 → 0 < left
-    → answer acc scale i left (continued b d) ≡ answer (acc + (b - 128) * scale) (scale * 128) (i + 1) (left - 1) d
-answer_next acc scale i b zero d l h p = absurd (not-suc-le-zero p)
-answer_next acc scale i b (suc m) unended l h p = refl
-answer_next acc scale i b (suc m) (decoded v n) l h p =
-    let e : b % 128 ≡ b - 128 = omega arith in
+-- nothing is read at the end, or behind it
+pub read_past : (s : List ℕ) (at : ℕ) → length s ≤ at → read_varint s at ≡ None
+read_past s at h = answer_start s at ∙ ap (answer 0 1 at 9) (byte_none s at h)
+
+-- one more byte, of payload b % 128
+pub answer_next : (acc scale i b left : ℕ) (d : Decoded) → 0 < left
+    → answer acc scale i left (continued b d) ≡ answer (acc + b % 128 * scale) (scale * 128) (i + 1) (left - 1) d
+answer_next acc scale i b zero d p = absurd (not-suc-le-zero p)
+answer_next acc scale i b (suc m) unended p = refl
+answer_next acc scale i b (suc m) (decoded v n) p =
     let g : i + suc n ≡ i + 1 + n = omega arith in
     let z : suc m - 1 ≡ m = omega arith in
-    rw (z, leb-suc-suc n (suc m))
-    (ap₂ (λ (x y : ℕ). cond {A = Option (ℕ × ℕ)} (leb n (suc m)) (Some (x % 2 ^ 64, y)) None) (ap (λ (x : ℕ). acc + scale * (x + 128 * v)) e ∙ regroup (b - 128)) g)
+    rw (z, leb-suc-suc n (suc m)) (ap₂ (λ (x y : ℕ). cond {A = Option (ℕ × ℕ)} (leb n (suc m)) (Some (x % 2 ^ 64, y)) None) (regroup (b % 128)) g)
   where
     regroup : (x : ℕ) → acc + scale * (x + 128 * v) ≡ acc + x * scale + scale * 128 * v
     regroup x = rw (mul-add scale x (128 * v), ← mul_assoc scale 128 v, mul_comm scale x, ← add_assoc acc (x * scale) (scale * 128 * v))
 
 -- the last byte
-pub answer_last : (acc scale i b left : ℕ) → acc + b * scale < 2 ^ 64 → answer acc scale i left (decoded b 1) ≡ Some (acc + b * scale, i + 1)
-answer_last acc scale i b left h = rw (le-leb 1 (suc left) (omega arith), mul_comm scale b, mod-eq_of_lt h)
+pub answer_last : (acc scale i b left : ℕ) → b < 128 → acc + b % 128 * scale < 2 ^ 64
+    → answer acc scale i left (decoded b 1) ≡ Some (acc + b % 128 * scale, i + 1)
+answer_last acc scale i b left l h =
+    let e : b % 128 ≡ b = mod-eq_of_lt l in
+    let k : acc + b * scale < 2 ^ 64 = rw e at h in
+    rw (e, le-leb 1 (suc left) (omega arith), mul_comm scale b, mod-eq_of_lt k)
 
 -- the tenth byte: of the last its lowest bit counts, and no byte may follow
-pub answer_tenth : (acc scale i b left : ℕ) → scale ≡ 2 ^ 63 → acc < scale → answer acc scale i left (decoded b 1) ≡ Some (acc + b % 2 * 2 ^ 63, i + 1)
+pub answer_tenth : (acc scale i b left : ℕ) → scale ≡ 2 ^ 63 → acc < scale → answer acc scale i left (decoded b 1) ≡ Some (acc + b % 2 * scale, i + 1)
 answer_tenth acc scale i b left e h =
     let g : (acc + 2 ^ 63 * b) % 2 ^ 64 ≡ acc + b % 2 * 2 ^ 63 = omega arith in
     rw (le-leb 1 (suc left) (omega arith), e, g)
@@ -151,9 +157,12 @@ part_small value scale left b h p e l =
     let k : scale * 128 * 1 ≤ scale * 128 * 128 ^ (left - 1) = mul-le-mul_left (scale * 128) (one-le-pow (left - 1) 128 (lit< tt)) in
     (g, omega arith, omega (arith, k, scale_next scale left p e))
 
+-- and of the tenth byte the lowest bit
+pub tenth_small : (value scale b : ℕ) → scale ≡ 2 ^ 63 → value < scale → value + b % 2 * scale < 2 ^ 64
+tenth_small value scale b e h =
+    let g : b % 2 * scale ≤ 1 * scale = mul-le-mul_right scale (omega arith) in
+    omega arith
+
 -- a prefix of one byte is that byte
 pub read_one : (s : List ℕ) (at : ℕ) → at < length s → get_or s at 0 < 128 → read_varint s at ≡ Some (get_or s at 0, at + 1)
-read_one s at h l =
-    let b : ℕ = get_or s at 0 in
-    let e : 0 + b * 1 ≡ b = omega arith in
-    answer_start s at ∙ ap (answer 0 1 at 9) (byte_last s at b refl h l) ∙ answer_last 0 1 at b 9 (omega arith) ∙ ap (λ (x : ℕ). Some (x, at + 1)) e
+read_one s at h l = read_standard s at (get_or s at 0) 1 (byte_last s at (get_or s at 0) refl h l) (omega arith) (omega arith)
