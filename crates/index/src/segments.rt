@@ -137,10 +137,7 @@ fn start_after(index: &[u64], buckets: usize, filled: usize, target: usize, last
     if target == 0 {
         return NO_START;
     }
-    if filled <= last {
-        return NO_START;
-    }
-    if filled - last <= target {
+    if filled.saturating_sub(last) <= target {
         return NO_START;
     }
     next_start(index, buckets, (last + target) as u64)
