@@ -1,9 +1,9 @@
--- The calls on a finished set: lookup, peek, mark clearing, probe, the step of the walk, statistics. Each by the questions that it asks, in document
--- 01's order, and by what it leaves. Assumes nothing.
-use Rattle.std.specs.Prelude.{ℕ, zero, suc, ◌-◌, ◌*◌, ◌/◌, ◌%◌, ◌^◌, Bool, false, cond, List, [], ◌∷◌, length, nat_le, slice_index, slice_set}
-use Rattle.std.proofs.Math.Option.{Option, none, some}
+-- The calls on a finished set: lookup, peek, mark clearing, probe, the step of the walk, statistics. Each by the questions that it asks, in
+-- their order, and by what it leaves. Assumes nothing.
+use Rattle.std.specs.Prelude.{ℕ, zero, suc, ◌-◌, ◌*◌, ◌/◌, ◌%◌, ◌^◌, Bool, Option, Some, None, Result, false, cond, List, [], ◌∷◌, length, nat_le, slice_index, slice_set}
 use Rattle.hash_parts.specs.Duration.{lives_at, remaining}
 use Rattle.hash_parts.specs.ZeroBytes.{bytes_of}
+use Rattle.hash_parts.specs.declared.error.SegmentCacheBuildError.{SegmentCacheBuildError}
 use Rattle.hash_parts.specs.declared.setting.SegmentCacheConfig.{SegmentCacheConfig}
 use Rattle.records.specs.declared.record.RecordAnswer.{RecordAnswer}
 use Rattle.records.specs.declared.record.RecordAnswer.TheVariants.{Read, Unreadable}
@@ -23,9 +23,7 @@ use Rattle.sets.specs.Answers.{Reply, accept, refuse, get_reply, take_reply}
 use Rattle.sets.specs.Questions.{all, arena_holds, bytes_fit, counts_fit, decided, first_no, segment_areas_hold}
 use Rattle.sets.specs.Stats.{stats_of}
 use Rattle.sets.specs.declared.cache.FrozenSegmentCache.{FrozenSegmentCache}
-use Rattle.sets.specs.declared.cache.GetAnswer.{GetAnswer}
 use Rattle.sets.specs.declared.cache.SegmentBaseRecord.{SegmentBaseRecord}
-use Rattle.sets.specs.declared.cache.TakeAnswer.{TakeAnswer}
 use Rattle.sets.specs.declared.stats.SegmentCacheStats.{SegmentCacheStats}
 
 -- ---- question 1 of a finished set
@@ -91,7 +89,7 @@ slot_accessed packed index slot = cond packed (nat_le 128 (slice_index (bytes_of
 -- ---- lookup: "A live hit sets its mark"
 
 unfoldable pub live_value : ℕ → FoundRecord → Reply (Option Span) (Unit {0})
-live_value tick y = cond (lives_at y.entry.expires_at tick) (accept (some y.entry.value)) (accept none)
+live_value tick y = cond (lives_at y.entry.expires_at tick) (accept (Some y.entry.value)) (accept None)
 
 unfoldable pub live_marked : ℕ → Bool → List ℕ → FoundRecord → List ℕ
 live_marked tick packed index y = cond (lives_at y.entry.expires_at tick) (slot_marked packed index y.slot) index
@@ -101,12 +99,12 @@ pub record Got : Type 0 where
   pub answer : Reply (Option Span) (Unit {0})
   pub index : List ℕ
 
-abbrev pub get_result : GetAnswer → List ℕ → Got
+abbrev pub get_result : Result (Option Span) SegmentCacheBuildError → List ℕ → Got
 get_result r index = record { answer = get_reply r; index = index }
 
 abbrev pub gotten : ℕ → Bool → List ℕ → FindAnswer → Got
 gotten tick packed index (find.Found y) = record { answer = live_value tick y; index = live_marked tick packed index y }
-gotten tick packed index find.Nothing = record { answer = accept none; index = index }
+gotten tick packed index find.Nothing = record { answer = accept None; index = index }
 
 abbrev pub got_refused : List ℕ → ℕ → Got
 got_refused index n = record { answer = refuse n tt; index = index }
@@ -129,7 +127,7 @@ pub record Taken : Type 0 where
   pub answer : Reply Bool (Unit {0})
   pub index : List ℕ
 
-abbrev pub take_result : TakeAnswer → List ℕ → Taken
+abbrev pub take_result : Result Bool SegmentCacheBuildError → List ℕ → Taken
 take_result r index = record { answer = take_reply r; index = index }
 
 abbrev pub taken_of : Bool → List ℕ → FindAnswer → Taken
@@ -161,8 +159,8 @@ base_record c tick y =
 
 -- both tell of a find the record that it found
 abbrev pub tell_found : SegmentCacheConfig → ℕ → FindAnswer → Option SegmentBaseRecord
-tell_found c tick (find.Found y) = some (base_record c tick y)
-tell_found c tick find.Nothing = none
+tell_found c tick (find.Found y) = Some (base_record c tick y)
+tell_found c tick find.Nothing = None
 
 unfoldable pub probe_answer : FrozenSegmentCache → ℕ → List ℕ → ℕ → List ℕ → List ℕ → List ℕ → List ℕ → List ℕ → Reply (Option SegmentBaseRecord) (Unit {0})
 probe_answer s h key tick index filter starts lengths arena =

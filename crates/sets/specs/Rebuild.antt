@@ -1,12 +1,13 @@
--- Rebuilding a set: rebuild open, reused push, copied push, rebuild finish. Each call by the questions that it asks, in document 01's order, and by what it
+-- Rebuilding a set: rebuild open, reused push, copied push, rebuild finish. Each call by the questions that it asks, in their order, and by what it
 -- leaves. Rebuilt set: "Keeps chosen segments unmoved, appends copied records as one last segment after the filled arena (the rebuilt set's filled bytes are
 -- the source's plus the copied, whatever was dropped)".
 -- Assumes nothing.
-use Rattle.std.specs.Prelude.{ℕ, zero, suc, ◌+◌, ◌-◌, ◌*◌, ◌%◌, ◌^◌, Bool, true, false, cond, List, [], ◌∷◌, length, ◌==◌, nat_le, nat_lt, slice_index, slice_set}
+use Rattle.std.specs.Prelude.{ℕ, zero, suc, ◌+◌, ◌-◌, ◌*◌, ◌%◌, ◌^◌, Bool, true, false, Result, cond, List, [], ◌∷◌, length, ◌==◌, nat_le, nat_lt, slice_index, slice_set}
 use Rattle.hash_parts.specs.Duration.{encoded_expiry}
 use Rattle.hash_parts.specs.Hash.{tag_of}
 use Rattle.hash_parts.specs.Outcome.{Outcome}
 use Rattle.hash_parts.specs.declared.duration.Lifetime.{Lifetime}
+use Rattle.hash_parts.specs.declared.error.SegmentCacheBuildError.{SegmentCacheBuildError}
 use Rattle.records.specs.Area.{pasted, same_bytes, spanned, over}
 use Rattle.records.specs.Record.{record_bytes, record_size}
 use Rattle.records.specs.declared.record.RecordAnswer.{RecordAnswer}
@@ -22,10 +23,8 @@ use Rattle.sets.specs.Answers.{Reply, accept, refuse, RebuildPlaced, rebuild_ope
 use Rattle.sets.specs.Kept.{chosen, is_kept, kept_count, kept_of, new_number, retained}
 use Rattle.sets.specs.Lookup.{set_fits}
 use Rattle.sets.specs.Questions.{all, arena_holds, buckets_in, bytes_fit, counts_fit, decided, filter_words_in, first_no, lifetime_fits, most_records, open_areas_hold, scratch_holds, segment_areas_hold}
+use Rattle.sets.specs.declared.builder.PushedRecord.{PushedRecord}
 use Rattle.sets.specs.declared.cache.FrozenSegmentCache.{FrozenSegmentCache}
-use Rattle.sets.specs.declared.rebuild.RebuildFinishAnswer.{RebuildFinishAnswer}
-use Rattle.sets.specs.declared.rebuild.RebuildOpenAnswer.{RebuildOpenAnswer}
-use Rattle.sets.specs.declared.rebuild.RebuildPushAnswer.{RebuildPushAnswer}
 use Rattle.sets.specs.declared.rebuild.SegmentRecordLocation.{SegmentRecordLocation}
 use Rattle.sets.specs.declared.rebuild.SharedSegmentCacheBuild.{SharedSegmentCacheBuild}
 use Rattle.sets.specs.declared.rebuild.SharedSegmentCacheBuilder.{SharedSegmentCacheBuilder}
@@ -118,9 +117,9 @@ pub record RebuildOpened : Type 0 where
   pub starts : List ℕ
   pub lengths : List ℕ
 
-abbrev pub rebuild_open_result : RebuildOpenAnswer → List ℕ → List ℕ → List ℕ → List ℕ → RebuildOpened
-rebuild_open_result r index filter starts lengths =
-    record { answer = rebuild_open_reply r; index = index; filter = filter; starts = starts; lengths = lengths }
+abbrev pub rebuild_open_result : Result SharedSegmentCacheBuilder SegmentCacheBuildError → FrozenSegmentCache → List ℕ → List ℕ → List ℕ → List ℕ → RebuildOpened
+rebuild_open_result r source index filter starts lengths =
+    record { answer = rebuild_open_reply source r; index = index; filter = filter; starts = starts; lengths = lengths }
 
 -- "Rebuild open writes the kept segments' starts and lengths, numbered anew in order, and 0 in the rest"
 unfoldable pub after_rebuild_open : FrozenSegmentCache → List ℕ → List ℕ → List ℕ → ℕ → ℕ → List ℕ → ℕ → List ℕ → List ℕ → List ℕ → List ℕ → RebuildOpened
@@ -194,8 +193,8 @@ pub record Reused : Type 0 where
   pub index : List ℕ
   pub filter : List ℕ
 
-abbrev pub reused_result : RebuildPushAnswer → List ℕ → List ℕ → Reused
-reused_result a index filter = record { answer = rebuild_push_reply a; index = index; filter = filter }
+abbrev pub reused_result : Result PushedRecord SegmentCacheBuildError → SharedSegmentCacheBuilder → List ℕ → List ℕ → Reused
+reused_result a r index filter = record { answer = rebuild_push_reply r a; index = index; filter = filter }
 
 abbrev pub reused_made : ℕ → SharedSegmentCacheBuilder → ℕ → ℕ → ℕ → SegmentRecordLocation → List ℕ → List ℕ → Reused
 reused_made slot r h key value source index filter =
@@ -253,8 +252,8 @@ pub record Copied : Type 0 where
   pub filter : List ℕ
   pub arena : List ℕ
 
-abbrev pub copied_result : RebuildPushAnswer → List ℕ → List ℕ → List ℕ → Copied
-copied_result a index filter arena = record { answer = rebuild_push_reply a; index = index; filter = filter; arena = arena }
+abbrev pub copied_result : Result PushedRecord SegmentCacheBuildError → SharedSegmentCacheBuilder → List ℕ → List ℕ → List ℕ → Copied
+copied_result a r index filter arena = record { answer = rebuild_push_reply r a; index = index; filter = filter; arena = arena }
 
 abbrev pub copied_made : ℕ → ℕ → SharedSegmentCacheBuilder → ℕ → List ℕ → List ℕ → List ℕ → List ℕ → List ℕ → Copied
 copied_made slot deadline r h key value index filter arena =
@@ -329,9 +328,9 @@ pub record RebuildFinished : Type 0 where
   pub lengths : List ℕ
   pub scratch : List ℕ
 
-abbrev pub rebuild_finish_result : RebuildFinishAnswer → List ℕ → List ℕ → List ℕ → List ℕ → RebuildFinished
-rebuild_finish_result a index starts lengths scratch =
-    record { answer = rebuild_finish_reply a; index = index; starts = starts; lengths = lengths; scratch = scratch }
+abbrev pub rebuild_finish_result : Result SharedSegmentCacheBuild SegmentCacheBuildError → SharedSegmentCacheBuilder → List ℕ → List ℕ → List ℕ → List ℕ → RebuildFinished
+rebuild_finish_result a r index starts lengths scratch =
+    record { answer = rebuild_finish_reply r a; index = index; starts = starts; lengths = lengths; scratch = scratch }
 
 -- "its finish adds the last"
 abbrev pub with_last : SharedSegmentCacheBuilder → List ℕ → ℕ → List ℕ

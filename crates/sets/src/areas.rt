@@ -1,9 +1,9 @@
-// How large the areas must be that are lent for so many records.
+// The areas that a set is lent: those that calls only read together, and how large each must be for so many records.
 ghost use Rattle.std.specs.Prelude.{◌≡◌, ◌≤◌, if◌then◌else◌};
 ghost use Rattle.sets.specs.Questions.{most_records};
 ghost use Rattle.sets.specs.Areas.{area_words_for, area_words_reply, words_needed};
 
-use crate::questions::{MAX_RECORDS, filter_words_for, nanoseconds_fit, occupancy_fits, tick_runs};
+use crate::questions::{check_counts, filter_words_for};
 use hash_parts::error::SegmentCacheBuildError;
 use hash_parts::setting::SegmentCacheConfig;
 use index::build::bucket_count;
@@ -21,30 +21,23 @@ pub struct AreaWords {
     pub scratch: usize,
 }
 
+// The segment areas and the arena, where a call only reads them.
 #[derive(Clone, Copy)]
-pub enum AreaWordsAnswer {
-    Words(AreaWords),
-    Refused(SegmentCacheBuildError),
+pub struct SegmentAreas<'a> {
+    pub starts: &'a [u64],
+    pub lengths: &'a [u64],
+    pub arena: &'a [u8],
 }
 
 // The least lengths that open, finish and the rebuild calls take. An area may be longer.
-pub fn area_words(config: SegmentCacheConfig, entry_count: usize) -> AreaWordsAnswer
+pub fn area_words(
+    config: SegmentCacheConfig,
+    entry_count: usize,
+) -> Result<AreaWords, SegmentCacheBuildError>
     ensures { area_words_reply result ≡ area_words_for config entry_count }
 {
-    let expiry = config.expiry;
-    if !nanoseconds_fit(expiry) {
-        return AreaWordsAnswer::Refused(SegmentCacheBuildError::InvalidNanoseconds);
-    }
-    if !occupancy_fits(config.target_occupied_slots) {
-        return AreaWordsAnswer::Refused(SegmentCacheBuildError::InvalidBucketOccupancy);
-    }
-    if !tick_runs(expiry) {
-        return AreaWordsAnswer::Refused(SegmentCacheBuildError::ZeroExpiryTick);
-    }
-    if entry_count > MAX_RECORDS {
-        return AreaWordsAnswer::Refused(SegmentCacheBuildError::CapacityOverflow);
-    }
-    AreaWordsAnswer::Words(words_needed(config, entry_count))
+    check_counts(config, entry_count)?;
+    Ok(words_needed(config, entry_count))
 }
 
 fn words_needed(config: SegmentCacheConfig, entry_count: usize) -> AreaWords

@@ -105,10 +105,8 @@ fn flag_word(flags: &[u8], from: usize) -> u64
     ensures { result ≡ flag_word (part from 64 flags.now) }
 {
     let mut word = 0;
-    let mut left = WORD_BITS;
-    while left > 0 {
-        left -= 1;
-        word = word * 2 + flag_bit(flags, from + left);
+    for at in (0..WORD_BITS).rev() {
+        word = word * 2 + flag_bit(flags, from + at);
     }
     word
 }
@@ -129,15 +127,7 @@ fn flag_bit(flags: &[u8], at: usize) -> u64
 pub(crate) fn kept_count(flags: &[u8]) -> usize
     ensures { result ≡ kept_count flags.now }
 {
-    let mut count = 0;
-    let mut left = flags.len();
-    while left > 0 {
-        left -= 1;
-        if flags[left] != 0 {
-            count += 1;
-        }
-    }
-    count
+    flags.iter().filter(|&&flag| flag != 0).count()
 }
 
 // Writes the words whose flag keeps them to the front of an area, in order.
@@ -146,12 +136,9 @@ pub(crate) fn copy_kept(flags: &[u8], words: &[u64], area: &mut [u64])
     ensures { area.new ≡ over (chosen flags.now words.now) area.old }
 {
     let mut kept = 0;
-    let mut next = 0;
-    while next < flags.len() {
-        let i = next;
-        next += 1;
-        if flags[i] != 0 {
-            area[kept] = words[i];
+    for (&flag, &word) in flags.iter().zip(words) {
+        if flag != 0 {
+            area[kept] = word;
             kept += 1;
         }
     }

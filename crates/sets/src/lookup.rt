@@ -4,7 +4,8 @@ ghost use Rattle.index.specs.View.{record_in};
 ghost use Rattle.sets.specs.Answers.{get_reply};
 ghost use Rattle.sets.specs.Lookup.{base_record, entry_at, live_marked, live_value, next_entry};
 
-use crate::cache::{GetAnswer, SegmentBaseRecord};
+use crate::areas::SegmentAreas;
+use crate::cache::SegmentBaseRecord;
 use crate::marks::mark_accessed;
 use hash_parts::duration::{lives_at_tick, remaining_ttl};
 use hash_parts::setting::SegmentCacheConfig;
@@ -12,18 +13,17 @@ use index::find::{FindAnswer, FoundRecord, slot_at};
 use index::slot::IndexSlot;
 use index::view::{SegmentView, record_at_location};
 use index::word::BUCKET_SLOTS;
-use records::record::RecordAnswer;
+use records::record::{RecordAnswer, Span};
 
 // The value of a record, where it lives.
-pub(crate) fn live_value(found: FoundRecord, now_tick: u64) -> GetAnswer
-    ensures { get_reply result ≡ live_value now_tick found }
+pub(crate) fn live_value(found: FoundRecord, now_tick: u64) -> Option<Span>
+    ensures { get_reply (Ok result) ≡ live_value now_tick found }
 {
     let entry = found.entry;
     if !lives_at_tick(entry.expires_at, now_tick) {
-        return GetAnswer::Nothing;
+        return None;
     }
-    let value = entry.value;
-    GetAnswer::Value(value)
+    Some(entry.value)
 }
 
 // Sets the mark of a record, where it lives.
@@ -45,18 +45,15 @@ pub(crate) fn base_record(
 ) -> SegmentBaseRecord
     ensures { result ≡ base_record config now_tick found }
 {
-    let expiry = config.expiry;
     let entry = found.entry;
-    let key = entry.key;
-    let value = entry.value;
     SegmentBaseRecord {
         slot: found.slot,
         location: entry.location,
         key_offset: entry.key_offset,
-        key,
-        value,
+        key: entry.key,
+        value: entry.value,
         end: entry.end,
-        remaining_ttl: remaining_ttl(expiry, entry.expires_at, now_tick),
+        remaining_ttl: remaining_ttl(config.expiry, entry.expires_at, now_tick),
     }
 }
 
@@ -67,21 +64,16 @@ pub(crate) fn next_entry(
     buckets: usize,
     from: usize,
     index: &[u64],
-    starts: &[u64],
-    lengths: &[u64],
-    arena: &[u8],
+    areas: SegmentAreas<'_>,
 ) -> FindAnswer
     requires { 8 * buckets ≤ length index.now }
-    ensures { result ≡ next_entry (record_in view arena.now starts.now lengths.now) packed buckets index.now from }
+    ensures { result ≡ next_entry (record_in view areas.arena.now areas.starts.now areas.lengths.now) packed buckets index.now from }
 {
     let slots = buckets * BUCKET_SLOTS;
-    let mut slot = from;
-    while slot < slots {
-        let read = entry_at(view, packed, buckets, slot, index, starts, lengths, arena);
-        if let RecordAnswer::Read(entry) = read {
+    for slot in from..slots {
+        if let RecordAnswer::Read(entry) = entry_at(view, packed, buckets, slot, index, areas) {
             return FindAnswer::Found(FoundRecord { slot, entry });
         }
-        slot += 1;
     }
     FindAnswer::Nothing
 }
@@ -93,14 +85,12 @@ fn entry_at(
     buckets: usize,
     slot: usize,
     index: &[u64],
-    starts: &[u64],
-    lengths: &[u64],
-    arena: &[u8],
+    areas: SegmentAreas<'_>,
 ) -> RecordAnswer
-    ensures { result ≡ entry_at (record_in view arena.now starts.now lengths.now) packed buckets index.now slot }
+    ensures { result ≡ entry_at (record_in view areas.arena.now areas.starts.now areas.lengths.now) packed buckets index.now slot }
 {
     let IndexSlot::Used(_, stored) = slot_at(index, packed, buckets, slot) else {
         return RecordAnswer::Unreadable;
     };
-    record_at_location(view, arena, starts, lengths, stored)
+    record_at_location(view, areas.arena, areas.starts, areas.lengths, stored)
 }

@@ -1,11 +1,12 @@
 // The questions that several calls ask of a state and of the lengths of the areas lent to it. Every
 // number of a state is free: sums and products are made only after what bounds them was asked.
-ghost use Rattle.std.specs.Prelude.{◌≡◌, ◌*◌, ◌^◌, ◌≤◌, nat_le};
+ghost use Rattle.std.specs.Prelude.{◌≡◌, ◌*◌, ◌^◌, ◌≤◌, length, nat_le};
 ghost use Rattle.hash_parts.specs.Duration.{ceil_div};
 ghost use Rattle.records.specs.Record.{record_size};
-ghost use Rattle.sets.specs.Questions.{arena_holds, ask_open, check_number, counts_fit, deadline_refusal, first_no, lifetime_fits, most_records, nanoseconds_fit, occupancy_fits, open_areas_hold, scratch_holds, segment_areas_hold, setting_fits, target_fits, tick_runs};
+ghost use Rattle.sets.specs.Questions.{arena_holds, ask_counts, ask_open, check_number, counts_fit, first_no, lifetime_fits, most_records, nanoseconds_fit, occupancy_fits, open_areas_hold, scratch_holds, segment_areas_hold, setting_fits, target_fits, tick_runs};
 
-use hash_parts::duration::{EncodedExpiry, Lifetime};
+use crate::areas::SegmentAreas;
+use hash_parts::duration::Lifetime;
 use hash_parts::error::SegmentCacheBuildError;
 use hash_parts::setting::{SegmentCacheConfig, SegmentExpiry};
 use index::build::bucket_count;
@@ -21,23 +22,6 @@ pub(crate) const MAX_ARENA_BYTES: usize = 1_073_741_824;
 const MAX_SEGMENT_TARGET: usize = 100_663_296;
 
 const NANOS_PER_SEC: u32 = 1_000_000_000;
-
-// Why there is no deadline; where there is one, no refusal is asked for.
-pub(crate) fn deadline_refusal(deadline: EncodedExpiry) -> SegmentCacheBuildError
-    ensures { result ≡ deadline_refusal deadline }
-{
-    match deadline {
-        EncodedExpiry::Refused(refusal) => refusal,
-        EncodedExpiry::At(_) => SegmentCacheBuildError::ExpiryOutOfRange,
-    }
-}
-
-// What a call's questions come to.
-#[derive(Clone, Copy)]
-pub(crate) enum Check {
-    Passed,
-    Refused(SegmentCacheBuildError),
-}
 
 pub(crate) fn nanoseconds_fit(expiry: SegmentExpiry) -> bool
     ensures { result ≡ nanoseconds_fit expiry }
@@ -60,10 +44,7 @@ pub(crate) fn lifetime_fits(ttl: Lifetime) -> bool
 pub(crate) fn occupancy_fits(occupied: u8) -> bool
     ensures { result ≡ occupancy_fits occupied }
 {
-    if occupied < 1 {
-        return false;
-    }
-    occupied <= 7
+    1 <= occupied && occupied <= 7
 }
 
 pub(crate) fn tick_runs(expiry: SegmentExpiry) -> bool
@@ -79,13 +60,7 @@ fn setting_fits(config: SegmentCacheConfig) -> bool
     ensures { result ≡ setting_fits config }
 {
     let expiry = config.expiry;
-    if !nanoseconds_fit(expiry) {
-        return false;
-    }
-    if !occupancy_fits(config.target_occupied_slots) {
-        return false;
-    }
-    tick_runs(expiry)
+    nanoseconds_fit(expiry) && occupancy_fits(config.target_occupied_slots) && tick_runs(expiry)
 }
 
 // Filter words for so many records.
@@ -105,16 +80,10 @@ pub(crate) fn counts_fit(
 ) -> bool
     ensures { result ≡ counts_fit config records buckets filter_words }
 {
-    if !setting_fits(config) {
-        return false;
-    }
-    if records > MAX_RECORDS {
-        return false;
-    }
-    if buckets != bucket_count(records, config.target_occupied_slots) {
-        return false;
-    }
-    filter_words == filter_words_for(records, config.negative_filter_bits_per_entry)
+    setting_fits(config)
+        && records <= MAX_RECORDS
+        && buckets == bucket_count(records, config.target_occupied_slots)
+        && filter_words == filter_words_for(records, config.negative_filter_bits_per_entry)
 }
 
 // Whether so many bytes of keys, of values or of headers can belong to so many records.
@@ -128,38 +97,49 @@ pub(crate) fn bytes_fit(records: usize, bytes: usize) -> bool
 pub(crate) fn arena_holds(filled: usize, arena_len: usize) -> bool
     ensures { result ≡ arena_holds filled arena_len }
 {
-    if filled > arena_len {
-        return false;
-    }
-    arena_len <= MAX_ARENA_BYTES
+    filled <= arena_len && arena_len <= MAX_ARENA_BYTES
 }
 
 pub(crate) fn segment_areas_hold(starts_len: usize, lengths_len: usize) -> bool
     ensures { result ≡ segment_areas_hold starts_len lengths_len }
 {
-    if starts_len < MAX_RECORD_SEGMENTS {
-        return false;
-    }
-    lengths_len >= MAX_RECORD_SEGMENTS
+    starts_len >= MAX_RECORD_SEGMENTS && lengths_len >= MAX_RECORD_SEGMENTS
 }
 
 pub(crate) fn target_fits(target: usize) -> bool
     ensures { result ≡ target_fits target }
 {
-    if target < 1 {
-        return false;
-    }
-    target <= MAX_SEGMENT_TARGET
+    1 <= target && target <= MAX_SEGMENT_TARGET
 }
 
 // The word layout needs no scratch.
 pub(crate) fn scratch_holds(config: SegmentCacheConfig, buckets: usize, scratch_len: usize) -> bool
     ensures { result ≡ scratch_holds config buckets scratch_len }
 {
-    if !config.packed_bucket_index {
-        return true;
+    !config.packed_bucket_index || buckets <= scratch_len
+}
+
+// The questions that open and area_words ask of a setting and a number of records.
+pub(crate) fn check_counts(
+    config: SegmentCacheConfig,
+    entry_count: usize,
+) -> Result<(), SegmentCacheBuildError>
+    ensures { check_number result ≡ first_no (ask_counts config entry_count) }
+{
+    let expiry = config.expiry;
+    if !nanoseconds_fit(expiry) {
+        return Err(SegmentCacheBuildError::InvalidNanoseconds);
     }
-    buckets <= scratch_len
+    if !occupancy_fits(config.target_occupied_slots) {
+        return Err(SegmentCacheBuildError::InvalidBucketOccupancy);
+    }
+    if !tick_runs(expiry) {
+        return Err(SegmentCacheBuildError::ZeroExpiryTick);
+    }
+    if entry_count > MAX_RECORDS {
+        return Err(SegmentCacheBuildError::CapacityOverflow);
+    }
+    Ok(())
 }
 
 // The questions of open.
@@ -168,35 +148,21 @@ pub(crate) fn check_open(
     entry_count: usize,
     index_len: usize,
     filter_len: usize,
-    starts_len: usize,
-    lengths_len: usize,
-    arena_len: usize,
-) -> Check
-    ensures { check_number result ≡ first_no (ask_open config entry_count index_len filter_len starts_len lengths_len arena_len) }
+    areas: SegmentAreas<'_>,
+) -> Result<(), SegmentCacheBuildError>
+    ensures { check_number result ≡ first_no (ask_open config entry_count index_len filter_len (length areas.starts.now) (length areas.lengths.now) (length areas.arena.now)) }
 {
-    let expiry = config.expiry;
-    if !nanoseconds_fit(expiry) {
-        return Check::Refused(SegmentCacheBuildError::InvalidNanoseconds);
-    }
-    if !occupancy_fits(config.target_occupied_slots) {
-        return Check::Refused(SegmentCacheBuildError::InvalidBucketOccupancy);
-    }
-    if !tick_runs(expiry) {
-        return Check::Refused(SegmentCacheBuildError::ZeroExpiryTick);
-    }
-    if entry_count > MAX_RECORDS {
-        return Check::Refused(SegmentCacheBuildError::CapacityOverflow);
-    }
+    check_counts(config, entry_count)?;
     if !open_areas_hold(config, entry_count, index_len, filter_len) {
-        return Check::Refused(SegmentCacheBuildError::AreaTooShort);
+        return Err(SegmentCacheBuildError::AreaTooShort);
     }
-    if !segment_areas_hold(starts_len, lengths_len) {
-        return Check::Refused(SegmentCacheBuildError::AreaTooShort);
+    if !segment_areas_hold(areas.starts.len(), areas.lengths.len()) {
+        return Err(SegmentCacheBuildError::AreaTooShort);
     }
-    if arena_len > MAX_ARENA_BYTES {
-        return Check::Refused(SegmentCacheBuildError::AreaTooShort);
+    if areas.arena.len() > MAX_ARENA_BYTES {
+        return Err(SegmentCacheBuildError::AreaTooShort);
     }
-    Check::Passed
+    Ok(())
 }
 
 // Whether index and filter hold the words of so many records.
@@ -209,10 +175,8 @@ pub(crate) fn open_areas_hold(
     requires { entry_count ≤ most_records }
     ensures { result ≡ open_areas_hold config entry_count index_len filter_len }
 {
-    if index_len / BUCKET_SLOTS < bucket_count(entry_count, config.target_occupied_slots) {
-        return false;
-    }
-    filter_len >= filter_words_for(entry_count, config.negative_filter_bits_per_entry)
+    bucket_count(entry_count, config.target_occupied_slots) <= index_len / BUCKET_SLOTS
+        && filter_words_for(entry_count, config.negative_filter_bits_per_entry) <= filter_len
 }
 
 // Whether a record of these lengths fits so many bytes; one whose size passes 64 bits fits nowhere.
