@@ -56,7 +56,7 @@ impl SegmentCacheBuilder {
         filter: &mut [u64],
         areas: SegmentAreas<'_>,
     ) -> Result<SegmentCacheBuilder, SegmentCacheBuildError>
-        ensures { open_result result index.new filter.new ≡ after_open config entry_count index.old filter.old areas.starts.now areas.lengths.now areas.arena.now }
+        ensures { open_result result index.new filter.new ≡ after_open config entry_count index.old filter.old areas.entry.starts.now areas.entry.lengths.now areas.entry.arena.now }
     {
         check_open(config, entry_count, index.len(), filter.len(), areas)?;
         let builder = opened_builder(config, entry_count);

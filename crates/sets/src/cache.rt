@@ -58,7 +58,7 @@ impl FrozenSegmentCache {
         filter: &[u64],
         areas: SegmentAreas<'_>,
     ) -> Result<Option<Span>, SegmentCacheBuildError>
-        ensures { get_result result index.new ≡ after_get self hash key.now now_tick index.old filter.now areas.starts.now areas.lengths.now areas.arena.now }
+        ensures { get_result result index.new ≡ after_get self hash key.now now_tick index.old filter.now areas.entry.starts.now areas.entry.lengths.now areas.entry.arena.now }
     {
         if !self.lookup_areas_hold(index.len(), filter.len(), areas) {
             return Err(SegmentCacheBuildError::InvalidState);
@@ -80,7 +80,7 @@ impl FrozenSegmentCache {
         filter: &[u64],
         areas: SegmentAreas<'_>,
     ) -> Result<Option<Span>, SegmentCacheBuildError>
-        ensures { get_result result index.now ≡ after_peek self hash key.now now_tick index.now filter.now areas.starts.now areas.lengths.now areas.arena.now }
+        ensures { get_result result index.now ≡ after_peek self hash key.now now_tick index.now filter.now areas.entry.starts.now areas.entry.lengths.now areas.entry.arena.now }
     {
         if !self.lookup_areas_hold(index.len(), filter.len(), areas) {
             return Err(SegmentCacheBuildError::InvalidState);
@@ -100,7 +100,7 @@ impl FrozenSegmentCache {
         filter: &[u64],
         areas: SegmentAreas<'_>,
     ) -> Result<bool, SegmentCacheBuildError>
-        ensures { take_result result index.new ≡ after_take self hash key.now index.old filter.now areas.starts.now areas.lengths.now areas.arena.now }
+        ensures { take_result result index.new ≡ after_take self hash key.now index.old filter.now areas.entry.starts.now areas.entry.lengths.now areas.entry.arena.now }
     {
         if !self.lookup_areas_hold(index.len(), filter.len(), areas) {
             return Err(SegmentCacheBuildError::InvalidState);
@@ -121,7 +121,7 @@ impl FrozenSegmentCache {
         filter: &[u64],
         areas: SegmentAreas<'_>,
     ) -> Result<Option<SegmentBaseRecord>, SegmentCacheBuildError>
-        ensures { (probe_reply result ≡ probe_answer self hash key.now now_tick index.now filter.now areas.starts.now areas.lengths.now areas.arena.now) × (index.now ≡ index.now) }
+        ensures { (probe_reply result ≡ probe_answer self hash key.now now_tick index.now filter.now areas.entry.starts.now areas.entry.lengths.now areas.entry.arena.now) × (index.now ≡ index.now) }
     {
         if !self.lookup_areas_hold(index.len(), filter.len(), areas) {
             return Err(SegmentCacheBuildError::InvalidState);
@@ -141,7 +141,7 @@ impl FrozenSegmentCache {
         index: &[u64],
         areas: SegmentAreas<'_>,
     ) -> Result<Option<SegmentBaseRecord>, SegmentCacheBuildError>
-        ensures { (walk_reply result ≡ walk_answer self from now_tick index.now areas.starts.now areas.lengths.now areas.arena.now) × (index.now ≡ index.now) }
+        ensures { (walk_reply result ≡ walk_answer self from now_tick index.now areas.entry.starts.now areas.entry.lengths.now areas.entry.arena.now) × (index.now ≡ index.now) }
     {
         if !self.areas_hold(index.len(), areas) {
             return Err(SegmentCacheBuildError::InvalidState);
@@ -181,7 +181,7 @@ impl FrozenSegmentCache {
         filter: &[u64],
         areas: SegmentAreas<'_>,
     ) -> FindAnswer
-        ensures { result ≡ find_of self hash key.now index.now filter.now areas.starts.now areas.lengths.now areas.arena.now }
+        ensures { result ≡ find_of self hash key.now index.now filter.now areas.entry.starts.now areas.entry.lengths.now areas.entry.arena.now }
     {
         let packed = self.config.packed_bucket_index;
         find_record(
@@ -206,7 +206,7 @@ impl FrozenSegmentCache {
         filter_len: usize,
         areas: SegmentAreas<'_>,
     ) -> bool
-        ensures { result ≡ areas_hold_lookup self index_len filter_len (length areas.starts.now) (length areas.lengths.now) (length areas.arena.now) }
+        ensures { result ≡ areas_hold_lookup self index_len filter_len (length areas.entry.starts.now) (length areas.entry.lengths.now) (length areas.entry.arena.now) }
     {
         self.areas_hold(index_len, areas) && self.filter_words <= filter_len
     }
@@ -236,7 +236,7 @@ impl FrozenSegmentCache {
 
     // Question 1: index, segment areas and arena.
     pub fn areas_hold(self, index_len: usize, areas: SegmentAreas<'_>) -> bool
-        ensures { result ≡ areas_hold_set self index_len (length areas.starts.now) (length areas.lengths.now) (length areas.arena.now) }
+        ensures { result ≡ areas_hold_set self index_len (length areas.entry.starts.now) (length areas.entry.lengths.now) (length areas.entry.arena.now) }
     {
         self.fits()
             && self.buckets <= index_len / BUCKET_SLOTS

@@ -67,7 +67,7 @@ pub(crate) fn next_entry(
     areas: SegmentAreas<'_>,
 ) -> FindAnswer
     requires { 8 * buckets ≤ length index.now }
-    ensures { result ≡ next_entry (record_in view areas.arena.now areas.starts.now areas.lengths.now) packed buckets index.now from }
+    ensures { result ≡ next_entry (record_in view areas.entry.arena.now areas.entry.starts.now areas.entry.lengths.now) packed buckets index.now from }
 {
     let slots = buckets * BUCKET_SLOTS;
     for slot in from..slots {
@@ -87,7 +87,7 @@ fn entry_at(
     index: &[u64],
     areas: SegmentAreas<'_>,
 ) -> RecordAnswer
-    ensures { result ≡ entry_at (record_in view areas.arena.now areas.starts.now areas.lengths.now) packed buckets index.now slot }
+    ensures { result ≡ entry_at (record_in view areas.entry.arena.now areas.entry.starts.now areas.entry.lengths.now) packed buckets index.now slot }
 {
     let IndexSlot::Used(_, stored) = slot_at(index, packed, buckets, slot) else {
         return RecordAnswer::Unreadable;

@@ -150,7 +150,7 @@ pub(crate) fn check_open(
     filter_len: usize,
     areas: SegmentAreas<'_>,
 ) -> Result<(), SegmentCacheBuildError>
-    ensures { check_number result ≡ first_no (ask_open config entry_count index_len filter_len (length areas.starts.now) (length areas.lengths.now) (length areas.arena.now)) }
+    ensures { check_number result ≡ first_no (ask_open config entry_count index_len filter_len (length areas.entry.starts.now) (length areas.entry.lengths.now) (length areas.entry.arena.now)) }
 {
     check_counts(config, entry_count)?;
     if !open_areas_hold(config, entry_count, index_len, filter_len) {

@@ -78,7 +78,7 @@ impl SharedSegmentCacheBuilder {
         starts: &mut [u64],
         lengths: &mut [u64],
     ) -> Result<SharedSegmentCacheBuilder, SegmentCacheBuildError>
-        ensures { rebuild_open_result result source index.new filter.new starts.new lengths.new ≡ after_rebuild_open source source_areas.starts.now source_areas.lengths.now source_areas.arena.now entry_count copied_record_capacity used_source_segments.now source_now_tick index.old filter.old starts.old lengths.old }
+        ensures { rebuild_open_result result source index.new filter.new starts.new lengths.new ≡ after_rebuild_open source source_areas.entry.starts.now source_areas.entry.lengths.now source_areas.entry.arena.now entry_count copied_record_capacity used_source_segments.now source_now_tick index.old filter.old starts.old lengths.old }
     {
         check_rebuild_open(
             source,
@@ -110,7 +110,7 @@ impl SharedSegmentCacheBuilder {
         filter: &mut [u64],
         areas: SegmentAreas<'_>,
     ) -> Result<PushedRecord, SegmentCacheBuildError>
-        ensures { reused_result result self.new index.new filter.new ≡ after_reused self.old hash key.now value.now source index.old filter.old areas.starts.now areas.lengths.now areas.arena.now }
+        ensures { reused_result result self.new index.new filter.new ≡ after_reused self.old hash key.now value.now source index.old filter.old areas.entry.starts.now areas.entry.lengths.now areas.entry.arena.now }
     {
         let slot = self.plan_reused(hash, key, value, source, index, filter.len(), areas)?;
         Ok(self.reused_at(slot, hash, key.len(), value.len(), source, index, filter))

@@ -83,7 +83,7 @@ impl SharedSegmentCacheBuilder {
         filter_len: usize,
         areas: SegmentAreas<'_>,
     ) -> Result<usize, SegmentCacheBuildError>
-        ensures { slot_planned result ≡ plan_reused self hash key.now value.now source index.now filter_len areas.starts.now areas.lengths.now areas.arena.now }
+        ensures { slot_planned result ≡ plan_reused self hash key.now value.now source index.now filter_len areas.entry.starts.now areas.entry.lengths.now areas.entry.arena.now }
     {
         if !self.areas_hold(index.len(), areas.starts, areas.lengths, areas.arena.len()) {
             return Err(SegmentCacheBuildError::InvalidState);
@@ -116,7 +116,7 @@ impl SharedSegmentCacheBuilder {
         areas: SegmentAreas<'_>,
     ) -> bool
         requires { (is_kept self.kept (segment_part source.location) ≡ true) × (rebuild_filled self < 2 ^ 64) }
-        ensures { result ≡ holds_record key.now value.now source.header_bytes areas.arena.now (record_in (kept_view self) areas.arena.now areas.starts.now areas.lengths.now (moved_location self source.location + 1)) }
+        ensures { result ≡ holds_record key.now value.now source.header_bytes areas.entry.arena.now (record_in (kept_view self) areas.entry.arena.now areas.entry.starts.now areas.entry.lengths.now (moved_location self source.location + 1)) }
     {
         let stored = self.moved_location(source.location) as u64 + 1;
         let read = record_at_location(
@@ -244,7 +244,7 @@ fn arena_holds_both(source_filled: usize, copied: usize, arena_len: usize) -> bo
 
 // Question 1 of a source.
 pub fn source_holds(source: FrozenSegmentCache, areas: SegmentAreas<'_>) -> bool
-    ensures { result ≡ areas_hold_source source areas.starts.now areas.lengths.now (length areas.arena.now) }
+    ensures { result ≡ areas_hold_source source areas.entry.starts.now areas.entry.lengths.now (length areas.entry.arena.now) }
 {
     source.fits()
         && segment_areas_hold(areas.starts.len(), areas.lengths.len())
@@ -264,7 +264,7 @@ pub(crate) fn check_rebuild_open(
     starts_len: usize,
     lengths_len: usize,
 ) -> Result<(), SegmentCacheBuildError>
-    ensures { check_number result ≡ first_no (ask_rebuild_open source source_areas.starts.now source_areas.lengths.now (length source_areas.arena.now) entry_count copied_record_capacity used_source_segments.now index_len filter_len starts_len lengths_len) }
+    ensures { check_number result ≡ first_no (ask_rebuild_open source source_areas.entry.starts.now source_areas.entry.lengths.now (length source_areas.entry.arena.now) entry_count copied_record_capacity used_source_segments.now index_len filter_len starts_len lengths_len) }
 {
     if !source_holds(source, source_areas) {
         return Err(SegmentCacheBuildError::InvalidState);
