@@ -30,6 +30,7 @@ pub struct SegmentAreas<'a> {
 }
 
 // The least lengths that open, finish and the rebuild calls take. An area may be longer.
+#[tactic(auto, using(crate::proofs::Decides::decided_refused), unfolding(crate::specs::Areas::area_words_for, crate::specs::Questions::ask_counts, crate::specs::Questions::occupancy_fits))]
 pub fn area_words(
     config: SegmentCacheConfig,
     entry_count: usize,

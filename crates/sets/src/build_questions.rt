@@ -18,6 +18,7 @@ use index::word::BUCKET_SLOTS;
 
 impl SegmentCacheBuilder {
     // Question 1: the state's own numbers.
+    #[tactic(auto, using(crate::proofs::Counts::counts_records), unfolding(crate::specs::Build::builder_fits))]
     fn fits(self) -> bool
         ensures { result ≡ builder_fits self }
     {
@@ -37,6 +38,7 @@ impl SegmentCacheBuilder {
     }
 
     // Question 1: the index and the arena.
+    #[tactic(auto, unfolding(crate::specs::Build::areas_hold_builder))]
     fn areas_hold(self, index_len: usize, arena_len: usize) -> bool
         ensures { result ≡ areas_hold_builder self index_len arena_len }
     {
@@ -46,6 +48,7 @@ impl SegmentCacheBuilder {
     }
 
     // The questions of a push.
+    #[tactic(auto, using(crate::proofs::Counts::builder_areas_asked, crate::proofs::Decides::decided_refused, crate::proofs::Decides::own_refused), unfolding(crate::specs::BuildPlans::plan_push, crate::specs::Build::ask_push, crate::specs::BuildPlans::plan_record, crate::specs::BuildPlans::ask_record))]
     pub(crate) fn plan_push(
         self,
         hash: u64,
@@ -82,6 +85,7 @@ impl SegmentCacheBuilder {
     }
 
     // The last of them: the deadline, and room in the arena.
+    #[tactic(auto, using(crate::proofs::Appends::room, crate::proofs::Decides::decided_refused, crate::proofs::Decides::own_refused), unfolding(crate::specs::BuildPlans::plan_record, crate::specs::BuildPlans::ask_record))]
     fn plan_record(
         self,
         slot: usize,
@@ -106,6 +110,7 @@ impl SegmentCacheBuilder {
     }
 
     // The questions of finish but the last, the number of segments.
+    #[tactic(auto, unfolding(crate::specs::Build::ask_finish))]
     pub(crate) fn check_finish(
         self,
         target: usize,

@@ -49,6 +49,7 @@ pub struct SegmentBaseRecord {
 
 impl FrozenSegmentCache {
     // The value of a live record, as a part of the arena, and its mark set.
+    #[tactic(auto, using(crate::proofs::Finding::lookup_slot), unfolding(crate::specs::Lookup::after_get, crate::specs::Lookup::ask_lookup))]
     pub fn get_at_tick(
         self,
         hash: u64,
@@ -71,6 +72,7 @@ impl FrozenSegmentCache {
     }
 
     // The same with no mark set.
+    #[tactic(auto, unfolding(crate::specs::Lookup::after_peek, crate::specs::Lookup::after_get, crate::specs::Lookup::ask_lookup))]
     pub fn peek_at_tick(
         self,
         hash: u64,
@@ -92,6 +94,7 @@ impl FrozenSegmentCache {
     }
 
     // Clears the mark of a record, lapsed or not, and says whether it was set.
+    #[tactic(auto, using(crate::proofs::Finding::lookup_slot), unfolding(crate::specs::Lookup::after_take, crate::specs::Lookup::ask_lookup))]
     pub fn take_accessed(
         self,
         hash: u64,
@@ -112,6 +115,7 @@ impl FrozenSegmentCache {
     }
 
     // All that is known of a record, lapsed or not. No mark is set.
+    #[tactic(auto, unfolding(crate::specs::Lookup::probe_answer, crate::specs::Lookup::ask_lookup))]
     pub fn probe_hashed_at_tick(
         self,
         hash: u64,
@@ -134,6 +138,7 @@ impl FrozenSegmentCache {
 
     // A step of the walk over all records: the first from a slot on. The walk goes on from the
     // slot after the one answered. No mark is set.
+    #[tactic(auto, using(crate::proofs::Counts::set_index), unfolding(crate::specs::Lookup::walk_answer, crate::specs::Lookup::ask_walk))]
     pub fn next_physical_entry_at_tick(
         self,
         from: usize,
@@ -154,6 +159,7 @@ impl FrozenSegmentCache {
         Ok(Some(base_record(self.config, found, now_tick)))
     }
 
+    #[tactic(auto, using(crate::proofs::Finding::few_buckets, crate::proofs::Finding::few_words, crate::proofs::Finding::stats_made, crate::proofs::Counts::set_counts), unfolding(crate::specs::Lookup::stats_answer, crate::specs::Lookup::ask_stats))]
     pub fn stats(self) -> Result<SegmentCacheStats, SegmentCacheBuildError>
         ensures { stats_reply result ≡ stats_answer self }
     {
@@ -200,6 +206,7 @@ impl FrozenSegmentCache {
     }
 
     // Question 1 of a lookup: all five areas.
+    #[tactic(auto, unfolding(crate::specs::Lookup::areas_hold_lookup))]
     pub fn lookup_areas_hold(
         self,
         index_len: usize,
@@ -223,6 +230,7 @@ impl FrozenSegmentCache {
     }
 
     // Question 1: the state's own numbers.
+    #[tactic(auto, using(crate::proofs::Counts::counts_records), unfolding(crate::specs::Lookup::set_fits))]
     pub fn fits(self) -> bool
         ensures { result ≡ set_fits self }
     {
@@ -235,6 +243,7 @@ impl FrozenSegmentCache {
     }
 
     // Question 1: index, segment areas and arena.
+    #[tactic(auto, unfolding(crate::specs::Lookup::areas_hold_set))]
     pub fn areas_hold(self, index_len: usize, areas: SegmentAreas<'_>) -> bool
         ensures { result ≡ areas_hold_set self index_len (length areas.entry.starts.now) (length areas.entry.lengths.now) (length areas.entry.arena.now) }
     {

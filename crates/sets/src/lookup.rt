@@ -16,6 +16,7 @@ use index::word::BUCKET_SLOTS;
 use records::record::{RecordAnswer, Span};
 
 // The value of a record, where it lives.
+#[tactic(auto, unfolding(crate::specs::Lookup::live_value))]
 pub(crate) fn live_value(found: FoundRecord, now_tick: u64) -> Option<Span>
     ensures { get_reply (Ok result) ≡ live_value now_tick found }
 {
@@ -27,6 +28,7 @@ pub(crate) fn live_value(found: FoundRecord, now_tick: u64) -> Option<Span>
 }
 
 // Sets the mark of a record, where it lives.
+#[tactic(auto, unfolding(crate::specs::Lookup::live_marked))]
 pub(crate) fn mark_live(found: FoundRecord, now_tick: u64, packed: bool, index: &mut [u64])
     requires { found.slot < length index.old }
     ensures { index.new ≡ live_marked now_tick packed index.old found }
@@ -79,6 +81,7 @@ pub(crate) fn next_entry(
 }
 
 // The record that a slot names.
+#[tactic(auto, unfolding(crate::specs::Lookup::entry_at))]
 fn entry_at(
     view: SegmentView,
     packed: bool,

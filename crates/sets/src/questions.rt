@@ -23,6 +23,7 @@ const MAX_SEGMENT_TARGET: usize = 100_663_296;
 
 const NANOS_PER_SEC: u32 = 1_000_000_000;
 
+#[tactic(auto, unfolding(crate::specs::Questions::nanoseconds_fit))]
 pub(crate) fn nanoseconds_fit(expiry: SegmentExpiry) -> bool
     ensures { result ≡ nanoseconds_fit expiry }
 {
@@ -32,6 +33,7 @@ pub(crate) fn nanoseconds_fit(expiry: SegmentExpiry) -> bool
     tick.nanos < NANOS_PER_SEC
 }
 
+#[tactic(auto, unfolding(crate::specs::Questions::lifetime_fits))]
 pub(crate) fn lifetime_fits(ttl: Lifetime) -> bool
     ensures { result ≡ lifetime_fits ttl }
 {
@@ -41,12 +43,14 @@ pub(crate) fn lifetime_fits(ttl: Lifetime) -> bool
     lifetime.nanos < NANOS_PER_SEC
 }
 
+#[tactic(auto, unfolding(crate::specs::Questions::occupancy_fits))]
 pub(crate) fn occupancy_fits(occupied: u8) -> bool
     ensures { result ≡ occupancy_fits occupied }
 {
     1 <= occupied && occupied <= 7
 }
 
+#[tactic(auto, unfolding(crate::specs::Questions::tick_runs))]
 pub(crate) fn tick_runs(expiry: SegmentExpiry) -> bool
     ensures { result ≡ tick_runs expiry }
 {
@@ -56,6 +60,7 @@ pub(crate) fn tick_runs(expiry: SegmentExpiry) -> bool
     !tick.is_zero()
 }
 
+#[tactic(auto, unfolding(crate::specs::Questions::setting_fits))]
 fn setting_fits(config: SegmentCacheConfig) -> bool
     ensures { result ≡ setting_fits config }
 {
@@ -72,6 +77,7 @@ pub(crate) fn filter_words_for(records: usize, bits: u8) -> usize
 }
 
 // Setting, records, buckets and filter words of a state.
+#[tactic(auto, unfolding(crate::specs::Questions::counts_fit))]
 pub(crate) fn counts_fit(
     config: SegmentCacheConfig,
     records: usize,
@@ -94,18 +100,21 @@ pub(crate) fn bytes_fit(records: usize, bytes: usize) -> bool
     bytes <= records * MAX_ARENA_BYTES
 }
 
+#[tactic(auto, unfolding(crate::specs::Questions::arena_holds))]
 pub(crate) fn arena_holds(filled: usize, arena_len: usize) -> bool
     ensures { result ≡ arena_holds filled arena_len }
 {
     filled <= arena_len && arena_len <= MAX_ARENA_BYTES
 }
 
+#[tactic(auto, unfolding(crate::specs::Questions::segment_areas_hold))]
 pub(crate) fn segment_areas_hold(starts_len: usize, lengths_len: usize) -> bool
     ensures { result ≡ segment_areas_hold starts_len lengths_len }
 {
     starts_len >= MAX_RECORD_SEGMENTS && lengths_len >= MAX_RECORD_SEGMENTS
 }
 
+#[tactic(auto, unfolding(crate::specs::Questions::target_fits))]
 pub(crate) fn target_fits(target: usize) -> bool
     ensures { result ≡ target_fits target }
 {
@@ -113,6 +122,7 @@ pub(crate) fn target_fits(target: usize) -> bool
 }
 
 // The word layout needs no scratch.
+#[tactic(auto, unfolding(crate::specs::Questions::scratch_holds))]
 pub(crate) fn scratch_holds(config: SegmentCacheConfig, buckets: usize, scratch_len: usize) -> bool
     ensures { result ≡ scratch_holds config buckets scratch_len }
 {
@@ -120,6 +130,7 @@ pub(crate) fn scratch_holds(config: SegmentCacheConfig, buckets: usize, scratch_
 }
 
 // The questions that open and area_words ask of a setting and a number of records.
+#[tactic(auto, unfolding(crate::specs::Questions::ask_counts))]
 pub(crate) fn check_counts(
     config: SegmentCacheConfig,
     entry_count: usize,
@@ -143,6 +154,7 @@ pub(crate) fn check_counts(
 }
 
 // The questions of open.
+#[tactic(auto, unfolding(crate::specs::Questions::ask_open, crate::specs::Questions::ask_counts))]
 pub(crate) fn check_open(
     config: SegmentCacheConfig,
     entry_count: usize,
@@ -166,6 +178,7 @@ pub(crate) fn check_open(
 }
 
 // Whether index and filter hold the words of so many records.
+#[tactic(auto, unfolding(crate::specs::Questions::open_areas_hold))]
 pub(crate) fn open_areas_hold(
     config: SegmentCacheConfig,
     entry_count: usize,

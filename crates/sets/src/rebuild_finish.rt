@@ -12,6 +12,7 @@ use hash_parts::error::SegmentCacheBuildError;
 
 impl SharedSegmentCacheBuilder {
     // The questions of finish.
+    #[tactic(auto, unfolding(crate::specs::Rebuild::ask_rebuild_finish))]
     pub(crate) fn check_finish(
         self,
         index_len: usize,
@@ -35,6 +36,7 @@ impl SharedSegmentCacheBuilder {
     }
 
     // No segment is added for no copied bytes, unless none is kept.
+    #[tactic(auto, unfolding(crate::specs::Rebuild::adds_segment))]
     fn adds_segment(self) -> bool
         ensures { result ≡ adds_segment self }
     {

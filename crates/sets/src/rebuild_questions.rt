@@ -32,6 +32,7 @@ pub(crate) const SEGMENT_BYTES: usize = index::word::SEGMENT_BYTES as usize;
 
 impl SharedSegmentCacheBuilder {
     // Question 1: the state's own numbers.
+    #[tactic(auto, using(crate::proofs::Counts::counts_records, crate::proofs::RebuildSteps::segment_most), unfolding(crate::specs::Rebuild::rebuild_fits))]
     fn fits(self) -> bool
         ensures { result ≡ rebuild_fits self }
     {
@@ -49,6 +50,7 @@ impl SharedSegmentCacheBuilder {
     }
 
     // Question 1: index, segment areas and arena.
+    #[tactic(auto, using(crate::proofs::RebuildAsked::rebuild_asked, crate::proofs::RebuildSteps::areas_256, crate::proofs::RebuildSteps::arena_held), unfolding(crate::specs::Rebuild::areas_hold_rebuild))]
     pub(crate) fn areas_hold(
         self,
         index_len: usize,
@@ -73,6 +75,7 @@ impl SharedSegmentCacheBuilder {
     }
 
     // The questions of a reused push.
+    #[tactic(auto, using(crate::proofs::RebuildAsked::rebuild_areas_asked, crate::proofs::Decides::decided_refused, crate::proofs::Decides::own_refused), unfolding(crate::specs::RebuildPlans::plan_reused, crate::specs::Rebuild::ask_reused))]
     pub(crate) fn plan_reused(
         self,
         hash: u64,
@@ -154,6 +157,7 @@ impl SharedSegmentCacheBuilder {
     }
 
     // The questions of a copied push.
+    #[tactic(auto, using(crate::proofs::RebuildAsked::rebuild_areas_asked, crate::proofs::Decides::decided_refused, crate::proofs::Decides::own_refused), unfolding(crate::specs::RebuildPlans::plan_copied, crate::specs::Rebuild::ask_copied, crate::specs::RebuildPlans::plan_room, crate::specs::RebuildPlans::ask_room))]
     pub(crate) fn plan_copied(
         self,
         hash: u64,
@@ -189,6 +193,7 @@ impl SharedSegmentCacheBuilder {
     }
 
     // The last of them: room in the arena, a segment number, and a slot.
+    #[tactic(auto, using(crate::proofs::Appends::room, crate::proofs::Decides::decided_refused, crate::proofs::Decides::own_refused), unfolding(crate::specs::RebuildPlans::plan_room, crate::specs::RebuildPlans::ask_room))]
     fn plan_room(
         self,
         expires_at: u16,
@@ -234,6 +239,7 @@ fn segments_inside(count: usize, filled: usize, starts: &[u64], lengths: &[u64])
 }
 
 // Whether the arena holds the source's bytes and the copied ones after them.
+#[tactic(auto, unfolding(crate::specs::Questions::arena_holds))]
 fn arena_holds_both(source_filled: usize, copied: usize, arena_len: usize) -> bool
     ensures { result ≡ arena_holds (source_filled + copied) arena_len }
 {
@@ -243,6 +249,7 @@ fn arena_holds_both(source_filled: usize, copied: usize, arena_len: usize) -> bo
 }
 
 // Question 1 of a source.
+#[tactic(auto, using(crate::proofs::RebuildSteps::areas_256, crate::proofs::Counts::set_segments), unfolding(crate::specs::Rebuild::areas_hold_source))]
 pub fn source_holds(source: FrozenSegmentCache, areas: SegmentAreas<'_>) -> bool
     ensures { result ≡ areas_hold_source source areas.entry.starts.now areas.entry.lengths.now (length areas.entry.arena.now) }
 {
@@ -253,6 +260,7 @@ pub fn source_holds(source: FrozenSegmentCache, areas: SegmentAreas<'_>) -> bool
 }
 
 // The questions of rebuild open.
+#[tactic(auto, using(crate::proofs::RebuildAsked::source_areas_asked, crate::proofs::RebuildSteps::kept_most, crate::proofs::RebuildSteps::segment_most), unfolding(crate::specs::Rebuild::ask_rebuild_open))]
 pub(crate) fn check_rebuild_open(
     source: FrozenSegmentCache,
     source_areas: SegmentAreas<'_>,
@@ -289,6 +297,7 @@ pub(crate) fn check_rebuild_open(
 }
 
 // Whether a record that was read is this one.
+#[tactic(auto, unfolding(crate::specs::Rebuild::holds_record))]
 fn same_record(
     record: RecordRef,
     key: &[u8],

@@ -38,6 +38,7 @@ impl SegmentCacheStats {
     }
 
     // Occupied slots in basis points; 10,000 where they pass 16 bits.
+    #[tactic(auto, unfolding(crate::specs::Stats::load_of))]
     pub fn index_load_bps(self) -> u16
         ensures { result ≡ load_of self.entries self.index_slots }
     {
