@@ -49,6 +49,7 @@ pub(crate) struct PushPlan {
 
 impl SegmentCacheBuilder {
     // Opens a builder for so many records, and clears the index and filter words that they need.
+    #[tactic(auto, using(crate::proofs::Decides::decided_refused, crate::proofs::Asked::open_asked, crate::proofs::Asked::open_left_law, crate::proofs::Counts::counts_records), unfolding(crate::specs::Build::after_open))]
     pub fn try_new(
         config: SegmentCacheConfig,
         entry_count: usize,
@@ -77,6 +78,7 @@ impl SegmentCacheBuilder {
     }
 
     // Adds a record whose key is new. A refusal leaves builder and areas as they were.
+    #[tactic(auto, using(crate::proofs::Decides::planned_no, crate::proofs::Decides::planned_two, crate::proofs::Decides::decided_refused), unfolding(crate::specs::Build::after_push, crate::specs::BuildPlans::plan_push))]
     pub fn push(
         &mut self,
         hash: u64,
@@ -95,6 +97,7 @@ impl SegmentCacheBuilder {
 
     // Splits the records into segments and brings the index into the set's layout. Where there
     // would be more than 256 segments, only the first 256 starts are written. A refusal leaves the caller's builder open.
+    #[tactic(auto, using(crate::proofs::Splitting::finish_stopped, crate::proofs::Splitting::split_refused, crate::proofs::Splitting::split_made, crate::proofs::Asked::finish_asked))]
     pub fn finish(
         self,
         target: usize,
@@ -131,6 +134,7 @@ impl SegmentCacheBuilder {
     }
 
     // Writes the record, then its word and its filter mark.
+    #[tactic(auto, using(crate::proofs::Appends::appended, crate::proofs::Appends::push_left_law, crate::proofs::Appends::size_holds))]
     fn push_at(
         &mut self,
         plan: PushPlan,

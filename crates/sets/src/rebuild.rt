@@ -66,6 +66,7 @@ pub struct SharedSegmentCacheBuild {
 impl SharedSegmentCacheBuilder {
     // Opens a rebuild of a source: clears the index and filter words that so many records need, and
     // numbers the kept segments anew.
+    #[tactic(auto, using(crate::proofs::Decides::decided_refused, crate::proofs::RebuildAsked::reopen_asked, crate::proofs::Counts::counts_records, crate::proofs::RebuildSteps::reopen_left_law), unfolding(crate::specs::Rebuild::after_rebuild_open))]
     pub fn try_new(
         source: FrozenSegmentCache,
         source_areas: SegmentAreas<'_>,
@@ -100,6 +101,7 @@ impl SharedSegmentCacheBuilder {
     }
 
     // Takes over a record of a kept segment. A refusal leaves rebuild and areas as they were.
+    #[tactic(auto, using(crate::proofs::Decides::planned_no, crate::proofs::Decides::planned_yes, crate::proofs::Decides::decided_refused), unfolding(crate::specs::Rebuild::after_reused, crate::specs::RebuildPlans::plan_reused))]
     pub fn push_reused(
         &mut self,
         hash: u64,
@@ -118,6 +120,7 @@ impl SharedSegmentCacheBuilder {
 
     // Copies a record behind the filled arena. Key and value can't be parts of the arena, which is lent to be
     // written: the caller copies them first. A refusal leaves rebuild and areas as they were.
+    #[tactic(auto, using(crate::proofs::Decides::planned_no, crate::proofs::Decides::planned_two, crate::proofs::Decides::decided_refused), unfolding(crate::specs::Rebuild::after_copied, crate::specs::RebuildPlans::plan_copied))]
     pub fn push_copied(
         &mut self,
         hash: u64,
@@ -148,6 +151,7 @@ impl SharedSegmentCacheBuilder {
 
     // Adds the segment of the copied records and brings the index into the set's layout. A refusal leaves the caller's
     // rebuild open.
+    #[tactic(auto, using(crate::proofs::Decides::decided_refused, crate::proofs::RebuildAsked::refinish_asked, crate::proofs::KeptBits::retained_256, crate::proofs::RebuildSteps::adds_few, crate::proofs::RebuildSteps::sum_inside, crate::proofs::RebuildSteps::refinish_left_law), unfolding(crate::specs::Rebuild::after_rebuild_finish))]
     pub fn finish(
         self,
         index: &mut [u64],
@@ -171,6 +175,7 @@ impl SharedSegmentCacheBuilder {
     }
 
     // Writes the word and the filter mark of a record of a kept segment.
+    #[tactic(auto, using(crate::proofs::RebuildSteps::reused_left_law))]
     fn reused_at(
         &mut self,
         slot: usize,
@@ -191,6 +196,7 @@ impl SharedSegmentCacheBuilder {
     }
 
     // Writes the record, then its word and its filter mark.
+    #[tactic(auto, using(crate::proofs::Appends::appended, crate::proofs::Appends::size_holds, crate::proofs::RebuildSteps::copied_left_law))]
     fn copied_at(
         &mut self,
         plan: PushPlan,

@@ -89,6 +89,7 @@ impl SharedSegmentCacheBuilder {
     }
 
     // The kept segments, and that of the copied records.
+    #[tactic(auto, using(crate::proofs::KeptBits::retained_256))]
     fn segment_count(self) -> usize
         ensures { result ≡ retained self.kept + (if adds_segment self then 1 else 0) }
     {

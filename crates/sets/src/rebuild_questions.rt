@@ -32,7 +32,7 @@ pub(crate) const SEGMENT_BYTES: usize = index::word::SEGMENT_BYTES as usize;
 
 impl SharedSegmentCacheBuilder {
     // Question 1: the state's own numbers.
-    #[tactic(auto, using(crate::proofs::Counts::counts_records, crate::proofs::RebuildSteps::segment_most), unfolding(crate::specs::Rebuild::rebuild_fits))]
+    #[tactic(auto, using(crate::proofs::Counts::counts_records, crate::proofs::RebuildSteps::segment_most, crate::proofs::KeptBits::retained_256), unfolding(crate::specs::Rebuild::rebuild_fits))]
     fn fits(self) -> bool
         ensures { result ≡ rebuild_fits self }
     {
@@ -50,7 +50,7 @@ impl SharedSegmentCacheBuilder {
     }
 
     // Question 1: index, segment areas and arena.
-    #[tactic(auto, using(crate::proofs::RebuildAsked::rebuild_asked, crate::proofs::RebuildSteps::areas_256, crate::proofs::RebuildSteps::arena_held), unfolding(crate::specs::Rebuild::areas_hold_rebuild))]
+    #[tactic(auto, using(crate::proofs::RebuildAsked::rebuild_asked, crate::proofs::RebuildSteps::areas_256, crate::proofs::RebuildSteps::arena_held, crate::proofs::KeptBits::retained_256), unfolding(crate::specs::Rebuild::areas_hold_rebuild))]
     pub(crate) fn areas_hold(
         self,
         index_len: usize,
@@ -111,6 +111,7 @@ impl SharedSegmentCacheBuilder {
     }
 
     // Whether a kept segment holds this record where the source held it.
+    #[tactic(auto, using(crate::proofs::KeptBits::number_below, crate::proofs::KeptBits::retained_256), unfolding(crate::specs::Rebuild::holds_record))]
     fn holds_record(
         self,
         key: &[u8],
