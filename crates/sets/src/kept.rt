@@ -124,6 +124,7 @@ fn flag_bit(flags: &[u8], at: usize) -> u64
 }
 
 // How many flags keep their segment.
+#[tactic(auto, using(crate::proofs::KeptWords::kept_count_by))]
 pub(crate) fn kept_count(flags: &[u8]) -> usize
     ensures { result ≡ kept_count flags.now }
 {

@@ -60,6 +60,7 @@ pub(crate) fn base_record(
 }
 
 // The first record from a slot on, with its deadline as it is stored.
+#[tactic(auto, using(crate::proofs::WalkSteps::entry_hit, crate::proofs::WalkSteps::entry_miss, crate::proofs::WalkSteps::entry_none), unfolding(crate::specs::Lookup::next_entry))]
 pub(crate) fn next_entry(
     view: SegmentView,
     packed: bool,

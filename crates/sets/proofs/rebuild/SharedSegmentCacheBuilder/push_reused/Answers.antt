@@ -1,0 +1,31 @@
+-- `push_reused` meets its contract. Assumes nothing.
+use Rattle.std.proofs.Common.{◌+◌, ◌≤◌, sym, ap, ◌∙◌, arith}
+use Rattle.index.specs.declared.build.BuildSlot.TheVariants.{Empty}
+use Rattle.sets.specs.Rebuild.{kept_view, moved_location}
+use Rattle.sets.specs.RebuildPlans.{plan_reused, slot_planned}
+use Rattle.sets.proofs.Counts.{counts_records}
+use Rattle.sets.proofs.ReadInside.{reused_record}
+use Rattle.sets.proofs.RebuildAsked.{reused_asked}
+use Rattle.sets.proofs.EmptySlots.{found_inside}
+use Rattle.sets.proofs.Decides.{planned_yes}
+use Rattle.sets.proofs.rebuild.SharedSegmentCacheBuilder.push_reused.Goals as goal
+
+-- a slot and a record of the source are what its questions asked for
+pub reused_at-requires : goal.reused_at-requires
+unfolding plan_reused
+reused_at-requires c =
+    let a = c.args in
+    let p = planned_yes _ _ _ (sym c.plan_reused.ensures ∙ ap slot_planned c.in_ok-slot.was) in
+    let q = reused_asked _ _ _ _ _ _ _ _ _ _ p.0 in
+    let n = q.areas.numbers in
+    let few = counts_records _ _ _ _ n.counts in
+    let at = found_inside _ _ _ _ _ c.ranges.hash.fits q.areas.index_holds (q.place ∙ ap Empty p.1) in
+    let shown = (reused_record _ _ _ _ (kept_view a.self.now) _ _ (moved_location a.self.now a.source.location + 1) q.holds).3 in
+    let short = q.areas.arena_short in (
+      q.kept,
+      at,
+      q.announced,
+      omega (arith, few, n.announced, n.key_bytes, shown, short),
+      omega (arith, few, n.announced, n.value_bytes, shown, short),
+      omega (arith, few, n.announced, n.header_length, shown, short),
+    )
