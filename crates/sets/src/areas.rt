@@ -11,7 +11,7 @@ use index::segments::MAX_RECORD_SEGMENTS;
 use index::word::BUCKET_SLOTS;
 
 // Words of 64 bits.
-#[derive(Clone, Copy)]
+#[derive(Clone, Copy, Debug, PartialEq, Eq)]
 pub struct AreaWords {
     pub index: usize,
     pub filter: usize,

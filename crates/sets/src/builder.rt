@@ -34,7 +34,7 @@ pub struct SegmentCacheBuilder {
 }
 
 // Where a push put its record.
-#[derive(Clone, Copy)]
+#[derive(Clone, Copy, Debug, PartialEq, Eq)]
 pub struct PushedRecord {
     pub slot: usize,
     pub location: usize,

@@ -10,8 +10,9 @@ const WORD_BITS: usize = 64;
 
 const WORDS: usize = 4;
 
-// Bit g % 64 of word g / 64 says whether segment g is kept.
-#[derive(Clone, Copy)]
+// Bit g % 64 of word g / 64 says whether segment g is kept. Not an array: in clauses that is a list of any
+// length, and each law of a rebuild would have to ask for four.
+#[derive(Clone, Copy, Debug, PartialEq, Eq)]
 pub struct KeptSegments {
     pub w0: u64,
     pub w1: u64,
@@ -58,10 +59,8 @@ impl KeptSegments {
         ensures { result ≡ count_true (flat_map (bits_of 64) (take count (kept_words self))) }
     {
         let mut kept = 0;
-        let mut at = 0;
-        while at < count {
-            kept += u64::count_ones(self.word(at)) as usize;
-            at += 1;
+        for at in 0..count {
+            kept += self.word(at).count_ones() as usize;
         }
         kept
     }
@@ -96,7 +95,7 @@ fn set_bits(word: u64, count: usize) -> usize
     requires { count ≤ 63 }
     ensures { result ≡ count_true (bits_of count word) }
 {
-    u64::count_ones(word % (1u64 << count)) as usize
+    (word % (1u64 << count)).count_ones() as usize
 }
 
 // The word of 64 flags from one on; those past the last count as 0.
@@ -111,16 +110,14 @@ fn flag_word(flags: &[u8], from: usize) -> u64
     word
 }
 
+#[tactic(auto, using(crate::proofs::KeptWords::flag_out, crate::proofs::KeptWords::flag_dropped, crate::proofs::KeptWords::flag_kept))]
 fn flag_bit(flags: &[u8], at: usize) -> u64
     ensures { result ≡ flag_word (part at 1 flags.now) }
 {
-    if at >= flags.len() {
-        return 0;
+    match flags.get(at) {
+        Some(&flag) if flag != 0 => 1,
+        _ => 0,
     }
-    if flags[at] == 0 {
-        return 0;
-    }
-    1
 }
 
 // How many flags keep their segment.

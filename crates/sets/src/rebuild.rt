@@ -27,7 +27,7 @@ use index::word::{BUCKET_SLOTS, encode_index_word};
 use records::record::append_record;
 
 // Where a record stands in the source, and how many bytes precede its key.
-#[derive(Clone, Copy)]
+#[derive(Clone, Copy, Debug, PartialEq, Eq)]
 pub struct SegmentRecordLocation {
     pub location: usize,
     pub header_bytes: usize,
