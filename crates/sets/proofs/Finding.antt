@@ -2,7 +2,6 @@
 use Rattle.std.proofs.Common.{◌≡◌, ℕ, ◌+◌, ◌*◌, ◌^◌, ◌<◌, ◌≤◌, Bool, true, List, Option, length, mul-le-mul_left, arith}
 use Rattle.hash_parts.specs.declared.setting.SegmentCacheConfig.{SegmentCacheConfig}
 use Rattle.records.specs.declared.record.Span.{Span}
-use Rattle.index.specs.declared.find.FindAnswer.TheVariants as find
 use Rattle.index.specs.declared.find.FoundRecord.{FoundRecord}
 use Rattle.index.proofs.Buckets.{buckets_few}
 use Rattle.index.proofs.FoundSlots.{find_slot}
@@ -34,7 +33,7 @@ Held s index filter starts lengths arena = areas_hold_lookup s (length index) (l
 
 pub lookup_slot : (s : FrozenSegmentCache) (h : ℕ) (key index filter starts lengths arena : List ℕ) (y : FoundRecord) → h < 2 ^ 64
     → Held s index filter starts lengths arena
-    → find_of s h key index filter starts lengths arena ≡ find.Found y → y.slot < length index
+    → find_of s h key index filter starts lengths arena ≡ Some y → y.slot < length index
 unfolding areas_hold_lookup
 lookup_slot s h key index filter starts lengths arena y bound holds e =
     let t = find_slot (view_of s) s.config.packed_bucket_index index s.buckets filter s.filter_words starts lengths arena key h y bound e in

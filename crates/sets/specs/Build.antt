@@ -4,7 +4,7 @@ use Rattle.std.specs.Prelude.{ℕ, ◌+◌, ◌-◌, ◌*◌, Bool, Result, cond
 use Rattle.hash_parts.specs.Duration.{encoded_expiry}
 use Rattle.hash_parts.specs.Hash.{tag_of}
 use Rattle.hash_parts.specs.Outcome.{Outcome}
-use Rattle.hash_parts.specs.declared.duration.Lifetime.{Lifetime}
+use Rattle.hash_parts.specs.declared.duration.Duration.{Duration}
 use Rattle.hash_parts.specs.declared.error.SegmentCacheBuildError.{SegmentCacheBuildError}
 use Rattle.hash_parts.specs.declared.setting.SegmentCacheConfig.{SegmentCacheConfig}
 use Rattle.records.specs.Area.{pasted, over}
@@ -81,7 +81,7 @@ abbrev pub push_slot : SegmentCacheBuilder → ℕ → List ℕ → List ℕ →
 push_slot b h key index arena = build_slot index b.bucket_count (take b.filled arena) b.config.expiry key h
 
 -- the deadline of a new record, or its refusal, 5 or 6; "the base is 0 in a build"
-abbrev pub deadline_for : SegmentCacheConfig → Lifetime → Outcome
+abbrev pub deadline_for : SegmentCacheConfig → Option Duration → Outcome
 deadline_for c ttl = encoded_expiry c.expiry ttl 0
 
 -- where a record of these lengths would end
@@ -90,7 +90,7 @@ push_end b key value = b.filled + record_size b.config.expiry key value
 
 -- questions 1, 2 and 4; value and filter by their lengths. The fifth line is two questions, 4 and at the walk's end 3, and the sixth two, 5 and 6: the
 -- number is their outcome's
-unfoldable pub ask_push : SegmentCacheBuilder → ℕ → List ℕ → ℕ → Lifetime → List ℕ → ℕ → List ℕ → List (Bool × ℕ)
+unfoldable pub ask_push : SegmentCacheBuilder → ℕ → List ℕ → ℕ → Option Duration → List ℕ → ℕ → List ℕ → List (Bool × ℕ)
 ask_push b h key value ttl index filter arena =
     (areas_hold_builder b (length index) (length arena), 11)
     ∷ (nat_le b.filter_words filter, 11)
@@ -143,7 +143,7 @@ push_made slot deadline b h key value index filter arena =
       arena = pasted b.filled (record_bytes b.config.expiry key value deadline) arena;
     }
 
-unfoldable pub after_push : SegmentCacheBuilder → ℕ → List ℕ → List ℕ → Lifetime → List ℕ → List ℕ → List ℕ → Pushed
+unfoldable pub after_push : SegmentCacheBuilder → ℕ → List ℕ → List ℕ → Option Duration → List ℕ → List ℕ → List ℕ → Pushed
 after_push b h key value ttl index filter arena =
     decided (first_no (ask_push b h key (length value) ttl index (length filter) arena))
     (push_made (push_slot b h key index arena).value (deadline_for b.config ttl).value b h key value index filter arena)

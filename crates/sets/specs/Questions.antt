@@ -3,11 +3,10 @@
 use Rattle.std.specs.Prelude.{ℕ, zero, suc, ◌*◌, ◌^◌, Bool, true, false, Result, Ok, Err, cond, not, List, [], ◌∷◌, ◌==◌, nat_le, nat_lt}
 use Rattle.hash_parts.specs.Duration.{ceil_div, nanos_of}
 use Rattle.hash_parts.specs.Error.{error_number}
-use Rattle.hash_parts.specs.declared.duration.Lifetime.{Lifetime}
-use Rattle.hash_parts.specs.declared.duration.Lifetime.TheVariants as life
+use Rattle.hash_parts.specs.declared.duration.Duration.{Duration}
 use Rattle.hash_parts.specs.declared.error.SegmentCacheBuildError.{SegmentCacheBuildError}
 use Rattle.hash_parts.specs.declared.setting.SegmentExpiry.{SegmentExpiry}
-use Rattle.hash_parts.specs.declared.setting.SegmentExpiry.TheVariants.{None, Relative16}
+use Rattle.hash_parts.specs.declared.setting.SegmentExpiry.TheVariants as setting
 use Rattle.hash_parts.specs.declared.setting.SegmentCacheConfig.{SegmentCacheConfig}
 use Rattle.index.specs.Build.{buckets_for}
 use Rattle.index.specs.Segments.{most_segments}
@@ -34,20 +33,20 @@ decided (suc n) left refused = refused (suc n)
 
 -- question 2: "Are nanoseconds below 1,000,000,000?" Of a tick, and of a lifetime
 unfoldable pub nanoseconds_fit : SegmentExpiry → Bool
-nanoseconds_fit None = true
-nanoseconds_fit (Relative16 tick) = nat_lt tick.nanos 1_000_000_000
+nanoseconds_fit setting.None = true
+nanoseconds_fit (setting.Relative16 tick) = nat_lt tick.nanos 1_000_000_000
 
-unfoldable pub lifetime_fits : Lifetime → Bool
-lifetime_fits life.Never = true
-lifetime_fits (life.For lifetime) = nat_lt lifetime.nanos 1_000_000_000
+unfoldable pub lifetime_fits : Option Duration → Bool
+lifetime_fits None = true
+lifetime_fits (Some lifetime) = nat_lt lifetime.nanos 1_000_000_000
 
 -- question 3: "occupancy 1 to 7? .. Tick length above zero?"
 unfoldable pub occupancy_fits : ℕ → Bool
 occupancy_fits occupied = all (nat_le 1 occupied ∷ nat_le occupied 7 ∷ [])
 
 unfoldable pub tick_runs : SegmentExpiry → Bool
-tick_runs None = true
-tick_runs (Relative16 tick) = not (nanos_of tick == 0)
+tick_runs setting.None = true
+tick_runs (setting.Relative16 tick) = not (nanos_of tick == 0)
 
 -- question 1: "Does the setting pass question 2 and question 3's occupancy and tick length"
 unfoldable pub setting_fits : SegmentCacheConfig → Bool

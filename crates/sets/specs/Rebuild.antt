@@ -6,12 +6,11 @@ use Rattle.std.specs.Prelude.{ℕ, zero, suc, ◌+◌, ◌-◌, ◌*◌, ◌%◌
 use Rattle.hash_parts.specs.Duration.{encoded_expiry}
 use Rattle.hash_parts.specs.Hash.{tag_of}
 use Rattle.hash_parts.specs.Outcome.{Outcome}
-use Rattle.hash_parts.specs.declared.duration.Lifetime.{Lifetime}
+use Rattle.hash_parts.specs.declared.duration.Duration.{Duration}
 use Rattle.hash_parts.specs.declared.error.SegmentCacheBuildError.{SegmentCacheBuildError}
 use Rattle.records.specs.Area.{pasted, same_bytes, spanned, over}
 use Rattle.records.specs.Record.{record_bytes, record_size}
-use Rattle.records.specs.declared.record.RecordAnswer.{RecordAnswer}
-use Rattle.records.specs.declared.record.RecordAnswer.TheVariants.{Read, Unreadable}
+use Rattle.records.specs.declared.record.RecordRef.{RecordRef}
 use Rattle.index.specs.Build.{cleared, empty_slot}
 use Rattle.index.specs.Filter.{displaced_marked}
 use Rattle.index.specs.Packed.{packed_index, packed_scratch}
@@ -146,9 +145,9 @@ abbrev pub moved_location : SharedSegmentCacheBuilder → ℕ → ℕ
 moved_location r location = location_in (new_number r.kept (segment_part location)) (offset_part location)
 
 -- "Does the location hold this key, value and header length?"
-unfoldable pub holds_record : List ℕ → List ℕ → ℕ → List ℕ → RecordAnswer → Bool
-holds_record key value header arena Unreadable = false
-holds_record key value header arena (Read y) =
+unfoldable pub holds_record : List ℕ → List ℕ → ℕ → List ℕ → Option RecordRef → Bool
+holds_record key value header arena None = false
+holds_record key value header arena (Some y) =
     all ((y.key_offset == header) ∷ same_bytes (spanned arena y.key) key ∷ same_bytes (spanned arena y.value) value ∷ [])
 
 -- questions 1 and 7; the filter by its length; "rebuild pushes walk after all their other questions"
@@ -219,7 +218,7 @@ after_reused r h key value source index filter starts lengths arena =
 -- ---- copied push
 
 -- "copies have a tick given at rebuild open as base"
-abbrev pub copied_deadline : SharedSegmentCacheBuilder → Lifetime → Outcome
+abbrev pub copied_deadline : SharedSegmentCacheBuilder → Option Duration → Outcome
 copied_deadline r ttl = encoded_expiry r.config.expiry ttl r.source_now_tick
 
 abbrev pub copied_size : SharedSegmentCacheBuilder → ℕ → ℕ → ℕ
@@ -233,7 +232,7 @@ abbrev pub copied_location : SharedSegmentCacheBuilder → ℕ
 copied_location r = location_in (retained r.kept) r.copied_bytes
 
 -- questions 1, 2 and 7; key, value, filter and arena by their lengths
-unfoldable pub ask_copied : SharedSegmentCacheBuilder → ℕ → ℕ → ℕ → Lifetime → List ℕ → ℕ → List ℕ → List ℕ → ℕ → List (Bool × ℕ)
+unfoldable pub ask_copied : SharedSegmentCacheBuilder → ℕ → ℕ → ℕ → Option Duration → List ℕ → ℕ → List ℕ → List ℕ → ℕ → List (Bool × ℕ)
 ask_copied r h key value ttl index filter starts lengths arena =
     (areas_hold_rebuild r (length index) starts lengths arena, 11)
     ∷ (nat_le r.filter_words filter, 11)
@@ -270,7 +269,7 @@ copied_made slot deadline r h key value index filter arena =
       arena = pasted (rebuild_filled r) (record_bytes r.config.expiry key value deadline) arena;
     }
 
-unfoldable pub after_copied : SharedSegmentCacheBuilder → ℕ → List ℕ → List ℕ → Lifetime → List ℕ → List ℕ → List ℕ → List ℕ → List ℕ → Copied
+unfoldable pub after_copied : SharedSegmentCacheBuilder → ℕ → List ℕ → List ℕ → Option Duration → List ℕ → List ℕ → List ℕ → List ℕ → List ℕ → Copied
 after_copied r h key value ttl index filter starts lengths arena =
     decided (first_no (ask_copied r h (length key) (length value) ttl index (length filter) starts lengths (length arena)))
     (copied_made (empty_slot index r.bucket_count h).value (copied_deadline r ttl).value r h key value index filter arena)

@@ -1,6 +1,6 @@
 -- What the plans of a rebuild's pushes come to: the slot of a new record, and the deadline of a copied one, or the first refusal. For private functions alone. Assumes nothing.
 use Rattle.std.specs.Prelude.{ℕ, ◌+◌, Bool, Result, List, [], ◌∷◌, ◌==◌, nat_le, nat_lt}
-use Rattle.hash_parts.specs.declared.duration.Lifetime.{Lifetime}
+use Rattle.hash_parts.specs.declared.duration.Duration.{Duration}
 use Rattle.hash_parts.specs.declared.error.SegmentCacheBuildError.{SegmentCacheBuildError}
 use Rattle.index.specs.Build.{empty_slot}
 use Rattle.index.specs.Segments.{most_segments}
@@ -34,7 +34,7 @@ unfoldable pub plan_room : SharedSegmentCacheBuilder → ℕ → ℕ → ℕ →
 plan_room r deadline h key value index arena =
     decided (first_no (ask_room r h key value index arena)) (accept ((empty_slot index r.bucket_count h).value, deadline)) (λ n. refuse n tt)
 
-unfoldable pub plan_copied : SharedSegmentCacheBuilder → ℕ → ℕ → ℕ → Lifetime → List ℕ → ℕ → List ℕ → List ℕ → ℕ → Reply (ℕ × ℕ) (Unit {0})
+unfoldable pub plan_copied : SharedSegmentCacheBuilder → ℕ → ℕ → ℕ → Option Duration → List ℕ → ℕ → List ℕ → List ℕ → ℕ → Reply (ℕ × ℕ) (Unit {0})
 plan_copied r h key value ttl index filter starts lengths arena =
     decided (first_no (ask_copied r h key value ttl index filter starts lengths arena))
     (accept ((empty_slot index r.bucket_count h).value, (copied_deadline r ttl).value))

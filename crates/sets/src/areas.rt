@@ -1,4 +1,4 @@
-// The areas that a set is lent: those that calls only read together, and how large each must be for so many records.
+// How large the areas must be that are lent for so many records.
 ghost use Rattle.std.specs.Prelude.{◌≡◌, ◌≤◌, if◌then◌else◌};
 ghost use Rattle.sets.specs.Questions.{most_records};
 ghost use Rattle.sets.specs.Areas.{area_words_for, area_words_reply, words_needed};
@@ -19,14 +19,6 @@ pub struct AreaWords {
     pub lengths: usize,
     // For finish alone.
     pub scratch: usize,
-}
-
-// The segment areas and the arena, where a call only reads them.
-#[derive(Clone, Copy)]
-pub struct SegmentAreas<'a> {
-    pub starts: &'a [u64],
-    pub lengths: &'a [u64],
-    pub arena: &'a [u8],
 }
 
 // The least lengths that open, finish and the rebuild calls take. An area may be longer.

@@ -10,9 +10,9 @@ use crate::questions::{
     arena_holds, bytes_fit, counts_fit, lifetime_fits, record_fits, scratch_holds,
     segment_areas_hold, target_fits,
 };
-use hash_parts::duration::{EncodedExpiry, Lifetime, encode_expiry_at_tick};
+use hash_parts::duration::{Duration, encode_expiry_at_tick};
 use hash_parts::error::SegmentCacheBuildError;
-use index::build::{BuildSlot, find_build_slot};
+use index::build::find_build_slot;
 use index::segments::locations_inside;
 use index::word::BUCKET_SLOTS;
 
@@ -54,7 +54,7 @@ impl SegmentCacheBuilder {
         hash: u64,
         key: &[u8],
         value_bytes: usize,
-        ttl: Lifetime,
+        ttl: Option<Duration>,
         index: &[u64],
         filter_len: usize,
         arena: &[u8],
@@ -75,13 +75,8 @@ impl SegmentCacheBuilder {
         }
         let filled = &arena[..self.filled];
         let expiry = self.config.expiry;
-        match find_build_slot(index, self.bucket_count, filled, expiry, key, hash) {
-            BuildSlot::Duplicate => Err(SegmentCacheBuildError::DuplicateKey),
-            BuildSlot::Full => Err(SegmentCacheBuildError::CapacityOverflow),
-            BuildSlot::Empty(slot) => {
-                self.plan_record(slot, key.len(), value_bytes, ttl, arena.len())
-            }
-        }
+        let slot = find_build_slot(index, self.bucket_count, filled, expiry, key, hash)?;
+        self.plan_record(slot, key.len(), value_bytes, ttl, arena.len())
     }
 
     // The last of them: the deadline, and room in the arena.
@@ -91,18 +86,14 @@ impl SegmentCacheBuilder {
         slot: usize,
         key_bytes: usize,
         value_bytes: usize,
-        ttl: Lifetime,
+        ttl: Option<Duration>,
         arena_len: usize,
     ) -> Result<PushPlan, SegmentCacheBuildError>
         requires { self.filled ≤ arena_len }
         ensures { planned result ≡ plan_record self slot key_bytes value_bytes ttl arena_len }
     {
         let expiry = self.config.expiry;
-        let deadline = encode_expiry_at_tick(expiry, ttl, 0);
-        let expires_at = match deadline {
-            EncodedExpiry::Refused(refusal) => return Err(refusal),
-            EncodedExpiry::At(expires_at) => expires_at,
-        };
+        let expires_at = encode_expiry_at_tick(expiry, ttl, 0)?;
         if !record_fits(expiry, key_bytes, value_bytes, arena_len - self.filled) {
             return Err(SegmentCacheBuildError::AreaTooShort);
         }

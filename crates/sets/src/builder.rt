@@ -6,19 +6,19 @@ ghost use Rattle.records.specs.Record.{encoded_size, size_outcome};
 ghost use Rattle.sets.specs.Questions.{most_arena_bytes, most_records};
 ghost use Rattle.sets.specs.Build.{after_finish, after_open, after_push, builder_grown, builder_opened, finish_result, open_result, push_end, push_made, push_result, set_of};
 
-use crate::areas::SegmentAreas;
 use crate::cache::FrozenSegmentCache;
 use crate::questions::{check_open, filter_words_for};
-use hash_parts::duration::Lifetime;
+use hash_parts::duration::Duration;
 use hash_parts::error::SegmentCacheBuildError;
 use hash_parts::hash::hash_tag;
 use hash_parts::setting::SegmentCacheConfig;
 use index::build::{bucket_count, clear_words};
 use index::filter::mark_displaced;
 use index::packed::finish_packed_index;
-use index::segments::{SplitAnswer, split_record_segments};
+use index::segments::split_record_segments;
+use index::view::SegmentAreas;
 use index::word::{BUCKET_SLOTS, encode_index_word};
-use records::record::{SizeAnswer, append_record};
+use records::record::append_record;
 
 #[derive(Clone, Copy)]
 pub struct SegmentCacheBuilder {
@@ -71,7 +71,7 @@ impl SegmentCacheBuilder {
         config: SegmentCacheConfig,
         key_bytes: usize,
         value_bytes: usize,
-    ) -> SizeAnswer
+    ) -> Result<usize, SegmentCacheBuildError>
         ensures { size_outcome result ≡ encoded_size config.expiry key_bytes value_bytes }
     {
         records::record::encoded_record_bytes(config.expiry, key_bytes, value_bytes)
@@ -84,7 +84,7 @@ impl SegmentCacheBuilder {
         hash: u64,
         key: &[u8],
         value: &[u8],
-        ttl: Lifetime,
+        ttl: Option<Duration>,
         index: &mut [u64],
         filter: &mut [u64],
         arena: &mut [u8],
@@ -118,17 +118,7 @@ impl SegmentCacheBuilder {
             arena.len(),
         )?;
         let buckets = self.bucket_count;
-        let segments = match split_record_segments(
-            index,
-            buckets,
-            self.filled,
-            target,
-            starts,
-            lengths,
-        ) {
-            SplitAnswer::Refused(refusal) => return Err(refusal),
-            SplitAnswer::Segments(segments) => segments,
-        };
+        let segments = split_record_segments(index, buckets, self.filled, target, starts, lengths)?;
         pack_index(self.config.packed_bucket_index, index, buckets, scratch);
         Ok(self.into_cache(segments))
     }

@@ -4,7 +4,6 @@ ghost use Rattle.std.specs.Prelude.{◌≡◌, length};
 ghost use Rattle.sets.specs.Answers.{probe_reply, stats_reply, walk_reply};
 ghost use Rattle.sets.specs.Lookup.{areas_hold_lookup, areas_hold_set, after_get, after_peek, find_of, get_result, probe_answer, set_fits, stats_answer, after_take, take_result, view_of, walk_answer};
 
-use crate::areas::SegmentAreas;
 use crate::lookup::{base_record, live_value, mark_live, next_entry};
 use crate::marks::clear_accessed;
 use crate::questions::{arena_holds, bytes_fit, counts_fit, segment_areas_hold};
@@ -12,9 +11,10 @@ use crate::stats::SegmentCacheStats;
 use hash_parts::duration::SegmentRemainingTtl;
 use hash_parts::error::SegmentCacheBuildError;
 use hash_parts::setting::SegmentCacheConfig;
-use index::find::{FindAnswer, find_record};
+use index::filter::NegativeFilter;
+use index::find::{FinishedIndex, FoundRecord, find_record};
 use index::segments::MAX_RECORD_SEGMENTS;
-use index::view::SegmentView;
+use index::view::{SegmentAreas, SegmentView};
 use index::word::BUCKET_SLOTS;
 use records::record::Span;
 
@@ -44,7 +44,7 @@ pub struct SegmentBaseRecord {
     pub key: Span,
     pub value: Span,
     pub end: usize,
-    pub remaining_ttl: SegmentRemainingTtl,
+    pub remaining_ttl: Option<SegmentRemainingTtl>,
 }
 
 impl FrozenSegmentCache {
@@ -64,7 +64,7 @@ impl FrozenSegmentCache {
         if !self.lookup_areas_hold(index.len(), filter.len(), areas) {
             return Err(SegmentCacheBuildError::InvalidState);
         }
-        let FindAnswer::Found(found) = self.find(hash, key, index, filter, areas) else {
+        let Some(found) = self.find(hash, key, index, filter, areas) else {
             return Ok(None);
         };
         mark_live(found, now_tick, self.config.packed_bucket_index, index);
@@ -87,7 +87,7 @@ impl FrozenSegmentCache {
         if !self.lookup_areas_hold(index.len(), filter.len(), areas) {
             return Err(SegmentCacheBuildError::InvalidState);
         }
-        let FindAnswer::Found(found) = self.find(hash, key, index, filter, areas) else {
+        let Some(found) = self.find(hash, key, index, filter, areas) else {
             return Ok(None);
         };
         Ok(live_value(found, now_tick))
@@ -108,7 +108,7 @@ impl FrozenSegmentCache {
         if !self.lookup_areas_hold(index.len(), filter.len(), areas) {
             return Err(SegmentCacheBuildError::InvalidState);
         }
-        let FindAnswer::Found(found) = self.find(hash, key, index, filter, areas) else {
+        let Some(found) = self.find(hash, key, index, filter, areas) else {
             return Ok(false);
         };
         Ok(clear_accessed(index, self.config.packed_bucket_index, found.slot))
@@ -130,7 +130,7 @@ impl FrozenSegmentCache {
         if !self.lookup_areas_hold(index.len(), filter.len(), areas) {
             return Err(SegmentCacheBuildError::InvalidState);
         }
-        let FindAnswer::Found(found) = self.find(hash, key, index, filter, areas) else {
+        let Some(found) = self.find(hash, key, index, filter, areas) else {
             return Ok(None);
         };
         Ok(Some(base_record(self.config, found, now_tick)))
@@ -151,12 +151,8 @@ impl FrozenSegmentCache {
         if !self.areas_hold(index.len(), areas) {
             return Err(SegmentCacheBuildError::InvalidState);
         }
-        let packed = self.config.packed_bucket_index;
-        let next = next_entry(self.view(), packed, self.buckets, from, index, areas);
-        let FindAnswer::Found(found) = next else {
-            return Ok(None);
-        };
-        Ok(Some(base_record(self.config, found, now_tick)))
+        let found = next_entry(self.view(), self.finished_index(index), from, areas);
+        Ok(found.map(|found| base_record(self.config, found, now_tick)))
     }
 
     #[tactic(auto, using(crate::proofs::Finding::few_buckets, crate::proofs::Finding::few_words, crate::proofs::Finding::stats_made, crate::proofs::Counts::set_counts), unfolding(crate::specs::Lookup::stats_answer, crate::specs::Lookup::ask_stats))]
@@ -186,23 +182,25 @@ impl FrozenSegmentCache {
         index: &[u64],
         filter: &[u64],
         areas: SegmentAreas<'_>,
-    ) -> FindAnswer
+    ) -> Option<FoundRecord>
         ensures { result ≡ find_of self hash key.now index.now filter.now areas.entry.starts.now areas.entry.lengths.now areas.entry.arena.now }
     {
-        let packed = self.config.packed_bucket_index;
-        find_record(
-            self.view(),
-            packed,
-            index,
-            self.buckets,
-            filter,
-            self.filter_words,
-            areas.starts,
-            areas.lengths,
-            areas.arena,
-            key,
-            hash,
-        )
+        let index = self.finished_index(index);
+        let filter = NegativeFilter {
+            words: filter,
+            count: self.filter_words,
+        };
+        find_record(self.view(), index, filter, areas, key, hash)
+    }
+
+    fn finished_index(self, words: &[u64]) -> FinishedIndex<'_>
+        ensures { (result.words.now ≡ words.now) × (result.packed ≡ self.config.packed_bucket_index) × (result.buckets ≡ self.buckets) }
+    {
+        FinishedIndex {
+            words,
+            packed: self.config.packed_bucket_index,
+            buckets: self.buckets,
+        }
     }
 
     // Question 1 of a lookup: all five areas.

@@ -4,16 +4,14 @@ ghost use Rattle.index.specs.View.{record_in};
 ghost use Rattle.sets.specs.Answers.{get_reply};
 ghost use Rattle.sets.specs.Lookup.{base_record, entry_at, live_marked, live_value, next_entry};
 
-use crate::areas::SegmentAreas;
 use crate::cache::SegmentBaseRecord;
 use crate::marks::mark_accessed;
 use hash_parts::duration::{lives_at_tick, remaining_ttl};
 use hash_parts::setting::SegmentCacheConfig;
-use index::find::{FindAnswer, FoundRecord, slot_at};
-use index::slot::IndexSlot;
-use index::view::{SegmentView, record_at_location};
+use index::find::{FinishedIndex, FoundRecord};
+use index::view::{SegmentAreas, SegmentView};
 use index::word::BUCKET_SLOTS;
-use records::record::{RecordAnswer, Span};
+use records::record::{RecordRef, Span};
 
 // The value of a record, where it lives.
 #[tactic(auto, unfolding(crate::specs::Lookup::live_value))]
@@ -63,38 +61,31 @@ pub(crate) fn base_record(
 #[tactic(auto, using(crate::proofs::WalkSteps::entry_hit, crate::proofs::WalkSteps::entry_miss, crate::proofs::WalkSteps::entry_none), unfolding(crate::specs::Lookup::next_entry))]
 pub(crate) fn next_entry(
     view: SegmentView,
-    packed: bool,
-    buckets: usize,
+    index: FinishedIndex<'_>,
     from: usize,
-    index: &[u64],
     areas: SegmentAreas<'_>,
-) -> FindAnswer
-    requires { 8 * buckets ≤ length index.now }
-    ensures { result ≡ next_entry (record_in view areas.entry.arena.now areas.entry.starts.now areas.entry.lengths.now) packed buckets index.now from }
+) -> Option<FoundRecord>
+    requires { 8 * index.buckets ≤ length index.words.now }
+    ensures { result ≡ next_entry (record_in view areas.entry.arena.now areas.entry.starts.now areas.entry.lengths.now) index.entry.packed index.entry.buckets index.entry.words.now from }
 {
-    let slots = buckets * BUCKET_SLOTS;
-    for slot in from..slots {
-        if let RecordAnswer::Read(entry) = entry_at(view, packed, buckets, slot, index, areas) {
-            return FindAnswer::Found(FoundRecord { slot, entry });
+    for slot in from..index.buckets * BUCKET_SLOTS {
+        if let Some(entry) = entry_at(view, index, slot, areas) {
+            return Some(FoundRecord { slot, entry });
         }
     }
-    FindAnswer::Nothing
+    None
 }
 
 // The record that a slot names.
 #[tactic(auto, unfolding(crate::specs::Lookup::entry_at))]
 fn entry_at(
     view: SegmentView,
-    packed: bool,
-    buckets: usize,
+    index: FinishedIndex<'_>,
     slot: usize,
-    index: &[u64],
     areas: SegmentAreas<'_>,
-) -> RecordAnswer
-    ensures { result ≡ entry_at (record_in view areas.entry.arena.now areas.entry.starts.now areas.entry.lengths.now) packed buckets index.now slot }
+) -> Option<RecordRef>
+    ensures { result ≡ entry_at (record_in view areas.entry.arena.now areas.entry.starts.now areas.entry.lengths.now) index.entry.packed index.entry.buckets index.entry.words.now slot }
 {
-    let IndexSlot::Used(_, stored) = slot_at(index, packed, buckets, slot) else {
-        return RecordAnswer::Unreadable;
-    };
-    record_at_location(view, areas.arena, areas.starts, areas.lengths, stored)
+    let (_, stored) = index.slot_at(slot)?;
+    view.record_at_location(areas, stored)
 }

@@ -5,15 +5,15 @@ ghost use Rattle.hash_parts.specs.Duration.{ceil_div};
 ghost use Rattle.records.specs.Record.{record_size};
 ghost use Rattle.sets.specs.Questions.{arena_holds, ask_counts, ask_open, check_number, counts_fit, first_no, lifetime_fits, most_records, nanoseconds_fit, occupancy_fits, open_areas_hold, scratch_holds, segment_areas_hold, setting_fits, target_fits, tick_runs};
 
-use crate::areas::SegmentAreas;
-use hash_parts::duration::Lifetime;
+use hash_parts::duration::Duration;
 use hash_parts::error::SegmentCacheBuildError;
 use hash_parts::setting::{SegmentCacheConfig, SegmentExpiry};
 use index::build::bucket_count;
 use index::filter::negative_filter_words;
 use index::segments::MAX_RECORD_SEGMENTS;
+use index::view::SegmentAreas;
 use index::word::BUCKET_SLOTS;
-use records::record::{SizeAnswer, encoded_record_bytes};
+use records::record::encoded_record_bytes;
 
 pub(crate) const MAX_RECORDS: usize = 1_048_576;
 
@@ -34,10 +34,10 @@ pub(crate) fn nanoseconds_fit(expiry: SegmentExpiry) -> bool
 }
 
 #[tactic(auto, unfolding(crate::specs::Questions::lifetime_fits))]
-pub(crate) fn lifetime_fits(ttl: Lifetime) -> bool
+pub(crate) fn lifetime_fits(ttl: Option<Duration>) -> bool
     ensures { result ≡ lifetime_fits ttl }
 {
-    let Lifetime::For(lifetime) = ttl else {
+    let Some(lifetime) = ttl else {
         return true;
     };
     lifetime.nanos < NANOS_PER_SEC
@@ -201,8 +201,5 @@ pub(crate) fn record_fits(
 ) -> bool
     ensures { result ≡ nat_le (record_size expiry key_bytes value_bytes) rest }
 {
-    let SizeAnswer::Bytes(size) = encoded_record_bytes(expiry, key_bytes, value_bytes) else {
-        return false;
-    };
-    size <= rest
+    encoded_record_bytes(expiry, key_bytes, value_bytes).is_ok_and(|size| size <= rest)
 }

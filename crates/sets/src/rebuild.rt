@@ -10,19 +10,19 @@ ghost use Rattle.sets.specs.Questions.{most_arena_bytes, most_records};
 ghost use Rattle.sets.specs.Kept.{chosen, is_kept, retained};
 ghost use Rattle.sets.specs.Rebuild.{after_copied, after_rebuild_finish, after_rebuild_open, after_reused, copied_grown, copied_made, copied_result, copied_size, rebuild_filled, rebuild_finish_result, rebuild_open_result, rebuild_opened, reused_grown, reused_made, reused_result};
 
-use crate::areas::SegmentAreas;
 use crate::builder::{PushPlan, PushedRecord, pack_index};
 use crate::cache::FrozenSegmentCache;
 use crate::kept::{KeptSegments, copy_kept};
 use crate::questions::filter_words_for;
 use crate::rebuild_questions::{SEGMENT_BYTES, check_rebuild_open};
-use hash_parts::duration::Lifetime;
+use hash_parts::duration::Duration;
 use hash_parts::error::SegmentCacheBuildError;
 use hash_parts::hash::hash_tag;
 use hash_parts::setting::SegmentCacheConfig;
 use index::build::{bucket_count, clear_words};
 use index::filter::mark_displaced;
 use index::segments::MAX_RECORD_SEGMENTS;
+use index::view::SegmentAreas;
 use index::word::{BUCKET_SLOTS, encode_index_word};
 use records::record::append_record;
 
@@ -126,7 +126,7 @@ impl SharedSegmentCacheBuilder {
         hash: u64,
         key: &[u8],
         value: &[u8],
-        ttl: Lifetime,
+        ttl: Option<Duration>,
         index: &mut [u64],
         filter: &mut [u64],
         starts: &[u64],

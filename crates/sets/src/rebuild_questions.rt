@@ -1,7 +1,6 @@
 // The questions of rebuilds, which only read. Every number of a state and of the areas lent to it is
 // free: sums are made only after what bounds them was asked.
-ghost use Rattle.std.specs.Prelude.{◌≡◌, ◌+◌, ◌*◌, ◌/◌, ◌^◌, ◌<◌, ◌≤◌, true, length};
-ghost use Rattle.records.specs.declared.record.RecordAnswer.TheVariants as readings;
+ghost use Rattle.std.specs.Prelude.{◌≡◌, ◌+◌, ◌*◌, ◌/◌, ◌^◌, ◌<◌, ◌≤◌, true, Some, length};
 ghost use Rattle.index.specs.View.{record_in};
 ghost use Rattle.index.specs.Word.{segment_part};
 ghost use Rattle.sets.specs.BuildPlans.{planned};
@@ -10,7 +9,6 @@ ghost use Rattle.sets.specs.Questions.{arena_holds, check_number, first_no};
 ghost use Rattle.sets.specs.Rebuild.{areas_hold_rebuild, areas_hold_source, ask_rebuild_open, rebuild_filled, holds_record, kept_view, moved_location, rebuild_fits, segment_for, segments_inside};
 ghost use Rattle.sets.specs.RebuildPlans.{plan_copied, plan_reused, plan_room, slot_planned};
 
-use crate::areas::SegmentAreas;
 use crate::builder::PushPlan;
 use crate::cache::FrozenSegmentCache;
 use crate::kept::kept_count;
@@ -19,13 +17,13 @@ use crate::questions::{
     segment_areas_hold,
 };
 use crate::rebuild::{SegmentRecordLocation, SharedSegmentCacheBuilder};
-use hash_parts::duration::{EncodedExpiry, Lifetime, encode_expiry_at_tick};
+use hash_parts::duration::{Duration, encode_expiry_at_tick};
 use hash_parts::error::SegmentCacheBuildError;
-use index::build::{BuildSlot, find_empty_build_slot};
+use index::build::find_empty_build_slot;
 use index::segments::MAX_RECORD_SEGMENTS;
-use index::view::{SegmentView, record_at_location};
+use index::view::{SegmentAreas, SegmentView};
 use index::word::BUCKET_SLOTS;
-use records::record::{RecordAnswer, RecordRef, same_bytes, value_slice};
+use records::record::{RecordRef, same_bytes, value_slice};
 
 // Locations in records and states are a usize.
 pub(crate) const SEGMENT_BYTES: usize = index::word::SEGMENT_BYTES as usize;
@@ -103,11 +101,7 @@ impl SharedSegmentCacheBuilder {
         if !self.holds_record(key, value, source, areas) {
             return Err(SegmentCacheBuildError::RecordMismatch);
         }
-        match find_empty_build_slot(index, self.bucket_count, hash) {
-            BuildSlot::Duplicate => Err(SegmentCacheBuildError::DuplicateKey),
-            BuildSlot::Full => Err(SegmentCacheBuildError::CapacityOverflow),
-            BuildSlot::Empty(slot) => Ok(slot),
-        }
+        find_empty_build_slot(index, self.bucket_count, hash)
     }
 
     // Whether a kept segment holds this record where the source held it.
@@ -123,14 +117,7 @@ impl SharedSegmentCacheBuilder {
         ensures { result ≡ holds_record key.now value.now source.header_bytes areas.entry.arena.now (record_in (kept_view self) areas.entry.arena.now areas.entry.starts.now areas.entry.lengths.now (moved_location self source.location + 1)) }
     {
         let stored = self.moved_location(source.location) as u64 + 1;
-        let read = record_at_location(
-            self.view(),
-            areas.arena,
-            areas.starts,
-            areas.lengths,
-            stored,
-        );
-        let RecordAnswer::Read(record) = read else {
+        let Some(record) = self.view().record_at_location(areas, stored) else {
             return false;
         };
         same_record(record, key, value, source.header_bytes, areas.arena)
@@ -164,7 +151,7 @@ impl SharedSegmentCacheBuilder {
         hash: u64,
         key_bytes: usize,
         value_bytes: usize,
-        ttl: Lifetime,
+        ttl: Option<Duration>,
         index: &[u64],
         filter_len: usize,
         starts: &[u64],
@@ -185,11 +172,7 @@ impl SharedSegmentCacheBuilder {
         if self.inserted_entries >= self.expected_entries {
             return Err(SegmentCacheBuildError::CapacityOverflow);
         }
-        let deadline = encode_expiry_at_tick(self.config.expiry, ttl, self.source_now_tick);
-        let expires_at = match deadline {
-            EncodedExpiry::Refused(refusal) => return Err(refusal),
-            EncodedExpiry::At(expires_at) => expires_at,
-        };
+        let expires_at = encode_expiry_at_tick(self.config.expiry, ttl, self.source_now_tick)?;
         self.plan_room(expires_at, hash, key_bytes, value_bytes, index, arena_len)
     }
 
@@ -214,11 +197,8 @@ impl SharedSegmentCacheBuilder {
         if self.kept.retained() >= MAX_RECORD_SEGMENTS {
             return Err(SegmentCacheBuildError::ArenaTooLarge);
         }
-        match find_empty_build_slot(index, self.bucket_count, hash) {
-            BuildSlot::Duplicate => Err(SegmentCacheBuildError::DuplicateKey),
-            BuildSlot::Full => Err(SegmentCacheBuildError::CapacityOverflow),
-            BuildSlot::Empty(slot) => Ok(PushPlan { slot, expires_at }),
-        }
+        let slot = find_empty_build_slot(index, self.bucket_count, hash)?;
+        Ok(PushPlan { slot, expires_at })
     }
 }
 
@@ -306,7 +286,7 @@ fn same_record(
     header_bytes: usize,
     arena: &[u8],
 ) -> bool
-    ensures { result ≡ holds_record key.now value.now header_bytes arena.now (readings.Read «record») }
+    ensures { result ≡ holds_record key.now value.now header_bytes arena.now (Some «record») }
 {
     record.key_offset == header_bytes
         && same_bytes(value_slice(arena, record.key), key)

@@ -1,21 +1,21 @@
 -- `finish` meets its contract. Assumes nothing.
-use Rattle.std.proofs.Common.{◌≡◌, Result, sym, ap, ◌∙◌}
+use Rattle.std.proofs.Common.{ℕ, Result, sym, ap, ◌∙◌}
+use Rattle.hash_parts.specs.declared.error.SegmentCacheBuildError.{SegmentCacheBuildError}
 use Rattle.index.specs.Segments.{split_result}
-use Rattle.index.specs.declared.segments.SplitAnswer.{SplitAnswer}
 use Rattle.sets.specs.Questions.{check_number}
 use Rattle.sets.proofs.Splitting.{split_made, split_refused}
 use Rattle.sets.proofs.builder.SegmentCacheBuilder.finish.Goals as goal
 
-pub returns-in-Refused : goal.returns-in-Refused
-returns-in-Refused c =
+pub returns-in_err-segments : goal.returns-in_err-segments
+returns-in_err-segments c =
     let w = c.split_record_segments in
     let asked = sym c.check_finish.ensures ∙ ap check_number c.in_ok-check_finish.was in
-    let split = ap (λ (r : SplitAnswer). split_result r w.new.index w.new.starts w.new.lengths) (sym c.in-Refused.is) ∙ w.ensures in
-    split_refused _ _ _ _ _ c.args.scratch.now _ _ _ _ c.in-Refused.refusal asked split
+    let split = ap (λ (r : Result ℕ SegmentCacheBuildError). split_result r w.new.index w.new.starts w.new.lengths) (sym c.in_err-segments.was) ∙ w.ensures in
+    split_refused _ _ _ _ _ c.args.scratch.now _ _ _ _ _ asked split
 
 pub returns : goal.returns
 returns c =
     let w = c.split_record_segments in
     let asked = sym c.check_finish.ensures ∙ ap check_number c.in_ok-check_finish.was in
-    let split = ap (λ (r : SplitAnswer). split_result r w.new.index w.new.starts w.new.lengths) (sym c.in-Segments.is) ∙ w.ensures in
-    split_made _ _ _ _ _ _ _ _ _ _ c.in-Segments.segments _ _ _ asked split c.into_cache.ensures c.pack_index.ensures.0 c.pack_index.ensures.1
+    let split = ap (λ (r : Result ℕ SegmentCacheBuildError). split_result r w.new.index w.new.starts w.new.lengths) (sym c.in_ok-segments.was) ∙ w.ensures in
+    split_made _ _ _ _ _ _ _ _ _ _ _ _ _ _ asked split c.into_cache.ensures c.pack_index.ensures.0 c.pack_index.ensures.1

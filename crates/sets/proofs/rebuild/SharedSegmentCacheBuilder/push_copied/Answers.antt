@@ -1,6 +1,5 @@
 -- `push_copied` meets its contract. Assumes nothing.
 use Rattle.std.proofs.Common.{◌≤◌, sym, ap, ◌∙◌, arith}
-use Rattle.index.specs.declared.build.BuildSlot.TheVariants.{Empty}
 use Rattle.sets.specs.BuildPlans.{planned}
 use Rattle.sets.specs.RebuildPlans.{plan_copied}
 use Rattle.sets.proofs.Counts.{counts_records}
@@ -17,7 +16,7 @@ copied_at-requires c =
     let q = copied_asked _ _ _ _ _ _ _ _ _ _ p.0 in
     let n = q.areas.numbers in
     let few = counts_records _ _ _ _ n.counts in
-    let at = found_inside _ _ _ _ _ c.ranges.hash.fits q.areas.index_holds (q.place ∙ ap Empty p.1) in (
+    let at = found_inside _ _ _ _ _ c.ranges.hash.fits q.areas.index_holds (q.place ∙ ap Ok p.1) in (
       q.fits,
       q.areas.arena_short,
       q.room,

@@ -1,6 +1,5 @@
 -- `push_reused` meets its contract. Assumes nothing.
 use Rattle.std.proofs.Common.{◌+◌, ◌≤◌, sym, ap, ◌∙◌, arith}
-use Rattle.index.specs.declared.build.BuildSlot.TheVariants.{Empty}
 use Rattle.sets.specs.Rebuild.{kept_view, moved_location}
 use Rattle.sets.specs.RebuildPlans.{plan_reused, slot_planned}
 use Rattle.sets.proofs.Counts.{counts_records}
@@ -19,7 +18,7 @@ reused_at-requires c =
     let q = reused_asked _ _ _ _ _ _ _ _ _ _ p.0 in
     let n = q.areas.numbers in
     let few = counts_records _ _ _ _ n.counts in
-    let at = found_inside _ _ _ _ _ c.ranges.hash.fits q.areas.index_holds (q.place ∙ ap Empty p.1) in
+    let at = found_inside _ _ _ _ _ c.ranges.hash.fits q.areas.index_holds (q.place ∙ ap Ok p.1) in
     let shown = (reused_record _ _ _ _ (kept_view a.self.now) _ _ (moved_location a.self.now a.source.location + 1) q.holds).3 in
     let short = q.areas.arena_short in (
       q.kept,
