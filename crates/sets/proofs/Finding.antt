@@ -40,13 +40,7 @@ lookup_slot s h key index filter starts lengths arena y bound holds e =
     let areas = (both (areas_hold_set s (length index) (length starts) (length lengths) (length arena)) _ holds).0 in
     omega (arith, t.1, set_index s (length index) (length starts) (length lengths) (length arena) areas)
 
--- ---- two parts of what a call leaves
-
-pub got : {x y : Reply (Option Span) (Unit {0})} {i j : List ℕ} → x ≡ y → i ≡ j → ◌≡◌ {A = Got} (record { answer = x; index = i }) (record { answer = y; index = j })
-got p q = rw (p, q)
-
-pub taken : {x y : Reply Bool (Unit {0})} {i j : List ℕ} → x ≡ y → i ≡ j → ◌≡◌ {A = Taken} (record { answer = x; index = i }) (record { answer = y; index = j })
-taken p q = rw (p, q)
+-- ---- statistics
 
 -- the statistics as they are worked out
 pub stats_made : (s : FrozenSegmentCache)

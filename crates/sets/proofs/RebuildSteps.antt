@@ -140,10 +140,6 @@ arena_held filled arena e =
 
 -- ---- what a push leaves
 
--- totals that wrap may wrap at each step
-pub wraps : (a b c d : ℕ) → (((a + b) % 2 ^ 64 + c) % 2 ^ 64 + d) % 2 ^ 64 ≡ (a + (b + c + d)) % 2 ^ 64
-wraps a b c d = omega arith
-
 module _ (slot : ℕ) (r : SharedSegmentCacheBuilder) (h key value : ℕ) (source : SegmentRecordLocation) (index filter : List ℕ) where
   pub reused_left_law : (grown : SharedSegmentCacheBuilder) (location : ℕ) (indexed marked : List ℕ) → grown ≡ reused_grown r source.header_bytes key value
       → location ≡ moved_location r source.location → indexed ≡ set index slot (word_of (tag_of h) location)
