@@ -212,7 +212,7 @@ impl FinishedIndex<'_> {
         if self.packed {
             return tagged_bytes(self.words[bucket], packed_control_tag(tag) as u64);
         }
-        let begin = bucket * BUCKET_SLOTS;
+        let begin = BUCKET_SLOTS * bucket;
         marks_from(passed_over(&self.words[begin..begin + BUCKET_SLOTS], tag))
     }
 
