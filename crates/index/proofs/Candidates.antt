@@ -1,6 +1,6 @@
 -- The candidates of a bucket, visited from the lowest mark up: packed, the slots whose control byte has the tag; words, those from the first that
 -- is empty or has the tag on. Assumes nothing.
-use Rattle.std.proofs.Common.{add-one, ◌≡◌, ℕ, zero, suc, ◌+◌, ◌-◌, ◌*◌, ◌/◌, ◌%◌, ◌^◌, ◌<◌, ◌≤◌, Bool, true, false, cond, eqb, ltb, List, [], ◌∷◌, map, length, get_or, take, drop, sym, refl, ap, ◌∙◌, subst, ap₂, add-zero, div-add-mod', zero-add, mul-suc, arith, lit<, shr_lt, le-ltb, lt-ltb, eq-eqb, ne_eqb, eqb-true}
+use Rattle.std.proofs.Common.{add-one, ◌≡◌, ℕ, zero, suc, ◌+◌, ◌*◌, ◌/◌, ◌%◌, ◌^◌, ◌<◌, ◌≤◌, Bool, true, false, cond, eqb, ltb, List, [], ◌∷◌, map, length, get_or, take, drop, sym, refl, ap, ◌∙◌, subst, ap₂, add-zero, div-add-mod', mul-suc, arith, lit<, shr_lt, le-ltb, lt-ltb, eq-eqb, ne_eqb, eqb-true}
 use Rattle.std.specs.Prelude.{Some, None, Option}
 use Rattle.records.specs.declared.record.RecordRef.{RecordRef}
 use lib.Bits.{bit_and, bit_xor, and_comm, and_block, and_mask, and_le_r, xor_block, xor_lt, xor_add_and, xor_self}
@@ -19,7 +19,6 @@ use Rattle.index.specs.declared.find.FindStep.{FindStep}
 use Rattle.index.specs.declared.find.FindStep.TheVariants.{Next}
 use Rattle.index.proofs.Bytes.{below_eight}
 use Rattle.index.proofs.Finds.{and_then, scan_cons}
-use Rattle.index.proofs.Walks.{part_cons}
 
 -- ---- which control bytes have the tag
 

@@ -1,6 +1,6 @@
 -- `find_in_slot` meets its contract, case by case. Assumes nothing.
 use Rattle.std.proofs.Common.{ℕ, List, sym, ap, ◌∙◌}
-use Rattle.std.specs.Prelude.{Option, Some, None}
+use Rattle.std.specs.Prelude.{Option}
 use Rattle.records.specs.declared.record.RecordRef.{RecordRef}
 use Rattle.records.specs.Area.{same_bytes}
 use Rattle.index.specs.View.{record_in}

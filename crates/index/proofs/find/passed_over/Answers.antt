@@ -1,5 +1,5 @@
 -- `passed_over` meets its contract: the slots before the first that is empty or has the tag. Assumes nothing.
-use Rattle.std.proofs.Common.{◌≡◌, true, false, map, arith, rules, tests, ◌≤◌, sym, ◌∙◌}
+use Rattle.std.proofs.Common.{◌≡◌, true, false, map, arith, rules, tests, sym, ◌∙◌}
 use Rattle.std.proofs.lemmas.Iterator.{IsFirst-from_position, YieldsList-from_slice, index_from_first}
 use Rattle.index.specs.FindSteps.{passed_over}
 use Rattle.index.specs.Slot.{word_slot}
