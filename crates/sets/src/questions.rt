@@ -201,5 +201,8 @@ pub(crate) fn record_fits(
 ) -> bool
     ensures { result ≡ nat_le (record_size expiry key_bytes value_bytes) rest }
 {
-    encoded_record_bytes(expiry, key_bytes, value_bytes).is_ok_and(|size| size <= rest)
+    match encoded_record_bytes(expiry, key_bytes, value_bytes) {
+        Ok(size) => size <= rest,
+        Err(_) => false,
+    }
 }
