@@ -1,128 +1,70 @@
-// Answers that several crates hand back as lent words.
+// What C is told of a call's answer: a number, and lent words.
 ghost use Rattle.std.specs.Prelude.{◌≡◌};
-ghost use Rattle.sets.specs.Answers.{get_reply, probe_reply, rebuild_push_reply};
-ghost use Rattle.capi.specs.Calls.{left_kind, left_nanos, left_secs, place_told, record_told, record_words, span_told, told};
-ghost use Rattle.capi.specs.Rebuilds.{rebuild_push_told};
-ghost use Rattle.capi.specs.Words.{stored};
+ghost use Rattle.capi.specs.Calls.{answered, asked, place_told, pushed_told, told, told_by};
 
-use crate::words::{copy_words, store_rebuild};
-use hash_parts::duration::SegmentRemainingTtl;
-use sets::cache::{GetAnswer, ProbeAnswer, SegmentBaseRecord};
-use sets::rebuild::RebuildPushAnswer;
+use crate::words::{FromWords, MALFORMED, ToWords, copy_words};
+use hash_parts::error::SegmentCacheBuildError;
+use sets::builder::PushedRecord;
 
-pub const SPAN_WORDS: usize = 3;
+pub use crate::store::{PLACE_WORDS, RECORD_WORDS, SPAN_WORDS};
 
-pub const RECORD_WORDS: usize = 12;
-
-// The three words of the span: 1 and the value's place and length in the arena, or three zeros.
-pub fn tell_get(answer: GetAnswer, span: &mut [u64]) -> u64
-    ensures { told result span.new ≡ span_told (get_reply answer) span.old }
+// 0 and the words of what a call gives; or the refusal's number.
+pub fn tell<const N: usize, T: ToWords<N>>(
+    answer: Result<T, SegmentCacheBuildError>,
+    out: &mut [u64],
+) -> u64
+    ensures { told result out.new ≡ told_by T.words_of (answered answer) out.old }
 {
     match answer {
-        GetAnswer::Value(value) => {
-            copy_words(span, &[1, value.at as u64, value.len as u64]);
+        Ok(given) => {
+            let words = given.to_words();
+            copy_words(out, &words);
             0
         }
-        GetAnswer::Nothing => {
-            copy_words(span, &[0, 0, 0]);
-            0
-        }
-        GetAnswer::Refused(refusal) => refusal.number() as u64,
+        Err(refusal) => refusal.number() as u64,
     }
 }
 
-// The twelve words of a record: 1, slot, location, bytes before the key, place and length of key
-// and value, what is left of its time, and its end; or twelve zeros.
-pub fn tell_record(answer: ProbeAnswer, out: &mut [u64]) -> u64
-    ensures { told result out.new ≡ record_told (probe_reply answer) out.old }
+// The call on the state in lent words, and what it gives over other words. The call can't write to a lent
+// area: what a closure writes to what it borrows is lost to the proof of its maker.
+pub fn ask<
+    const N: usize,
+    S: FromWords,
+    T: ToWords<N>,
+    F: FnOnce(S) -> Result<T, SegmentCacheBuildError>,
+>(
+    state: &[u64],
+    out: &mut [u64],
+    call: F,
+) -> u64
+    requires { F.IsAlwaysCallable call }
+    ensures { asked (F.post call) T.words_of N (S.value_in state.now) out.old (told result out.new) }
+{
+    if out.len() != N {
+        return MALFORMED;
+    }
+    let Some(state) = S::from_words(state) else {
+        return MALFORMED;
+    };
+    tell(call(state), out)
+}
+
+// The same as tell for a push: the words of the state that it leaves, and of its record's place.
+pub fn tell_push<const N: usize, S: ToWords<N> + Drop>(
+    answer: Result<PushedRecord, SegmentCacheBuildError>,
+    state: S,
+    words: &mut [u64],
+    place: &mut [u64],
+) -> u64
+    ensures { place_told result words.new place.new ≡ pushed_told S.words_of state answer words.old place.old }
 {
     match answer {
-        ProbeAnswer::Found(found) => {
-            store_record(out, found);
+        Ok(pushed) => {
+            let left = state.to_words();
+            copy_words(words, &left);
+            copy_words(place, &pushed.to_words());
             0
         }
-        ProbeAnswer::Nothing => {
-            copy_words(out, &[0; RECORD_WORDS]);
-            0
-        }
-        ProbeAnswer::Refused(refusal) => refusal.number() as u64,
-    }
-}
-
-pub fn tell_rebuild_push(answer: RebuildPushAnswer, rebuild: &mut [u64], place: &mut [u64]) -> u64
-    ensures { place_told result rebuild.new place.new ≡ rebuild_push_told (rebuild_push_reply answer) rebuild.old place.old }
-{
-    match answer {
-        RebuildPushAnswer::Pushed {
-            builder: state,
-            slot,
-            location,
-        } => {
-            store_rebuild(rebuild, state);
-            copy_words(place, &[slot as u64, location as u64]);
-            0
-        }
-        RebuildPushAnswer::Refused {
-            refusal,
-            builder: _,
-        } => refusal.number() as u64,
-    }
-}
-
-fn store_record(out: &mut [u64], found: SegmentBaseRecord)
-    ensures { out.new ≡ stored (record_words found) out.old }
-{
-    let key = found.key;
-    let value = found.value;
-    let left = found.remaining_ttl;
-    let kind = left_kind(left);
-    let secs = left_secs(left);
-    let nanos = left_nanos(left);
-    copy_words(
-        out,
-        &[
-            1,
-            found.slot as u64,
-            found.location as u64,
-            found.key_offset as u64,
-            key.at as u64,
-            key.len as u64,
-            value.at as u64,
-            value.len as u64,
-            kind,
-            secs,
-            nanos,
-            found.end as u64,
-        ],
-    );
-}
-
-fn left_kind(left: SegmentRemainingTtl) -> u64
-    ensures { result ≡ left_kind left }
-{
-    match left {
-        SegmentRemainingTtl::Never => 0,
-        SegmentRemainingTtl::Finite(_) => 1,
-        SegmentRemainingTtl::Nothing => 2,
-    }
-}
-
-fn left_secs(left: SegmentRemainingTtl) -> u64
-    ensures { result ≡ left_secs left }
-{
-    match left {
-        SegmentRemainingTtl::Never => 0,
-        SegmentRemainingTtl::Finite(time) => time.secs,
-        SegmentRemainingTtl::Nothing => 0,
-    }
-}
-
-fn left_nanos(left: SegmentRemainingTtl) -> u64
-    ensures { result ≡ left_nanos left }
-{
-    match left {
-        SegmentRemainingTtl::Never => 0,
-        SegmentRemainingTtl::Finite(time) => time.nanos as u64,
-        SegmentRemainingTtl::Nothing => 0,
+        Err(refusal) => refusal.number() as u64,
     }
 }
