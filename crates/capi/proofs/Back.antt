@@ -1,6 +1,6 @@
 -- Words that are stored and loaded give back what was stored, where its numbers fit the words' form, as all numbers of running states do.
 -- Assumes nothing.
-use Rattle.std.proofs.Common.{◌≡◌, ℕ, ◌-◌, ◌^◌, ◌≤◌, Bool, true, false, List, [], Option, Some, refl, ap, le-leb}
+use Rattle.std.proofs.Common.{◌≡◌, ℕ, ◌-◌, ◌^◌, ◌≤◌, Bool, true, false, List, [], Some, refl, ap, le-leb}
 use Rattle.std.specs.Prelude.{option_map}
 use native.Mathlib.Nat.{min-eq_left}
 use Rattle.hash_parts.specs.declared.setting.SegmentCacheConfig.{SegmentCacheConfig}

@@ -52,15 +52,6 @@ abbrev pub found_words : {A : Type 0} → ℕ → (A → List ℕ) → Option A 
 found_words count words (Some a) = words a
 found_words count words None = replicate count 0
 
--- what C is told of a call on the state in lent words, by which results the call may have
-abbrev pub call_told : {S A : Type 0} → (S → Result A SegmentCacheBuildError → Type 0) → (A → List ℕ) → Option S → List ℕ → Told → Type 0
-call_told may words (Some s) old t = (r : Result _ SegmentCacheBuildError) × may s r × (t ≡ told_by words (answered r) old)
-call_told may words None old t = t ≡ told 11 old
-
--- the same, where the words for the answer are so many
-abbrev pub asked : {S A : Type 0} → (S → Result A SegmentCacheBuildError → Type 0) → (A → List ℕ) → ℕ → Option S → List ℕ → Told → Type 0
-asked may words count state old t = cond (eqb (length old) count) (call_told may words state old t) (t ≡ told 11 old)
-
 -- ---- open
 
 -- the builder's words after a call that makes a builder; a refusal leaves them as they were
@@ -99,14 +90,6 @@ place_told number b place = record { number = number; builder = b; place = place
 abbrev pub push_told : Reply Placed SegmentCacheBuilder → List ℕ → List ℕ → PlaceTold
 push_told (accept p) old place = place_told 0 (stored (builder_words p.builder) old) (stored (p.slot ∷ p.location ∷ []) place)
 push_told (refuse n b) old place = place_told n old place
-
-abbrev pub placed_words : PushedRecord → List ℕ
-placed_words p = p.slot ∷ p.location ∷ []
-
--- the same of any builder, and of a push's own result
-abbrev pub pushed_told : {S : Type 0} → (S → List ℕ) → S → Result PushedRecord SegmentCacheBuildError → List ℕ → List ℕ → PlaceTold
-pushed_told words s (Ok p) old place = place_told 0 (stored (words s) old) (stored (placed_words p) place)
-pushed_told words s (Err e) old place = place_told (error_number e) old place
 
 pub record PushWords : Type 0 where
   pub number : ℕ
@@ -209,11 +192,11 @@ exported_peek w h key tick index filter starts lengths arena old =
 
 -- ---- mark clearing: 1 where the mark was set, else 0
 
-abbrev pub accessed_words : Bool → List ℕ
-accessed_words was = flag_of was ∷ []
+abbrev pub flag_words : Bool → List ℕ
+flag_words was = flag_of was ∷ []
 
 abbrev pub accessed_told : Reply Bool (Unit {0}) → List ℕ → Told
-accessed_told = told_by accessed_words
+accessed_told = told_by flag_words
 
 unfoldable pub exported_take : List ℕ → ℕ → List ℕ → List ℕ → List ℕ → List ℕ → List ℕ → List ℕ → List ℕ → IndexTold
 exported_take w h key index filter starts lengths arena old =
@@ -292,3 +275,22 @@ load_in s = load_of s.entries s.index_slots
 -- one number of statistics
 unfoldable pub exported_number : (SegmentCacheStats → ℕ) → List ℕ → List ℕ → Told
 exported_number f w old = cond (eqb (length old) 1) (on_loaded (stats_in w) (λ s. told 0 (stored (number_words (f s)) old)) (told 11 old)) (told 11 old)
+
+-- ---- for functions below the exports alone
+
+abbrev pub placed_words : PushedRecord → List ℕ
+placed_words p = p.slot ∷ p.location ∷ []
+
+-- a push as C is told of it, of any builder and by the push's own result
+abbrev pub pushed_told : {S : Type 0} → (S → List ℕ) → S → Result PushedRecord SegmentCacheBuildError → List ℕ → List ℕ → PlaceTold
+pushed_told words s (Ok p) old place = place_told 0 (stored (words s) old) (stored (placed_words p) place)
+pushed_told words s (Err e) old place = place_told (error_number e) old place
+
+-- what C is told of a call on the state in lent words, by which results the call may have
+abbrev pub call_told : {S A : Type 0} → (S → Result A SegmentCacheBuildError → Type 0) → (A → List ℕ) → Option S → List ℕ → Told → Type 0
+call_told may words (Some s) old t = (r : Result _ SegmentCacheBuildError) × may s r × (t ≡ told_by words (answered r) old)
+call_told may words None old t = t ≡ told 11 old
+
+-- the same, where the words for the answer are so many
+abbrev pub asked : {S A : Type 0} → (S → Result A SegmentCacheBuildError → Type 0) → (A → List ℕ) → ℕ → Option S → List ℕ → Told → Type 0
+asked may words count state old t = cond (eqb (length old) count) (call_told may words state old t) (t ≡ told 11 old)

@@ -1,12 +1,21 @@
 // What C is told of a call's answer: a number, and lent words.
 ghost use Rattle.std.specs.Prelude.{◌≡◌};
-ghost use Rattle.capi.specs.Calls.{answered, asked, place_told, pushed_told, told, told_by};
+ghost use Rattle.std.proofs.Common.{lit<};
+ghost use Rattle.capi.specs.Calls.{flag_words, answered, asked, found_words, left_words, number_words, place_told, placed_words, pushed_told, record_words, span_words, told, told_by};
 
 use crate::words::{FromWords, MALFORMED, ToWords, copy_words};
+use hash_parts::duration::SegmentRemainingTtl;
 use hash_parts::error::SegmentCacheBuildError;
+use records::record::Span;
 use sets::builder::PushedRecord;
+use sets::cache::SegmentBaseRecord;
 
-pub use crate::store::{PLACE_WORDS, RECORD_WORDS, SPAN_WORDS};
+pub const SPAN_WORDS: usize = 3;
+
+pub const RECORD_WORDS: usize = 12;
+
+// The place of a pushed record: slot and location.
+pub const PLACE_WORDS: usize = 2;
 
 // 0 and the words of what a call gives; or the refusal's number.
 pub fn tell<const N: usize, T: ToWords<N>>(
@@ -17,26 +26,22 @@ pub fn tell<const N: usize, T: ToWords<N>>(
 {
     match answer {
         Ok(given) => {
-            let words = given.to_words();
-            copy_words(out, &words);
+            copy_words(out, &given.to_words());
             0
         }
         Err(refusal) => refusal.number() as u64,
     }
 }
 
-// The call on the state in lent words, and what it gives over other words. The call can't write to a lent
-// area: what a closure writes to what it borrows is lost to the proof of its maker.
+// The call on the state in lent words, and what it gives over other words. A call that writes to lent areas says the
+// same line by line, since what a closure writes to what it borrows is lost to the proof of its maker; and so do peek,
+// probe and the step of the walk, which would be left a goal to prove by hand.
 pub fn ask<
     const N: usize,
     S: FromWords,
     T: ToWords<N>,
     F: FnOnce(S) -> Result<T, SegmentCacheBuildError>,
->(
-    state: &[u64],
-    out: &mut [u64],
-    call: F,
-) -> u64
+>(state: &[u64], out: &mut [u64], call: F) -> u64
     requires { F.IsAlwaysCallable call }
     ensures { asked (F.post call) T.words_of N (S.value_in state.now) out.old (told result out.new) }
 {
@@ -60,11 +65,103 @@ pub fn tell_push<const N: usize, S: ToWords<N> + Drop>(
 {
     match answer {
         Ok(pushed) => {
-            let left = state.to_words();
-            copy_words(words, &left);
+            copy_words(words, &state.to_words());
             copy_words(place, &pushed.to_words());
             0
         }
         Err(refusal) => refusal.number() as u64,
+    }
+}
+
+// What was found, or zeros.
+impl<const N: usize, T: ToWords<N>> ToWords<N> for Option<T> {
+    ghost words_of = { found_words N T.words_of };
+
+    ghost fits = { T.fits };
+
+    fn to_words(self) -> [u64; N] {
+        match self {
+            Some(found) => found.to_words(),
+            None => [0; N],
+        }
+    }
+}
+
+impl ToWords<1> for usize {
+    ghost words_of = { number_words };
+
+    ghost fits = { lit< tt };
+
+    fn to_words(self) -> [u64; 1] {
+        [self as u64]
+    }
+}
+
+// 1 where it holds, else 0.
+impl ToWords<1> for bool {
+    ghost words_of = { flag_words };
+
+    ghost fits = { lit< tt };
+
+    fn to_words(self) -> [u64; 1] {
+        [u64::from(self)]
+    }
+}
+
+// 1, and place and length in the arena.
+impl ToWords<SPAN_WORDS> for Span {
+    ghost words_of = { span_words };
+
+    ghost fits = { lit< tt };
+
+    fn to_words(self) -> [u64; SPAN_WORDS] {
+        [1, self.at as u64, self.len as u64]
+    }
+}
+
+// 1, slot, location, bytes before the key, place and length of key and value, what is left of its
+// time, and its end.
+impl ToWords<RECORD_WORDS> for SegmentBaseRecord {
+    ghost words_of = { record_words };
+
+    ghost fits = { lit< tt };
+
+    fn to_words(self) -> [u64; RECORD_WORDS] {
+        let [kind, secs, nanos] = left_words(self.remaining_ttl);
+        [
+            1,
+            self.slot as u64,
+            self.location as u64,
+            self.key_offset as u64,
+            self.key.at as u64,
+            self.key.len as u64,
+            self.value.at as u64,
+            self.value.len as u64,
+            kind,
+            secs,
+            nanos,
+            self.end as u64,
+        ]
+    }
+}
+
+// 0 where it never lapses; 1 and what is left; 2 where nothing is.
+fn left_words(left: Option<SegmentRemainingTtl>) -> [u64; 3]
+    ensures { result ≡ left_words left }
+{
+    match left {
+        Some(SegmentRemainingTtl::Never) => [0; 3],
+        Some(SegmentRemainingTtl::Finite(time)) => [1, time.secs, u64::from(time.nanos)],
+        None => [2, 0, 0],
+    }
+}
+
+impl ToWords<PLACE_WORDS> for PushedRecord {
+    ghost words_of = { placed_words };
+
+    ghost fits = { lit< tt };
+
+    fn to_words(self) -> [u64; PLACE_WORDS] {
+        [self.slot as u64, self.location as u64]
     }
 }

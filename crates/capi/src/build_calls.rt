@@ -1,12 +1,15 @@
 // Opening and finishing a set, and the sizes of areas.
 ghost use Rattle.std.specs.Prelude.{◌≡◌};
-ghost use Rattle.capi.specs.Calls.{exported_area_words, exported_finish, exported_open, finish_words, open_words, told};
+ghost use Rattle.std.proofs.Common.{lit<};
+ghost use Rattle.capi.specs.Calls.{area_numbers, exported_area_words, exported_finish, exported_open, finish_words, open_words, told};
 
 use crate::answers::{ask, tell};
-use crate::words::{BUILDER_WORDS, FromWords, MALFORMED, SET_WORDS};
+use crate::words::{BUILDER_WORDS, FromWords, MALFORMED, SET_WORDS, ToWords};
 use hash_parts::setting::SegmentCacheConfig;
-use sets::areas::{SegmentAreas, area_words};
+use sets::areas::{AreaWords, SegmentAreas, area_words};
 use sets::builder::SegmentCacheBuilder;
+
+const AREAS: usize = 5;
 
 #[unsafe(no_mangle)]
 pub extern "C" fn segment_cache_builder_words() -> usize
@@ -86,4 +89,20 @@ pub extern "C" fn segment_cache_area_words(
     ensures { told result words.new ≡ exported_area_words setting.now records words.old }
 {
     ask(setting, words, |config| area_words(config, records))
+}
+
+impl ToWords<AREAS> for AreaWords {
+    ghost words_of = { area_numbers };
+
+    ghost fits = { lit< tt };
+
+    fn to_words(self) -> [u64; AREAS] {
+        [
+            self.index as u64,
+            self.filter as u64,
+            self.starts as u64,
+            self.lengths as u64,
+            self.scratch as u64,
+        ]
+    }
 }

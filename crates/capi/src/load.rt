@@ -8,7 +8,7 @@ ghost use Rattle.capi.specs.Records.{setting_fitting};
 ghost use Rattle.capi.specs.Words.{ask_widths, builder_in, expiry_of, lifetime_in, nanos_capped, rebuild_in, set_in, setting_alone, setting_among, setting_in, stats_in};
 
 use crate::words::{
-    BUILDER_WORDS, FromWords, REBUILD_WORDS, SETTING_WORDS, SET_WORDS, STATS_WORDS,
+    BUILDER_WORDS, FromWords, REBUILD_WORDS, SET_WORDS, SETTING_WORDS, STATS_WORDS,
 };
 use hash_parts::duration::Duration;
 use hash_parts::error::SegmentCacheBuildError;

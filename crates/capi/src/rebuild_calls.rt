@@ -1,13 +1,16 @@
 // Opening and finishing a rebuild of a set.
 ghost use Rattle.std.specs.Prelude.{◌≡◌};
-ghost use Rattle.capi.specs.Rebuilds.{exported_rebuild_finish, exported_rebuild_open, rebuild_finish_words, rebuild_open_words};
+ghost use Rattle.std.proofs.Common.{lit<};
+ghost use Rattle.capi.specs.Rebuilds.{exported_rebuild_finish, exported_rebuild_open, rebuild_finish_words, rebuild_open_words, totals_words};
 
 use crate::answers::tell;
-use crate::store::TOTALS_WORDS;
 use crate::words::{FromWords, MALFORMED, REBUILD_WORDS, SET_WORDS, ToWords, copy_words};
 use sets::areas::SegmentAreas;
 use sets::cache::FrozenSegmentCache;
-use sets::rebuild::SharedSegmentCacheBuilder;
+use sets::rebuild::{SharedSegmentCacheBuild, SharedSegmentCacheBuilder};
+
+// The words of the totals: reused entries, reused, copied and newly allocated bytes.
+const TOTALS_WORDS: usize = 4;
 
 #[unsafe(no_mangle)]
 pub extern "C" fn segment_cache_rebuild_words() -> usize
@@ -91,5 +94,20 @@ pub extern "C" fn segment_cache_rebuild_finish(
             0
         }
         Err(refusal) => refusal.number() as u64,
+    }
+}
+
+impl ToWords<TOTALS_WORDS> for SharedSegmentCacheBuild {
+    ghost words_of = { totals_words };
+
+    ghost fits = { lit< tt };
+
+    fn to_words(self) -> [u64; TOTALS_WORDS] {
+        [
+            self.reused_entries as u64,
+            self.reused_record_bytes as u64,
+            self.copied_record_bytes as u64,
+            self.newly_allocated_bytes as u64,
+        ]
     }
 }

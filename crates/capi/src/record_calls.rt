@@ -1,15 +1,17 @@
 // Records outside of any set: the size of one, and the one at a position of lent bytes. Any setting
 // will do, but its words must be those of a setting.
 ghost use Rattle.std.specs.Prelude.{◌≡◌};
+ghost use Rattle.std.proofs.Common.{lit<};
 ghost use Rattle.capi.specs.Calls.{told};
-ghost use Rattle.capi.specs.Records.{exported_record_at, exported_size};
+ghost use Rattle.capi.specs.Records.{exported_record_at, exported_size, read_words};
 
 use crate::answers::tell;
 use crate::load::fitting_setting;
-use crate::store::READ_WORDS;
-use crate::words::MALFORMED;
-use records::record::Records;
+use crate::words::{MALFORMED, ToWords};
+use records::record::{RecordRef, Records};
 use sets::builder::SegmentCacheBuilder;
+
+const READ_WORDS: usize = 9;
 
 // How many bytes a record of these lengths takes.
 #[tactic(auto, using(crate::proofs::Replies::size_back), unfolding(crate::specs::Records::exported_size))]
@@ -25,13 +27,10 @@ pub extern "C" fn segment_cache_encoded_record_bytes(
     if size.len() != 1 {
         return MALFORMED;
     }
-    match fitting_setting(setting) {
-        Ok(config) => {
-            let answer = SegmentCacheBuilder::encoded_record_bytes(config, key_bytes, value_bytes);
-            tell(answer, size)
-        }
-        Err(refusal) => refusal.number() as u64,
-    }
+    let answer = fitting_setting(setting).and_then(|config| {
+        SegmentCacheBuilder::encoded_record_bytes(config, key_bytes, value_bytes)
+    });
+    tell(answer, size)
 }
 
 // The nine words of the record at a position of lent bytes: 1, the position, bytes before the key,
@@ -50,14 +49,33 @@ pub extern "C" fn segment_cache_record_at(
     if record.len() != READ_WORDS {
         return MALFORMED;
     }
-    match fitting_setting(setting) {
-        Ok(config) => {
-            let records = Records {
-                bytes: records,
-                expiry: config.expiry,
-            };
-            tell(Ok(records.record_at(position)), record)
-        }
-        Err(refusal) => refusal.number() as u64,
+    let answer = fitting_setting(setting).map(|config| {
+        let records = Records {
+            bytes: records,
+            expiry: config.expiry,
+        };
+        records.record_at(position)
+    });
+    tell(answer, record)
+}
+
+// 1, the position, bytes before the key, place and length of key and value, deadline, and end.
+impl ToWords<READ_WORDS> for RecordRef {
+    ghost words_of = { read_words };
+
+    ghost fits = { lit< tt };
+
+    fn to_words(self) -> [u64; READ_WORDS] {
+        [
+            1,
+            self.location as u64,
+            self.key_offset as u64,
+            self.key.at as u64,
+            self.key.len as u64,
+            self.value.at as u64,
+            self.value.len as u64,
+            u64::from(self.expires_at),
+            self.end as u64,
+        ]
     }
 }

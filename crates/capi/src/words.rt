@@ -2,6 +2,8 @@
 ghost use Rattle.std.specs.Prelude.{◌≡◌, ◌<◌, ◌*◌, ◌^◌, ℕ, List, Option};
 ghost use Rattle.capi.specs.Words.{stored};
 
+use hash_parts::error::SegmentCacheBuildError;
+
 pub const SETTING_WORDS: usize = 6;
 
 pub const BUILDER_WORDS: usize = 13;
@@ -13,7 +15,7 @@ pub const REBUILD_WORDS: usize = 22;
 pub const STATS_WORDS: usize = 8;
 
 // What a call answers to words of another number or form: the number of an invalid state.
-pub const MALFORMED: u64 = 11;
+pub const MALFORMED: u64 = SegmentCacheBuildError::InvalidState as u64;
 
 // What can be read from lent words: nothing where they are of another number or form.
 pub trait FromWords {

@@ -1,6 +1,6 @@
 -- The exported calls on a set's chart room sheet: the number that each gives and the content of every lent area that it may write, out of the calls of
 -- crates/charts. Assumes nothing.
-use Rattle.std.specs.Prelude.{cond, List, [], ◌∷◌, ℕ, eqb, length}
+use Rattle.std.specs.Prelude.{cond, List, ℕ, eqb, length}
 use Rattle.sets.specs.Answers.{Reply}
 use Rattle.charts.specs.Sheet.{Printed, after_sheet, pages_answer}
 use Rattle.capi.specs.Calls.{Told, number_words, on_loaded, told, told_by}

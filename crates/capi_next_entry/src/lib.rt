@@ -36,5 +36,8 @@ pub extern "C" fn segment_cache_next_entry(
         lengths,
         arena,
     };
-    tell(set.next_physical_entry_at_tick(from, tick, index, areas), record)
+    tell(
+        set.next_physical_entry_at_tick(from, tick, index, areas),
+        record,
+    )
 }

@@ -38,5 +38,8 @@ pub extern "C" fn segment_cache_peek(
         lengths,
         arena,
     };
-    tell(set.peek_at_tick(hash, key, tick, index, filter, areas), span)
+    tell(
+        set.peek_at_tick(hash, key, tick, index, filter, areas),
+        span,
+    )
 }

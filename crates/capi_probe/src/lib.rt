@@ -39,5 +39,8 @@ pub extern "C" fn segment_cache_probe(
         lengths,
         arena,
     };
-    tell(set.probe_hashed_at_tick(hash, key, tick, index, filter, areas), record)
+    tell(
+        set.probe_hashed_at_tick(hash, key, tick, index, filter, areas),
+        record,
+    )
 }
