@@ -1,5 +1,5 @@
 -- Laws of the negative filter: a marked hash may be there, and marks are never lost. Assumes nothing.
-use Rattle.std.proofs.Common.{◌≡◌, ℕ, ◌+◌, ◌-◌, ◌*◌, ◌/◌, ◌%◌, ◌^◌, ◌<◌, ◌≤◌, min, max, true, eqb, List, length, get_or, set, sym, refl, ap, ◌∙◌, ap₂, mod-lt, mul-le-mul, one-mul, div-add-mod', zero-mul, arith, lit<, length-set, get_or-set_other, get_or-set_same, pow_pos, shl_exact, eq-eqb, ne_eqb, eqb-true, le-leb}
+use Rattle.std.proofs.Common.{◌≡◌, ℕ, ◌+◌, ◌-◌, ◌*◌, ◌/◌, ◌%◌, ◌^◌, ◌<◌, ◌≤◌, min, max, true, eqb, List, length, get_or, set, sym, refl, ap, ◌∙◌, ap₂, mod-lt, one-mul, div-add-mod', zero-mul, arith, lit<, length-set, get_or-set_other, get_or-set_same, pow_pos, shl_exact, eq-eqb, ne_eqb, eqb-true, le-leb}
 use native.Mathlib.Decide.{dec_le, ℕ_discrete}
 use lib.Arith.{digits_mod, bin_ind}
 use lib.Bits.{bit_and, bit_or, and_step, or_step, or_shr, and_shr, and_zero_r, and_self, or_comm, xor_lt}
