@@ -15,6 +15,13 @@ pub struct FilterLocation {
     pub mask: u64,
 }
 
+// The filter of a finished set: an area, and how many of its words are the filter's.
+#[derive(Clone, Copy)]
+pub struct NegativeFilter<'a> {
+    pub words: &'a [u64],
+    pub count: usize,
+}
+
 // As many words as so many bits to a record need.
 pub fn negative_filter_words(records: u32, bits_per_entry: u8) -> usize
     ensures { result ≡ ceil_div (records * bits_per_entry) 64 }
@@ -69,7 +76,7 @@ pub fn mark_negative_filter(filter: &mut [u64], words: usize, hash: u64)
     }
     let location = negative_filter_location(words, hash);
     let word = location.word;
-    filter[word] = filter[word] | location.mask;
+    filter[word] |= location.mask;
 }
 
 // How many buckets past the first a slot's bucket is.
@@ -97,17 +104,19 @@ pub fn mark_displaced(filter: &mut [u64], words: usize, hash: u64, slot: usize, 
     mark_negative_filter(filter, words, hash);
 }
 
-// Whether a hash may have been marked. Without words every hash may.
-pub fn negative_filter_may_contain(filter: &[u64], words: usize, hash: u64) -> bool
-    ensures { result ≡ filter_has filter.now words hash }
-{
-    if words == 0 {
-        return true;
+impl NegativeFilter<'_> {
+    // Whether a hash may have been marked. Without words every hash may.
+    pub fn may_contain(self, hash: u64) -> bool
+        ensures { result ≡ filter_has self.entry.words.now self.entry.count hash }
+    {
+        if self.count == 0 {
+            return true;
+        }
+        if self.words.len() < self.count {
+            return true;
+        }
+        let location = negative_filter_location(self.count, hash);
+        let word = location.word;
+        self.words[word] & location.mask == location.mask
     }
-    if filter.len() < words {
-        return true;
-    }
-    let location = negative_filter_location(words, hash);
-    let word = location.word;
-    filter[word] & location.mask == location.mask
 }

@@ -1,9 +1,7 @@
 -- The find of a finished set, and what the calls make of it. Assumes nothing.
-use Rattle.std.proofs.Common.{◌≡◌, ℕ, ◌+◌, ◌*◌, ◌^◌, ◌<◌, ◌≤◌, Bool, true, List, length, mul-le-mul_left, arith}
-use mathlib.Core.Option.{Option}
+use Rattle.std.proofs.Common.{◌≡◌, ℕ, ◌+◌, ◌*◌, ◌^◌, ◌<◌, ◌≤◌, Bool, true, List, Option, length, mul-le-mul_left, arith}
 use Rattle.hash_parts.specs.declared.setting.SegmentCacheConfig.{SegmentCacheConfig}
 use Rattle.records.specs.declared.record.Span.{Span}
-use Rattle.index.specs.declared.find.FindAnswer.TheVariants as find
 use Rattle.index.specs.declared.find.FoundRecord.{FoundRecord}
 use Rattle.index.proofs.Buckets.{buckets_few}
 use Rattle.index.proofs.FoundSlots.{find_slot}
@@ -35,20 +33,14 @@ Held s index filter starts lengths arena = areas_hold_lookup s (length index) (l
 
 pub lookup_slot : (s : FrozenSegmentCache) (h : ℕ) (key index filter starts lengths arena : List ℕ) (y : FoundRecord) → h < 2 ^ 64
     → Held s index filter starts lengths arena
-    → find_of s h key index filter starts lengths arena ≡ find.Found y → y.slot < length index
+    → find_of s h key index filter starts lengths arena ≡ Some y → y.slot < length index
 unfolding areas_hold_lookup
 lookup_slot s h key index filter starts lengths arena y bound holds e =
     let t = find_slot (view_of s) s.config.packed_bucket_index index s.buckets filter s.filter_words starts lengths arena key h y bound e in
     let areas = (both (areas_hold_set s (length index) (length starts) (length lengths) (length arena)) _ holds).0 in
     omega (arith, t.1, set_index s (length index) (length starts) (length lengths) (length arena) areas)
 
--- ---- two parts of what a call leaves
-
-pub got : {x y : Reply (Option Span) (Unit {0})} {i j : List ℕ} → x ≡ y → i ≡ j → ◌≡◌ {A = Got} (record { answer = x; index = i }) (record { answer = y; index = j })
-got p q = rw (p, q)
-
-pub taken : {x y : Reply Bool (Unit {0})} {i j : List ℕ} → x ≡ y → i ≡ j → ◌≡◌ {A = Taken} (record { answer = x; index = i }) (record { answer = y; index = j })
-taken p q = rw (p, q)
+-- ---- statistics
 
 -- the statistics as they are worked out
 pub stats_made : (s : FrozenSegmentCache)

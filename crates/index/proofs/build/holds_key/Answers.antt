@@ -27,9 +27,9 @@ returns-in_default c =
 pub returns : goal.returns
 returns c =
     let a = c.args in
-    let read = sym c.record_at.ensures ∙ c.in-Read.is in
+    let read = sym c.record_at.ensures ∙ c.in-Some.is in
     c.same_bytes.ensures
     ∙ ap (λ (k : List ℕ). same_bytes k a.key.now) c.value_slice-stored_key.ensures
     ∙ sym
     (names_record a.expiry a.records.now a.key.now a.tag a.word
-    (sym c.index_tag.ensures ∙ c.if-index_tag-tag.false) c.index_location-stored.result c.index_location-stored.ensures c.in-Read.«record» (omega arith) read)
+    (sym c.index_tag.ensures ∙ c.if-index_tag-tag.false) c.index_location-stored.result c.index_location-stored.ensures c.in-Some.«record» (omega arith) read)

@@ -1,7 +1,8 @@
 -- `find_in_bucket` meets its contract: the candidates left say what the bucket's slots say. Assumes nothing.
 use Rattle.std.proofs.Common.{◌≡◌, ℕ, ◌+◌, ◌*◌, ◌<◌, cond, sym, ◌∙◌, arith}
+use Rattle.std.specs.Prelude.{Option, Some, None}
+use Rattle.records.specs.declared.record.RecordRef.{RecordRef}
 use Rattle.hash_parts.specs.ZeroBytes.{lowest_set}
-use Rattle.records.specs.declared.record.RecordAnswer.{RecordAnswer}
 use Rattle.index.specs.Find.{in_bucket}
 use Rattle.index.specs.View.{record_in}
 use Rattle.index.specs.declared.find.FindStep.{FindStep}
@@ -10,7 +11,7 @@ use Rattle.index.proofs.Sweeps.{Visiting, says, searched, slots, visiting_begins
 use Rattle.index.proofs.find.find_in_bucket.Goals as goal
 use Rattle.index.proofs.find.find_in_bucket.Goals.{After-find_in_slot-step, After-has_empty, Start}
 
-abbrev reads : Start → ℕ → RecordAnswer
+abbrev reads : Start → ℕ → Option RecordRef
 reads s =
     let a = s.args in
     record_in a.view a.arena.now a.starts.now a.lengths.now

@@ -1,13 +1,14 @@
 -- `find_in_slot` meets its contract, case by case. Assumes nothing.
 use Rattle.std.proofs.Common.{ℕ, List, sym, ap, ◌∙◌}
+use Rattle.std.specs.Prelude.{Option, Some, None}
+use Rattle.records.specs.declared.record.RecordRef.{RecordRef}
 use Rattle.records.specs.Area.{same_bytes}
-use Rattle.records.specs.declared.record.RecordAnswer.{RecordAnswer}
 use Rattle.index.specs.View.{record_in}
 use Rattle.index.proofs.Finds.{slot_empty, slot_other, slot_broken, slot_match, slot_differs}
 use Rattle.index.proofs.find.find_in_slot.Goals as goal
 use Rattle.index.proofs.find.find_in_slot.Goals.{Start}
 
-abbrev reads : Start → ℕ → RecordAnswer
+abbrev reads : Start → ℕ → Option RecordRef
 reads s =
     let a = s.args in
     record_in a.view a.arena.now a.starts.now a.lengths.now
@@ -35,11 +36,11 @@ returns-then-same_bytes c =
     let a = c.args in
     let compared = sym (c.same_bytes.ensures ∙ ap (λ (l : List ℕ). same_bytes l a.key.now) c.value_slice.ensures) in
     slot_match (reads (goal.at.returns-then-same_bytes c).Start) a.arena.now a.key.now a.tag a.slot a.content c.in-Used.kept c.in-Used.stored c.in-Used.is
-    c.if-kept-tag.false c.in-Read.entry (sym c.record_at_location.ensures ∙ c.in-Read.is) (compared ∙ c.if-same_bytes.true)
+    c.if-kept-tag.false c.in-Some.entry (sym c.record_at_location.ensures ∙ c.in-Some.is) (compared ∙ c.if-same_bytes.true)
 
 pub returns : goal.returns
 returns c =
     let a = c.args in
     let compared = sym (c.same_bytes.ensures ∙ ap (λ (l : List ℕ). same_bytes l a.key.now) c.value_slice.ensures) in
     slot_differs (reads (goal.at.returns c).Start) a.arena.now a.key.now a.tag a.slot a.content c.in-Used.kept c.in-Used.stored c.in-Used.is
-    c.if-kept-tag.false c.in-Read.entry (sym c.record_at_location.ensures ∙ c.in-Read.is) (compared ∙ c.if-same_bytes.false)
+    c.if-kept-tag.false c.in-Some.entry (sym c.record_at_location.ensures ∙ c.in-Some.is) (compared ∙ c.if-same_bytes.false)

@@ -1,11 +1,8 @@
 -- `stats` meets its contract. Assumes nothing.
-use Rattle.std.proofs.Common.{◌<◌, ◌≤◌, ap, arith}
-use Rattle.sets.specs.declared.stats.SegmentCacheStats.{SegmentCacheStats}
-use Rattle.sets.specs.Answers.{accept}
-use Rattle.sets.specs.Lookup.{ask_stats, stats_answer}
-use Rattle.sets.proofs.Said.{answered_no, answered_yes}
+use Rattle.std.proofs.Common.{◌<◌, ◌≤◌, arith}
+use Rattle.sets.proofs.Said.{answered_yes}
 use Rattle.sets.proofs.Counts.{set_counts}
-use Rattle.sets.proofs.Finding.{few_buckets, few_words, stats_made}
+use Rattle.sets.proofs.Finding.{few_buckets, few_words}
 use Rattle.sets.proofs.cache.FrozenSegmentCache.stats.Goals as goal
 use Rattle.sets.proofs.cache.FrozenSegmentCache.stats.Goals.{Else-not-fits}
 
@@ -16,10 +13,6 @@ few c =
     let counts = set_counts b (answered_yes c.fits.ensures c.if-not-fits.false) in
     let bits : b.config.negative_filter_bits_per_entry < 256 = omega arith in
     (few_buckets _ _ _ _ counts, few_words _ _ _ _ counts bits)
-
-pub returns-then-not-fits : goal.returns-then-not-fits
-unfolding stats_answer ask_stats
-returns-then-not-fits c = rw (answered_no c.fits.ensures c.if-not-fits.true)
 
 pub overflow_mul-result : goal.overflow_mul-result
 overflow_mul-result c = omega (arith, (few (goal.at.overflow_mul-result c).Else-not-fits).0)
@@ -32,8 +25,3 @@ overflow_mul-result-3 c = omega (arith, (few (goal.at.overflow_mul-result-3 c).E
 
 pub overflow_add-result : goal.overflow_add-result
 overflow_add-result c = omega (arith, (few (goal.at.overflow_add-result c).Else-not-fits))
-
-pub returns : goal.returns
-unfolding stats_answer ask_stats
-returns c =
-    rw (answered_yes c.fits.ensures c.if-not-fits.false) (ap (λ (n : SegmentCacheStats). accept n) (stats_made c.args.self))
