@@ -1,9 +1,18 @@
 -- Laws of durations, deadlines and the time that is left. Assumes nothing.
-use Rattle.std.proofs.Common.{◌≡◌, ℕ, ◌+◌, ◌*◌, ◌/◌, ◌%◌, ◌<◌, min, sym, ap, ◌∙◌, add-mul, one-mul, mul_right_comm, arith, lit<}
+use Rattle.std.proofs.Common.{◌≡◌, ℕ, ◌+◌, ◌*◌, ◌/◌, ◌%◌, ◌^◌, ◌<◌, min, sym, ap, ◌∙◌, add-mul, one-mul, mul_right_comm, div-add-mod', arith, lit<}
 use Rattle.std.proofs.lemmas.Grind.{div_ceil_times}
 use native.Mathlib.Nat.{div-eq_of_lt-le, mul-add-div_right, mul-add-mod_self_right}
 use Rattle.hash_parts.specs.declared.duration.Duration.{Duration}
-use Rattle.hash_parts.specs.Duration.{nanos_of, ceil_div}
+use Rattle.hash_parts.specs.Duration.{Nanoseconds, nanos_of, nanos_words, nanos_in, ceil_div}
+
+-- the words of a number hold that number
+pub words_number : {words : Nanoseconds} (n : ℕ) → words ≡ nanos_words n → nanos_in words ≡ n
+unfolding nanos_in
+words_number n e = ap nanos_in e ∙ div-add-mod' n (2 ^ 64)
+
+-- no duration has more nanoseconds than 94 bits hold
+pub high_small : (d : Duration) → d.secs < 2 ^ 64 → d.nanos < 2 ^ 32 → nanos_of d / 2 ^ 64 < 2 ^ 30
+high_small d s n = omega arith
 
 -- the library's quotient, rounded up
 pub rounded_up : (n m : ℕ) → 0 < m → n / m + min 1 (n % m) ≡ ceil_div n m

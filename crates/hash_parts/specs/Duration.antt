@@ -14,6 +14,18 @@ use Rattle.hash_parts.specs.Outcome.{Outcome, accepted, refused}
 abbrev pub nanos_of : Duration → ℕ
 nanos_of d = d.secs * 1_000_000_000 + d.nanos
 
+-- a number of nanoseconds in two words of 64 bits, as it goes to C
+pub record Nanoseconds : Type 0 where
+  pub high : ℕ
+  pub low : ℕ
+
+abbrev pub nanos_words : ℕ → Nanoseconds
+nanos_words n = record { high = n / 2 ^ 64; low = n % 2 ^ 64 }
+
+-- the number in two such words
+unfoldable pub nanos_in : Nanoseconds → ℕ
+nanos_in n = n.high * 2 ^ 64 + n.low
+
 -- n divided by m, rounded up
 abbrev pub ceil_div : ℕ → ℕ → ℕ
 ceil_div n m = (n + (m - 1)) / m
