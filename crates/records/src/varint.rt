@@ -12,13 +12,7 @@ const WHOLE_BYTES: usize = 9;
 pub fn varint_bytes(value: usize) -> usize
     ensures { (result ≡ length (uleb128 value)) × (result ≤ 10) }
 {
-    let mut rest = value;
-    let mut bytes = 1;
-    while rest >= 128 {
-        rest >>= 7;
-        bytes += 1;
-    }
-    bytes
+    value.max(1).ilog2() as usize / 7 + 1
 }
 
 // Writes a number to the front of an area, and says how many bytes it wrote.

@@ -7,7 +7,8 @@ use lib.ListN.{length, get_or, drop}
 use Rattle.std.proofs.lemmas.Slice.{between_to_end}
 use Rattle.records.specs.Uleb128.{Decoded, decode}
 use Rattle.records.specs.Varint.{read_varint}
-use Rattle.records.proofs.Prefix.{read_past, answer_start, byte_none, byte_last, byte_next, answer, answer_next, answer_last, answer_tenth, answer_over, scale_next, scale_last, part_small, tenth_small}
+use Rattle.records.proofs.Prefix.{read_past, byte_none, byte_last, byte_next, scale_next, scale_last, part_small, tenth_small}
+use Rattle.records.proofs.Prefix.{answer, answer_start, answer_next, answer_last, answer_tenth, answer_over}
 use Rattle.records.proofs.varint.read_varint.Goals as goal
 use Rattle.records.proofs.varint.read_varint.Goals.{At-loop-at, After-from-byte, After-from-byte-2}
 
