@@ -1,8 +1,11 @@
 -- Laws of reading under a stored location. Assumes nothing.
-use Rattle.std.proofs.Common.{◌≡◌, ℕ, zero, suc, ◌+◌, ◌-◌, ◌/◌, ◌%◌, ◌^◌, ◌<◌, ◌≤◌, Bool, true, false, cond, leb, List, length, get_or, take, drop, sym, refl, ap, ◌∙◌, arith, length-take, take-take, drop-drop, le-leb, leb-true}
+use Rattle.std.proofs.Common.{◌≡◌, ℕ, zero, suc, ◌+◌, ◌-◌, ◌/◌, ◌%◌, ◌^◌, ◌<◌, ◌≤◌, Bool, true, false, cond, leb, List, length, get_or, take, drop, sym, refl, ap, ◌∙◌, arith, length-take, min, take_all, take-take, drop-drop, le-leb, leb-true}
 use Rattle.std.specs.Prelude.{Option, Some, None}
 use borrow.Author.Tests.{lt-leb}
 use Rattle.hash_parts.specs.declared.setting.SegmentExpiry.{SegmentExpiry}
+use native.Mathlib.Decide.{dec_le}
+use Rattle.std.specs.List.{between}
+use Rattle.std.proofs.lemmas.Slice.{between_from_start, between_to_end}
 use Rattle.records.specs.Area.{part}
 use Rattle.records.specs.Record.{record_at}
 use Rattle.records.specs.declared.record.RecordRef.{RecordRef}
@@ -21,6 +24,18 @@ part_front at len n s h =
 -- a part of a part
 pub part_part : (start len at n : ℕ) (s : List ℕ) → at + n ≤ len → part at n (part start len s) ≡ part (start + at) n s
 part_part start len at n s h = part_front at n len (drop start s) h ∙ ap (take n) (drop-drop at start s)
+
+-- the front of a list that is shorter
+pub front_is : (n k : ℕ) (s : List ℕ) → n ≡ min k (length s) → take n s ≡ take k s
+front_is n k s e = go (dec_le k (length s))
+  where
+    go : Dec (k ≤ length s) → take n s ≡ take k s
+    go (yes h) = let f : n ≡ k = omega arith in rw f
+    go (no h) = let f : n ≡ length s = omega arith in rw f (take_all (length s) s (omega arith) ∙ sym (take_all k s (omega arith)))
+
+-- the front of what is left of a list from a place on is a part of it
+pub part_is : (s : List ℕ) {rest bytes : List ℕ} (at len : ℕ) → rest ≡ between at (length s) s → bytes ≡ between 0 len rest → bytes ≡ part at len s
+part_is s {rest} at len e f = f ∙ between_from_start rest len ∙ ap (take len) (e ∙ between_to_end s at (length s) (omega arith))
 
 -- ---- in a segment
 
@@ -41,20 +56,19 @@ module _ (view : SegmentView) (arena starts lengths : List ℕ) where
   unfolding record_in
   location_none stored z = rw z
 
-  pub location_outside : (stored : ℕ) → 0 < stored → is_segment view starts lengths ((stored - 1) / 2 ^ 32) ≡ false → None ≡ record_in view arena starts lengths stored
-  unfolding record_in
-  location_outside zero p h = absurd (omega arith)
-  location_outside (suc l) p h =
-      let e : suc l - 1 ≡ l = omega arith in
-      rw (rw e at h)
+  module _ (stored location : ℕ) (some : 1 ≤ stored) (is : location ≡ stored - 1) where
+    pub location_outside : is_segment view starts lengths (location / 2 ^ 32) ≡ false → None ≡ record_in view arena starts lengths stored
+    unfolding record_in
+    location_outside h =
+        let e : stored ≡ suc location = omega arith in
+        rw (e, h)
 
-  pub location_inside : (stored : ℕ) → 0 < stored → is_segment view starts lengths ((stored - 1) / 2 ^ 32) ≡ true
-      → in_segment view.expiry (take view.filled arena) (get_or starts ((stored - 1) / 2 ^ 32) 0) (get_or lengths ((stored - 1) / 2 ^ 32) 0) (stored - 1) ≡ record_in view arena starts lengths stored
-  unfolding record_in
-  location_inside zero p h = absurd (omega arith)
-  location_inside (suc l) p h =
-      let e : suc l - 1 ≡ l = omega arith in
-      rw e (rw (rw e at h))
+    pub location_inside : is_segment view starts lengths (location / 2 ^ 32) ≡ true
+        → in_segment view.expiry (take view.filled arena) (get_or starts (location / 2 ^ 32) 0) (get_or lengths (location / 2 ^ 32) 0) location ≡ record_in view arena starts lengths stored
+    unfolding record_in
+    location_inside h =
+        let e : stored ≡ suc location = omega arith in
+        rw (e, h)
 
 -- ---- what was read under a stored location
 

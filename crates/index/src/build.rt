@@ -5,8 +5,7 @@ ghost use Rattle.index.specs.Build.{Answers, SlotAnswer, buckets_for, cleared, n
 use crate::word::{BUCKET_SLOTS, index_location, index_tag};
 use hash_parts::error::SegmentCacheBuildError;
 use hash_parts::hash::{hash_tag, reduce_hash};
-use hash_parts::setting::SegmentExpiry;
-use records::record::{record_at, same_bytes, value_slice};
+use records::record::{Records, same_bytes, value_slice};
 
 // Buckets for so many records: at least one.
 pub fn bucket_count(records: usize, occupied: u8) -> usize
@@ -34,15 +33,14 @@ pub fn clear_words(words: &mut [u64], count: usize)
 pub fn find_build_slot(
     index: &[u64],
     buckets: usize,
-    records: &[u8],
-    expiry: SegmentExpiry,
+    records: Records<'_>,
     key: &[u8],
     hash: u64,
 ) -> Result<usize, SegmentCacheBuildError>
-    ensures { slot_outcome result ≡ build_slot index.now buckets records.now expiry key.now hash }
+    ensures { slot_outcome result ≡ build_slot index.now buckets records.entry.bytes.now records.entry.expiry key.now hash }
 {
     let tag = hash_tag(hash);
-    let taken = |word| holds_key(word, records, expiry, key, tag);
+    let taken = |word| holds_key(word, records, key, tag);
     first_slot(index, buckets, hash, taken)
 }
 
@@ -116,8 +114,8 @@ pub fn next_bucket(bucket: usize, buckets: usize) -> usize
 }
 
 // Whether a word has the tag and names a record with the key.
-fn holds_key(word: u64, records: &[u8], expiry: SegmentExpiry, key: &[u8], tag: u64) -> bool
-    ensures { result ≡ holds_key (build_record expiry records.now) key.now tag word }
+fn holds_key(word: u64, records: Records<'_>, key: &[u8], tag: u64) -> bool
+    ensures { result ≡ holds_key (build_record records.entry.expiry records.entry.bytes.now) key.now tag word }
 {
     if index_tag(word) != tag {
         return false;
@@ -126,9 +124,9 @@ fn holds_key(word: u64, records: &[u8], expiry: SegmentExpiry, key: &[u8], tag: 
     if stored == 0 {
         return false;
     }
-    let Some(record) = record_at(records, expiry, (stored - 1) as usize) else {
+    let Some(record) = records.record_at((stored - 1) as usize) else {
         return false;
     };
-    let stored_key = value_slice(records, record.key);
+    let stored_key = value_slice(records.bytes, record.key);
     same_bytes(stored_key, key)
 }

@@ -4,7 +4,7 @@ ghost use Rattle.index.specs.View.{in_segment, record_in, ref_moved};
 
 use crate::word::SEGMENT_BYTES;
 use hash_parts::setting::SegmentExpiry;
-use records::record::{RecordRef, Span, record_at};
+use records::record::{RecordRef, Records, Span};
 
 // What a reader must know of a set: whether records keep a deadline, how many bytes of the arena
 // are filled, and how many segments there are.
@@ -51,17 +51,12 @@ fn record_in_segment(
 ) -> Option<RecordRef>
     ensures { result ≡ in_segment view.expiry (take view.filled arena.now) start length location }
 {
-    let end = view.filled.min(arena.len()) as u64;
-    if end < start {
-        return None;
-    }
-    if end - start < length {
-        return None;
-    }
+    let filled = &arena[..view.filled.min(arena.len())];
     let begin = start as usize;
-    let stop = (start + length) as usize;
-    let offset = (location % SEGMENT_BYTES) as usize;
-    let read = record_at(&arena[begin..stop], view.expiry, offset)?;
+    let bytes = filled.get(begin..)?.get(..length as usize)?;
+    let expiry = view.expiry;
+    let records = Records { bytes, expiry };
+    let read = records.record_at((location % SEGMENT_BYTES) as usize)?;
     Some(moved_record(read, location, begin))
 }
 

@@ -6,4 +6,4 @@ use Rattle.index.proofs.build.find_build_slot.Goals as goal
 pub returns : goal.returns
 returns c =
     let a = c.args in
-    rw (← c.hash_tag-tag.ensures) (ap slot_outcome (c.first_slot.ensures (holds_key (build_record a.expiry a.records.now) a.key.now c.hash_tag-tag.result) (λ w r f p. search rules)))
+    rw (← c.hash_tag-tag.ensures) (ap slot_outcome (c.first_slot.ensures (holds_key (build_record a.records.expiry a.records.bytes.now) a.key.now c.hash_tag-tag.result) (λ w r f p. search rules)))
