@@ -4,7 +4,7 @@ use mathlib.Core.Bool.{Bool, true, false, cond}
 use mathlib.Core.List.{List, [], ◌∷◌}
 use Prim.Native.Nat.{ℕ}
 use Rattle.hash_parts.specs.declared.error.SegmentCacheBuildError.TheVariants.{DuplicateKey}
-use Rattle.hash_parts.specs.declared.duration.Lifetime.TheVariants as life
+use Rattle.std.proofs.Common.{Some, None}
 use Rattle.hash_parts.specs.declared.setting.SegmentExpiry.TheVariants as expiry
 use Rattle.std.specs.Prelude.{codes}
 use Rattle.passage_lines.specs.Command.{next, done, setting, setting_form, open_form, put_form, close_form, get_form, word_form, command_of}
@@ -25,11 +25,11 @@ unfolding command_of fields_of split word_form open_form setting_form next done 
 open_line = refl
 
 put_line : command_of (codes "put 1 61 4142 9.500000000")
-    ≡ Put 1 (record { at = 6; len = 2 }) (record { at = 9; len = 4 }) (life.For (record { secs = 9; nanos = 500_000_000 }))
+    ≡ Put 1 (record { at = 6; len = 2 }) (record { at = 9; len = 4 }) (Some (record { secs = 9; nanos = 500_000_000 }))
 unfolding command_of fields_of split word_form put_form next done digit_of spelled number_in duration_of lifetime_of bytes_of_hex is_hex hex_length
 put_line = refl
 
-put_never_line : command_of (codes "put 2 62 - never") ≡ Put 2 (record { at = 6; len = 2 }) (record { at = 9; len = 0 }) life.Never
+put_never_line : command_of (codes "put 2 62 - never") ≡ Put 2 (record { at = 6; len = 2 }) (record { at = 9; len = 0 }) None
 unfolding command_of fields_of split word_form put_form next done digit_of spelled number_in lifetime_of bytes_of_hex is_hex hex_length
 put_never_line = refl
 

@@ -1,7 +1,7 @@
 -- A line as fields, one space between two of them.
 -- Assumes nothing.
 use Rattle.std.specs.Prelude.{ℕ, ◌+◌, ◌-◌, ◌^◌, Bool, cond, Option, Some, None, List, [], ◌∷◌, ◌++◌, eqb, leb, length, drop}
-use Rattle.hash_parts.specs.declared.duration.Lifetime.{Lifetime}
+use Rattle.hash_parts.specs.declared.duration.Duration.{Duration}
 use Rattle.hash_parts.specs.declared.setting.SegmentExpiry.{SegmentExpiry}
 use Rattle.records.specs.declared.record.Span.{Span}
 use Rattle.passage_lines.specs.Hex.{hex_length}
@@ -55,7 +55,7 @@ layout f = layout_of f.text
 abbrev pub tick_length : Field → Option SegmentExpiry
 tick_length f = tick_length_of f.text
 
-abbrev pub lifetime : Field → Option Lifetime
+abbrev pub lifetime : Field → Option (Option Duration)
 lifetime f = lifetime_of f.text
 
 -- ---- for private functions alone: the same from a position on, as a line is read

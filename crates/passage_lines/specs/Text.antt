@@ -4,8 +4,6 @@
 -- Assumes nothing.
 use Rattle.std.specs.Prelude.{ℕ, ◌+◌, ◌*◌, ◌-◌, ◌^◌, Bool, true, false, cond, Option, Some, None, List, [], ◌∷◌, eqb, leb, ltb, length, take, drop, get_or, bytes_eq, codes}
 use Rattle.hash_parts.specs.declared.duration.Duration.{Duration}
-use Rattle.hash_parts.specs.declared.duration.Lifetime.{Lifetime}
-use Rattle.hash_parts.specs.declared.duration.Lifetime.TheVariants as life
 use Rattle.hash_parts.specs.declared.setting.SegmentExpiry.{SegmentExpiry}
 use Rattle.hash_parts.specs.declared.setting.SegmentExpiry.TheVariants as expiry
 
@@ -60,10 +58,10 @@ ticks_of (Some tick) = Some (expiry.Relative16 tick)
 unfoldable pub tick_length_of : List ℕ → Option SegmentExpiry
 tick_length_of text = cond (bytes_eq text (codes "none")) (Some expiry.None) (ticks_of (duration_of text))
 
-abbrev pub ending_after : Option Duration → Option Lifetime
+abbrev pub ending_after : Option Duration → Option (Option Duration)
 ending_after None = None
-ending_after (Some d) = Some (life.For d)
+ending_after (Some d) = Some (Some d)
 
--- "lifetime `never`"
-unfoldable pub lifetime_of : List ℕ → Option Lifetime
-lifetime_of text = cond (bytes_eq text (codes "never")) (Some life.Never) (ending_after (duration_of text))
+-- "lifetime `never`", which is `Some None`: a lifetime without end
+unfoldable pub lifetime_of : List ℕ → Option (Option Duration)
+lifetime_of text = cond (bytes_eq text (codes "never")) (Some None) (ending_after (duration_of text))

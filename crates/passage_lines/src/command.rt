@@ -5,7 +5,7 @@ ghost use Rattle.passage_lines.specs.Fields.{fields_left};
 
 use crate::fields::{Fields, parse_bytes};
 use crate::text::{parse_layout, parse_lifetime, parse_number, parse_tick_length};
-use hash_parts::duration::Lifetime;
+use hash_parts::duration::Duration;
 use hash_parts::setting::SegmentCacheConfig;
 use records::record::Span;
 
@@ -23,7 +23,7 @@ pub enum Command {
         hash: u64,
         key: Span,
         value: Span,
-        ttl: Lifetime,
+        ttl: Option<Duration>,
     },
     Close {
         target: usize,

@@ -2,7 +2,7 @@
 ghost use Rattle.std.specs.Prelude.{◌≡◌, ◌≤◌, ◌<◌};
 ghost use Rattle.passage_lines.specs.Text.{digit_in, duration_of, layout_of, lifetime_of, number_in, tick_length_of};
 
-use hash_parts::duration::{Duration, Lifetime};
+use hash_parts::duration::Duration;
 use hash_parts::setting::SegmentExpiry;
 
 // A character as a digit of a base, in small letters from ten on: `char::to_digit` takes large ones too.
@@ -76,12 +76,13 @@ pub(crate) fn parse_tick_length(text: &[u8]) -> Option<SegmentExpiry>
     Some(SegmentExpiry::Relative16 { tick })
 }
 
+// None is a lifetime without end.
 #[tactic(auto, unfolding(crate::specs::Text::lifetime_of))]
-pub(crate) fn parse_lifetime(text: &[u8]) -> Option<Lifetime>
+pub(crate) fn parse_lifetime(text: &[u8]) -> Option<Option<Duration>>
     ensures { result ≡ lifetime_of text.now }
 {
     if text == b"never".as_slice() {
-        return Some(Lifetime::Never);
+        return Some(None);
     }
-    Some(Lifetime::For(parse_duration(text)?))
+    Some(Some(parse_duration(text)?))
 }
