@@ -10,7 +10,6 @@ ghost use Rattle.book.specs.Made.{areas_of, set_with, world_of, Wherever};
 ghost use Rattle.book_lists.specs.Gives.{gives};
 
 use book::calls::{make_finish, make_lookup, make_open, make_push};
-use hash_parts::duration::Lifetime;
 use hash_parts::error::SegmentCacheBuildError;
 use hash_parts::setting::SegmentCacheConfig;
 use records::record::Span;
@@ -35,11 +34,11 @@ pub(crate) fn build_and_ask(
     hash: u64,
     key: &[u8],
     value: &[u8],
-    ttl: Lifetime,
+    ttl: Option<Duration>,
     second_hash: u64,
     second_key: &[u8],
     second_value: &[u8],
-    second_ttl: Lifetime,
+    second_ttl: Option<Duration>,
     target: usize,
     asked_hash: u64,
     asked_key: &[u8],
@@ -93,11 +92,11 @@ fn push_twice(
     hash: u64,
     key: &[u8],
     value: &[u8],
-    ttl: Lifetime,
+    ttl: Option<Duration>,
     second_hash: u64,
     second_key: &[u8],
     second_value: &[u8],
-    second_ttl: Lifetime,
+    second_ttl: Option<Duration>,
     target: usize,
     asked_hash: u64,
     asked_key: &[u8],
@@ -148,7 +147,7 @@ fn push_once(
     hash: u64,
     key: &[u8],
     value: &[u8],
-    ttl: Lifetime,
+    ttl: Option<Duration>,
     target: usize,
     asked_hash: u64,
     asked_key: &[u8],

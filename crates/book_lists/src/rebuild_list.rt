@@ -9,7 +9,6 @@ ghost use Rattle.book_lists.specs.Gives.{gives};
 
 use crate::build_list::{ListAnswer, ask};
 use book::calls::{make_copy, make_refinish, make_reopen, make_reuse};
-use hash_parts::duration::Lifetime;
 use sets::cache::FrozenSegmentCache;
 use sets::rebuild::{
     RebuildFinishAnswer, RebuildOpenAnswer, RebuildPushAnswer, SegmentRecordLocation,
@@ -35,7 +34,7 @@ pub(crate) fn rebuild_and_ask(
     hash: u64,
     key: &[u8],
     value: &[u8],
-    ttl: Lifetime,
+    ttl: Option<Duration>,
     asked_hash: u64,
     asked_key: &[u8],
     now_tick: u64,
@@ -98,7 +97,7 @@ fn reuse_and_copy(
     hash: u64,
     key: &[u8],
     value: &[u8],
-    ttl: Lifetime,
+    ttl: Option<Duration>,
     asked_hash: u64,
     asked_key: &[u8],
     now_tick: u64,
@@ -147,7 +146,7 @@ fn copy_and_finish(
     hash: u64,
     key: &[u8],
     value: &[u8],
-    ttl: Lifetime,
+    ttl: Option<Duration>,
     asked_hash: u64,
     asked_key: &[u8],
     now_tick: u64,

@@ -11,11 +11,7 @@ ghost use Rattle.index.specs.View.{record_in};
 ghost use Rattle.index.specs.Word.{marked, unmarked, word_of, word_stored, word_tag};
 ghost use Rattle.test_exports.specs.Exports.{code_of, expiry_of, found_told, lent, record_told, slot_code, told, view_of};
 
-use index::build::BuildSlot;
-use index::find::FindAnswer;
-use index::segments::SplitAnswer;
 use index::view::SegmentView;
-use records::record::RecordAnswer;
 
 #[unsafe(no_mangle)]
 pub extern "C" fn test_encode_index_word(tag: u64, location: u64) -> u64
@@ -89,13 +85,13 @@ pub extern "C" fn test_clear_words(words: &mut [u64], count: usize)
 
 // A slot, or 2^63 and the number of the refusal that a build then gives: 4 for a key that stands in
 // the index, 3 for a full one.
-fn slot_code(slot: BuildSlot) -> u64
+fn slot_code(slot: Result<usize, SegmentCacheBuildError>) -> u64
     ensures { result ≡ slot_code (slot_outcome slot) }
 {
     match slot {
-        BuildSlot::Empty(at) => at as u64,
-        BuildSlot::Duplicate => 0x8000_0000_0000_0004,
-        BuildSlot::Full => 0x8000_0000_0000_0003,
+        Ok(at) => at as u64,
+        Err(SegmentCacheBuildError::DuplicateKey) => 0x8000_0000_0000_0004,
+        Err(SegmentCacheBuildError::CapacityOverflow) => 0x8000_0000_0000_0003,
     }
 }
 
@@ -183,8 +179,8 @@ pub extern "C" fn test_split_record_segments(
     ensures { (result ≡ code_of (2 ^ 32) (split index.old buckets filled target starts.old lengths.old).answer) × (index.new ≡ (split index.old buckets filled target starts.old lengths.old).index) × (starts.new ≡ (split index.old buckets filled target starts.old lengths.old).starts) × (lengths.new ≡ (split index.old buckets filled target starts.old lengths.old).lengths) }
 {
     match index::segments::split_record_segments(index, buckets, filled, target, starts, lengths) {
-        SplitAnswer::Segments(count) => count as u64,
-        SplitAnswer::Refused(refusal) => 0x1_0000_0000 + (refusal.number() as u64),
+        Ok(count) => count as u64,
+        Err(refusal) => 0x1_0000_0000 + (refusal.number() as u64),
     }
 }
 
@@ -236,7 +232,7 @@ pub extern "C" fn test_record_at_location(
         filled,
         segments,
     };
-    let RecordAnswer::Read(record) = index::view::record_at_location(
+    let Some(record) = index::view::record_at_location(
         view, arena, starts, lengths, stored,
     ) else {
         return false;
@@ -285,7 +281,7 @@ pub extern "C" fn test_find_record(
         filled,
         segments,
     };
-    let FindAnswer::Found(found) = index::find::find_record(
+    let Some(found) = index::find::find_record(
         view,
         packed,
         index,

@@ -11,14 +11,13 @@ ghost use Rattle.hash_parts.specs.ZeroBytes.{lowest_set, without_lowest, zero_ma
 ghost use Rattle.records.specs.Area.{same_bytes, spanned, written};
 ghost use Rattle.records.specs.Record.{encoded_size, record_at, record_bytes};
 ghost use Rattle.records.specs.Uleb128.{uleb128};
-ghost use Rattle.records.specs.Varint.{read_varint};
+ghost use Rattle.records.specs.Option<(usize, usize)>.{read_varint};
 ghost use Rattle.test_exports.specs.Exports.{byte_or256, code_of, duration_of, expiry_of, left_told, lent, lifetime_of, nanos_told, outcome_told, placed, record_told, span_of, told, varint_told};
 
-use hash_parts::duration::{Duration, EncodedExpiry, Lifetime, SegmentRemainingTtl};
+use hash_parts::duration::{Duration, SegmentRemainingTtl};
 use hash_parts::error::SegmentCacheBuildError;
 use hash_parts::setting::SegmentExpiry;
-use records::record::{RecordAnswer, SizeAnswer, Span};
-use records::varint::{Varint, WriteAnswer};
+use records::record::Span;
 
 #[unsafe(no_mangle)]
 pub extern "C" fn test_hash_tag(hash: u64) -> u64
@@ -100,13 +99,13 @@ fn expiry_of(on: bool, secs: u64, nanos: u32) -> SegmentExpiry
     SegmentExpiry::None
 }
 
-fn lifetime_of(finite: bool, secs: u64, nanos: u32) -> Lifetime
+fn lifetime_of(finite: bool, secs: u64, nanos: u32) -> Option<Duration>
     ensures { result ≡ lifetime_of finite secs nanos }
 {
     if finite {
-        return Lifetime::For(Duration { secs, nanos });
+        return Some(Duration { secs, nanos });
     }
-    Lifetime::Never
+    None
 }
 
 // The upper and the lower word.
@@ -135,8 +134,8 @@ pub extern "C" fn test_encode_expiry(
     let expiry = expiry_of(on, tick_secs, tick_nanos);
     let lifetime = lifetime_of(finite, secs, nanos);
     match hash_parts::duration::encode_expiry_at_tick(expiry, lifetime, now_tick) {
-        EncodedExpiry::At(deadline) => deadline as u64,
-        EncodedExpiry::Refused(refusal) => 65_536 + (refusal.number() as u64),
+        Ok(deadline) => deadline as u64,
+        Err(refusal) => 65_536 + (refusal.number() as u64),
     }
 }
 
@@ -197,8 +196,8 @@ pub extern "C" fn test_write_varint(output: &mut [u8], value: usize) -> u64
     ensures { (result ≡ code_of (2 ^ 32) (written (uleb128 value) output.old).answer) × (output.new ≡ (written (uleb128 value) output.old).area) }
 {
     match records::varint::write_varint(output, value) {
-        WriteAnswer::Written(bytes) => bytes as u64,
-        WriteAnswer::Refused(refusal) => 0x1_0000_0000 + (refusal.number() as u64),
+        Ok(bytes) => bytes as u64,
+        Err(refusal) => 0x1_0000_0000 + (refusal.number() as u64),
     }
 }
 
@@ -207,7 +206,7 @@ pub extern "C" fn test_write_varint(output: &mut [u8], value: usize) -> u64
 pub extern "C" fn test_read_varint(input: &[u8], cursor: usize, out: &mut [u64]) -> bool
     ensures { told result out.new ≡ lent (varint_told (read_varint input.now cursor)) out.old }
 {
-    let Varint::Value(value, next) = records::varint::read_varint(input, cursor) else {
+    let Some((value, next)) = records::varint::read_varint(input, cursor) else {
         return false;
     };
     put_words(out, &[value as u64, next as u64]);
@@ -226,11 +225,11 @@ pub extern "C" fn test_encoded_record_bytes(
 {
     let expiry = expiry_of(on, 1, 0);
     match records::record::encoded_record_bytes(expiry, key_bytes, value_bytes) {
-        SizeAnswer::Bytes(size) => {
+        Ok(size) => {
             put_words(out, &[size as u64]);
             0
         }
-        SizeAnswer::Refused(refusal) => refusal.number() as u64,
+        Err(refusal) => refusal.number() as u64,
     }
 }
 
@@ -263,7 +262,7 @@ pub extern "C" fn test_record_at(bytes: &[u8], on: bool, location: usize, out: &
     ensures { told result out.new ≡ lent (record_told (record_at (expiry_of on 1 0) bytes.now location)) out.old }
 {
     let expiry = expiry_of(on, 1, 0);
-    let RecordAnswer::Read(record) = records::record::record_at(bytes, expiry, location) else {
+    let Some(record) = records::record::record_at(bytes, expiry, location) else {
         return false;
     };
     let key = record.key;
