@@ -14,6 +14,7 @@ use Rattle.index.specs.Word.{word_tag, word_stored}
 use Rattle.index.proofs.Contents.{word_slots}
 use Rattle.index.proofs.Entries.{keyed, Indexed, words_long}
 use Rattle.index.proofs.Searches.{Says, never_full, duplicate_taken, empty_hits, duplicate_hits, walk_says, slot_search}
+use Rattle.index.proofs.Slots.{SlotEnds, ends_empty, ends_same, ends_full, slot_ends}
 use Rattle.index.proofs.Table.{not-true, true≢false, length_rot, only, only_has, walk_gap, hits, past}
 
 module _ {E : Type 0} {stored : E → Stored} {H : List ℕ → ℕ} {Holds : ℕ → E → Type 0} (index : List ℕ) (buckets : ℕ) {filter : List ℕ} {words : ℕ} {r : List E}
@@ -29,12 +30,12 @@ module _ {E : Type 0} {stored : E → Stored} {H : List ℕ → ℕ} {Holds : �
 
   -- a push that takes keys again finds a slot
   pub finds_empty : length r < 8 * buckets → (s : ℕ) × (slot_for never index buckets h ≡ Ok s)
-  finds_empty room = go (slot_for never index buckets h) refl
+  finds_empty room = go (slot_ends never index buckets h) refl
     where
-      go : (a : SlotAnswer) → slot_for never index buckets h ≡ a → (s : ℕ) × (slot_for never index buckets h ≡ Ok s)
-      go (Ok s) e = (s, e)
-      go (Err CapacityOverflow) e = absurd (has_room never room e)
-      go (Err DuplicateKey) e =
+      go : {a : SlotAnswer} → SlotEnds a → slot_for never index buckets h ≡ a → (s : ℕ) × (slot_for never index buckets h ≡ Ok s)
+      go (ends_empty {s = s}) e = (s, e)
+      go ends_full e = absurd (has_room never room e)
+      go ends_same e =
           absurd
           (true≢false
           (duplicate_taken (λ b d. b ≡ false) (walk_says never (λ b d. b ≡ false) (λ w d p y. refl) buckets index x (8 * first_bucket h buckets))

@@ -1,6 +1,6 @@
 -- The candidates of a bucket, visited from the lowest mark up: packed, the slots whose control byte has the tag; words, those from the first that
 -- is empty or has the tag on. Assumes nothing.
-use Rattle.std.proofs.Common.{◌≡◌, ℕ, zero, suc, ◌+◌, ◌-◌, ◌*◌, ◌/◌, ◌%◌, ◌^◌, ◌<◌, ◌≤◌, Bool, true, false, cond, eqb, ltb, List, [], ◌∷◌, map, length, get_or, take, drop, sym, refl, ap, ◌∙◌, subst, ap₂, add-zero, div-add-mod', zero-add, mul-suc, arith, lit<, shr_lt, le-ltb, lt-ltb, eq-eqb, ne_eqb, eqb-true}
+use Rattle.std.proofs.Common.{add-one, ◌≡◌, ℕ, zero, suc, ◌+◌, ◌*◌, ◌/◌, ◌%◌, ◌^◌, ◌<◌, ◌≤◌, Bool, true, false, cond, eqb, ltb, List, [], ◌∷◌, map, length, get_or, take, drop, sym, refl, ap, ◌∙◌, subst, ap₂, add-zero, div-add-mod', mul-suc, arith, lit<, shr_lt, le-ltb, lt-ltb, eq-eqb, ne_eqb, eqb-true}
 use Rattle.std.specs.Prelude.{Some, None, Option}
 use Rattle.records.specs.declared.record.RecordRef.{RecordRef}
 use lib.Bits.{bit_and, bit_xor, and_comm, and_block, and_mask, and_le_r, xor_block, xor_lt, xor_add_and, xor_self}
@@ -14,12 +14,11 @@ use Rattle.index.specs.Find.{Look, empty, other, broken, match, seen, look, look
 use Rattle.index.specs.FindSteps.{step_of, has_tag, tagged, passed_over, from_on}
 use Rattle.index.specs.Packed.{packed_slot, packed_slots_of}
 use Rattle.index.specs.Slot.{word_slot, IndexSlot}
-use Rattle.index.specs.Word.{word_tag}
+use Rattle.index.specs.Word.{word_tag, word_stored}
 use Rattle.index.specs.declared.find.FindStep.{FindStep}
 use Rattle.index.specs.declared.find.FindStep.TheVariants.{Next}
 use Rattle.index.proofs.Bytes.{below_eight}
 use Rattle.index.proofs.Finds.{and_then, scan_cons}
-use Rattle.index.proofs.Walks.{part_cons}
 
 -- ---- which control bytes have the tag
 
@@ -186,42 +185,41 @@ module _ (read : ℕ → Option RecordRef) (arena key : List ℕ) (tag : ℕ) (g
       go true e rest = rw e at (scan_all (Some (t, stored) ∷ l) i p says)
       go false e rest = rest
 
--- ---- how many slots of a bucket of words are passed over, slot by slot
+-- ---- how many slots of a bucket of words are passed over
 
--- of those from an offset on
-abbrev pub passed_from : ℕ → List ℕ → ℕ → ℕ → ℕ
-passed_from tag index at offset = passed_over tag (map word_slot (take (8 - offset) (drop (at + offset) index)))
+-- a word at which they end: an empty one, or one with the tag
+abbrev pub ends : ℕ → ℕ → Bool
+ends tag w = cond (eqb w 0) true (eqb (word_tag w) tag)
 
-pub passed_begins : (tag : ℕ) (index : List ℕ) (at : ℕ) → passed_over tag (map word_slot (take 8 (drop at index))) ≡ 0 + passed_from tag index at 0
-passed_begins tag index at = rw (zero-add (passed_from tag index at 0), add-zero at)
-
-pub passed_ends : (tag : ℕ) (index : List ℕ) (at offset : ℕ) → 8 ≤ offset → passed_from tag index at offset ≡ 0
+pub passed_none : (tag : ℕ) → passed_over tag (map word_slot []) ≡ 0
 unfolding passed_over
-passed_ends tag index at offset h = let e : 8 - offset ≡ 0 = omega arith in rw e
+passed_none tag = refl
 
-module _ (tag : ℕ) (index : List ℕ) (at offset : ℕ) (some_left : offset < 8) (inside : at + offset < length index) where
-  abbrev word : ℕ
-  word = get_or index (at + offset) 0
-
-  passed_step : passed_from tag index at offset ≡ passed_over tag (word_slot word ∷ map word_slot (take (8 - (offset + 1)) (drop (at + (offset + 1)) index)))
-  passed_step =
-      let left : 8 - offset - 1 ≡ 8 - (offset + 1) = omega arith in
-      let next : at + offset + 1 ≡ at + (offset + 1) = omega arith in
-      let some : 0 < 8 - offset = omega arith in
-      rw (part_cons index (8 - offset) (at + offset) 0 some inside, left, next)
-
-  pub passed_empty : word ≡ 0 → passed_from tag index at offset ≡ 0
+module _ (tag w : ℕ) (ws : List ℕ) where
+  pub passed_hit : ends tag w ≡ true → passed_over tag (map word_slot (w ∷ ws)) ≡ 0
   unfolding passed_over word_slot
-  passed_empty e = passed_step ∙ rw (eq-eqb word 0 e)
+  passed_hit e = go (eqb w 0) e
+    where
+      go : (x : Bool) → cond x true (eqb (word_tag w) tag) ≡ true → passed_over tag (cond x None (Some (word_tag w, word_stored w)) ∷ map word_slot ws) ≡ 0
+      go true f = refl
+      go false f = rw f
 
-  module _ (used : word ≡ 0 → ⊥) where
-    pub passed_own : word_tag word ≡ tag → passed_from tag index at offset ≡ 0
-    unfolding passed_over word_slot
-    passed_own e = passed_step ∙ rw (ne_eqb word 0 used, eq-eqb (word_tag word) tag e)
+  pub passed_miss : ends tag w ≡ false → passed_over tag (map word_slot (w ∷ ws)) ≡ passed_over tag (map word_slot ws) + 1
+  unfolding passed_over word_slot
+  passed_miss e = go (eqb w 0) e
+    where
+      go : (x : Bool) → cond x true (eqb (word_tag w) tag) ≡ false
+          → passed_over tag (cond x None (Some (word_tag w, word_stored w)) ∷ map word_slot ws) ≡ passed_over tag (map word_slot ws) + 1
+      go true f = cc
+      go false f = rw f (sym (add-one (passed_over tag (map word_slot ws))))
 
-    pub passed_other : (word_tag word ≡ tag → ⊥) → passed_from tag index at offset ≡ suc (passed_from tag index at (offset + 1))
-    unfolding passed_over word_slot
-    passed_other n = passed_step ∙ rw (ne_eqb word 0 used, ne_eqb (word_tag word) tag n)
+pub passed_most : (tag : ℕ) (ws : List ℕ) → passed_over tag (map word_slot ws) ≤ length ws
+passed_most tag [] = omega (arith, passed_none tag)
+passed_most tag (w ∷ ws) = go (ends tag w) refl (passed_most tag ws)
+  where
+    go : (b : Bool) → ends tag w ≡ b → passed_over tag (map word_slot ws) ≤ length ws → passed_over tag (map word_slot (w ∷ ws)) ≤ length (w ∷ ws)
+    go true e h = omega (arith, passed_hit tag w ws e)
+    go false e h = omega (arith, passed_miss tag w ws e)
 
 pub from_length : (s n : ℕ) → length (from_on s n) ≡ n
 unfolding from_on

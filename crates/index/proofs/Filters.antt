@@ -12,13 +12,6 @@ use Rattle.index.specs.Filter.{bit_past, filter_word, filter_mask, filter_marked
 pub one_shl : (i : ℕ) → i < 64 → (1 * 2 ^ i) % 2 ^ 64 ≡ 2 ^ i
 one_shl i h = shl_exact {a = 1} 1 i 64 (lit< tt) (omega arith) ∙ one-mul (2 ^ i)
 
--- so many bits to each record fit 64 bits
-pub bits_fit : {records bits : ℕ} → records < 2 ^ 32 → bits < 2 ^ 8 → records * bits ≤ 4294967295 * 255
-bits_fit {records} {bits} r b =
-    let x : records ≤ 4294967295 = omega arith in
-    let y : bits ≤ 255 = omega arith in
-    mul-le-mul x y
-
 -- ---- the bits of a mask in a word
 
 or_odd : (a b : ℕ) → bit_or a b % 2 ≡ max (a % 2) (b % 2)

@@ -183,13 +183,14 @@ find_word view index buckets filter words starts lengths arena k h y bound answe
     w : ℕ
     w = get_or index y.slot 0
 
-    go : (b : Bool) → eqb w 0 ≡ b → {t l : ℕ} → cond b None (Some (word_tag w, word_stored w)) ≡ Some (t, l) → record_in view arena starts lengths l ≡ Some y.entry
+    go : (b : Bool) → eqb w 0 ≡ b → {t l : ℕ} → cond {A = IndexSlot} b None (Some (word_tag w, word_stored w)) ≡ Some (t, l) → record_in view arena starts lengths l ≡ Some y.entry
         → (w ≡ 0 → ⊥) × (word_stored w ≡ 0 → ⊥)
     go true e q reads = absurd (let z : ◌≡◌ {A = ℕ} 0 1 = cc in omega arith)
-    go false e {l = l} q reads = (
+    go false e {t = t} {l = l} q reads = (
       λ (z : w ≡ 0). eqb-false w 0 e z,
       λ (z : word_stored w ≡ 0).
-          let none : l ≡ 0 = cc in
+          let same : ◌≡◌ {A = ℕ × ℕ} (word_tag w, word_stored w) (t, l) = cc in
+          let none : l ≡ 0 = sym (ap (λ (p : ℕ × ℕ). p.1) same) ∙ z in
           let n : record_in view arena starts lengths 0 ≡ Some y.entry = rw none at reads in
           let c : ◌≡◌ {A = ℕ} 0 1 = cc in
           omega arith,

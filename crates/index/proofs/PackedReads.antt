@@ -14,9 +14,9 @@ use Rattle.index.specs.Walk.{buckets_of}
 use Rattle.index.specs.Word.{word_of, word_tag, word_stored}
 use Rattle.index.proofs.Contents.{packed_buckets, repacked}
 use Rattle.index.proofs.Bytes.{below_eight}
-use Rattle.index.proofs.Packing.{control_small, reference_bytes_law, length_reference}
+use Rattle.index.proofs.Packing.{control_small, reference_bytes_law, length_reference, words_from, words_from_law}
 use Rattle.index.proofs.Walks.{length_buckets}
-use Rattle.index.proofs.PackingLoop.{length_references, words_from, words_from_law}
+use Rattle.index.proofs.PackingLoop.{length_references}
 
 -- ---- a bucket packed and read back
 

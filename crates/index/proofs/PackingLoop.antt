@@ -1,11 +1,10 @@
 -- Packing an index bucket by bucket, from the last to the first. Assumes nothing.
-use Rattle.std.proofs.Common.{◌≡◌, ℕ, zero, suc, ◌+◌, ◌-◌, ◌*◌, ◌<◌, ◌≤◌, Bool, true, false, cond, leb, List, [], ◌∷◌, ◌++◌, map, length, get_or, take, drop, set, sym, refl, ap, ◌∙◌, ap₂, append_assoc, le_of_suc-le-suc, not-suc-le-zero, add-zero, mul_comm, add-one, arith, length-append, length-drop, length-set, length-take-le, drop-cons, take-suc, take-take, drop-drop, take_at, drop_at, le-leb}
+use Rattle.std.proofs.Common.{◌≡◌, ℕ, zero, suc, ◌+◌, ◌-◌, ◌*◌, ◌<◌, ◌≤◌, Bool, true, false, cond, leb, List, [], ◌∷◌, ◌++◌, map, length, take, drop, set, sym, refl, ap, ◌∙◌, ap₂, append_assoc, le_of_suc-le-suc, not-suc-le-zero, add-zero, arith, length-append, length-drop, length-set, length-take-le, take-take, drop-drop, take_at, drop_at, le-leb}
 use mathlib.Core.List.{flat_map}
 use native.Mathlib.Nat.{sub-zero, sub_self}
-use native.Mathlib.Numerals.{add-two, add-three, add-four, add_five, add_six, add_seven}
 use borrow.Author.Tests.{lt-leb}
 use lib.ListN.{length-map}
-use lib.Seq.{set_at, take-append-le}
+use lib.Seq.{take-append-le}
 use Rattle.records.specs.Area.{pasted}
 use Rattle.index.specs.Packed.{reference_bytes, control_word, control_words, words_of, reference_words, packed, packed_index, packed_scratch}
 use Rattle.index.specs.Walk.{buckets_of}

@@ -1,6 +1,6 @@
 -- A push puts its entry into the first empty slot of its hash's walk, and so at the end of the list. Assumes nothing.
 use Rattle.std.proofs.Common.{◌≡◌, ℕ, zero, suc, ◌+◌, ◌-◌, ◌*◌, ◌/◌, ◌^◌, ◌<◌, ◌≤◌, Bool, true, false, cond, ltb, leb, List, [], ◌∷◌, ◌++◌, map, length, get_or, take, set, sym, refl, ap, ◌∙◌, arith, length-set, length-take-le, ltb-false, le-leb, leb-false, leb-true}
-use Rattle.std.specs.Prelude.{Some, None, Ok, Err}
+use Rattle.std.specs.Prelude.{Some, Ok}
 use Rattle.hash_parts.specs.declared.error.SegmentCacheBuildError.TheVariants.{}
 use lib.Seq.{take-set-lt}
 use borrow.Author.Tests.{lt-leb}

@@ -1,6 +1,6 @@
 -- A slot of a finished index by its number. Assumes nothing.
 use Rattle.std.proofs.Common.{◌≡◌, ℕ, ◌+◌, ◌*◌, ◌/◌, ◌%◌, ◌<◌, ◌≤◌, Bool, false, List, length, get_or, take, drop, ap, ◌∙◌, arith, get_or-drop, get_or-take, le-ltb, lt-ltb, le-leb}
-use Rattle.std.specs.Prelude.{Some, None}
+use Rattle.std.specs.Prelude.{None}
 use lib.ListN.{get_or-map}
 use borrow.Author.Tests.{lt-leb}
 use Rattle.index.specs.Find.{slot_at, slots_of}

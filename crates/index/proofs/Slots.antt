@@ -1,5 +1,5 @@
 -- The slots of a build: what a word says to a push, a bucket's answer, and the answer of the buckets that are left. Assumes nothing.
-use Rattle.std.proofs.Common.{◌≡◌, ℕ, zero, suc, ◌+◌, ◌-◌, ◌*◌, ◌/◌, ◌<◌, ◌≤◌, Bool, true, false, List, [], ◌∷◌, length, get_or, take, drop, sym, refl, ap, ◌∙◌, not-suc-le-zero, add-one, arith, eq-eqb, ne_eqb, le-leb}
+use Rattle.std.proofs.Common.{◌≡◌, ℕ, zero, suc, ◌+◌, ◌-◌, ◌*◌, ◌/◌, ◌<◌, ◌≤◌, Bool, true, false, List, [], ◌∷◌, length, get_or, take, drop, sym, refl, ap, ◌∙◌, not-suc-le-zero, add-one, arith, eq-eqb, ne_eqb, le-leb, leb, cond}
 use Rattle.std.specs.Prelude.{Some, None, Ok, Err}
 use Rattle.hash_parts.specs.declared.error.SegmentCacheBuildError.TheVariants.{CapacityOverflow, DuplicateKey}
 use borrow.Author.Tests.{lt-leb}
@@ -12,6 +12,7 @@ use Rattle.records.specs.declared.record.RecordRef.{RecordRef}
 use Rattle.records.proofs.Area.{spanned_in}
 use Rattle.records.proofs.Stored.{record_inside}
 use Rattle.index.specs.Build.{PushLook, vacant, same, passed, build_record, has_key, holds_key, looks, searched, searched_all, slot_for, slot_outcome, next_bucket, SlotAnswer}
+use Rattle.index.specs.Walk.{bucket_walk}
 use Rattle.index.specs.Word.{word_tag, word_stored}
 use Rattle.index.proofs.Around.{around, around_step, around_end, walk_around}
 use Rattle.index.proofs.Walks.{part_cons}
@@ -20,6 +21,32 @@ use Rattle.index.proofs.Walks.{part_cons}
 pub slot_accepted : (s : SlotAnswer) → (slot_outcome s).number ≡ 0 → s ≡ Ok (slot_outcome s).value
 slot_accepted (Ok s) e = refl
 slot_accepted (Err r) e = absurd (omega (arith, e, refusal_pos r))
+
+-- the three answers of a search
+pub data SlotEnds : SlotAnswer → Type 0 where
+  ends_empty : {s : ℕ} → SlotEnds (Ok s)
+  ends_same : SlotEnds (Err DuplicateKey)
+  ends_full : SlotEnds (Err CapacityOverflow)
+
+searched_so : (l : List PushLook) {after : SlotAnswer} → SlotEnds after → SlotEnds (searched l after)
+unfolding searched
+searched_so [] e = e
+searched_so (vacant i ∷ l) e = ends_empty
+searched_so (same ∷ l) e = ends_same
+searched_so (passed ∷ l) e = searched_so l e
+
+all_so : (f : ℕ → List PushLook) (bs : List ℕ) → SlotEnds (searched_all f bs)
+unfolding searched_all
+all_so f [] = ends_full
+all_so f (b ∷ bs) = searched_so (f b) (all_so f bs)
+
+pub slot_ends : (taken : ℕ → Bool) (index : List ℕ) (buckets h : ℕ) → SlotEnds (slot_for taken index buckets h)
+unfolding slot_for
+slot_ends taken index buckets h = go (leb (8 * buckets) (length index)) (all_so (λ b. looks taken (8 * b) (take 8 (drop (8 * b) index))) (bucket_walk h buckets))
+  where
+    go : (b : Bool) {a : SlotAnswer} → SlotEnds a → SlotEnds (cond b a (Err CapacityOverflow))
+    go true e = e
+    go false e = ends_full
 
 -- ---- a word that holds the key
 

@@ -1,5 +1,5 @@
 -- Laws of segment starts: the next start, the starts one by one, and that they ascend. Assumes nothing.
-use Rattle.std.proofs.Common.{◌≡◌, ℕ, zero, suc, ◌+◌, ◌-◌, ◌*◌, ◌/◌, ◌<◌, ◌≤◌, min, Bool, true, false, cond, eqb, ltb, leb, List, [], ◌∷◌, length, get_or, take, drop, refl, ◌∙◌, not-suc-le-zero, add-one, arith, drop_of_length-le, drop-cons, ltb-true, le-ltb, lt-ltb, eq-eqb, ne_eqb, le-leb, ◌++◌, ◌&&◌, ap}
+use Rattle.std.proofs.Common.{◌≡◌, ℕ, zero, suc, ◌+◌, ◌-◌, ◌*◌, ◌/◌, ◌<◌, ◌≤◌, min, Bool, true, false, cond, eqb, ltb, leb, List, [], ◌∷◌, length, get_or, take, refl, ◌∙◌, not-suc-le-zero, arith, ltb-true, le-ltb, lt-ltb, eq-eqb, ne_eqb, le-leb, ◌++◌, ◌&&◌, ap}
 use Rattle.std.specs.List.{list_all}
 use native.Mathlib.Decide.{dec_le}
 use borrow.Author.Tests.{eqb-false, lt-leb}

@@ -1,6 +1,6 @@
 -- The loop over the candidates of a bucket. Assumes nothing.
 use Rattle.std.proofs.Common.{◌≡◌, ℕ, ◌+◌, ◌*◌, ◌<◌, ◌≤◌, Bool, true, false, cond, ltb, List, length, get_or, take, drop, sym, refl, ap, ◌∙◌, zero-add, arith, length-drop, length-take-le}
-use Rattle.std.specs.Prelude.{Some, None, Option}
+use Rattle.std.specs.Prelude.{None, Option}
 use Rattle.records.specs.declared.record.RecordRef.{RecordRef}
 use lib.ListN.{length-map}
 use Rattle.hash_parts.specs.Hash.{control_tag, secondary_tag}

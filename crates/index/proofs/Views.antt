@@ -1,5 +1,5 @@
 -- Laws of reading under a stored location. Assumes nothing.
-use Rattle.std.proofs.Common.{◌≡◌, ℕ, zero, suc, ◌+◌, ◌-◌, ◌/◌, ◌%◌, ◌^◌, ◌<◌, ◌≤◌, Bool, true, false, cond, leb, List, length, get_or, take, drop, sym, refl, ap, ◌∙◌, arith, length-take, min, take_all, take-take, drop-drop, le-leb, leb-true}
+use Rattle.std.proofs.Common.{◌≡◌, ℕ, suc, ◌+◌, ◌-◌, ◌/◌, ◌%◌, ◌^◌, ◌<◌, ◌≤◌, Bool, true, false, cond, leb, List, length, get_or, take, drop, sym, refl, ap, ◌∙◌, arith, length-take, min, take_all, take-take, drop-drop, le-leb, leb-true}
 use Rattle.std.specs.Prelude.{Option, Some, None}
 use borrow.Author.Tests.{lt-leb}
 use Rattle.hash_parts.specs.declared.setting.SegmentExpiry.{SegmentExpiry}

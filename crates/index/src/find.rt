@@ -33,7 +33,7 @@ pub struct FinishedIndex<'a> {
 }
 
 // A record that was found, and the slot that names it.
-#[derive(Clone, Copy)]
+#[derive(Clone, Copy, Debug, PartialEq, Eq)]
 pub struct FoundRecord {
     pub slot: usize,
     pub entry: RecordRef,
@@ -153,7 +153,7 @@ fn kept_tag(packed: bool, tag: u64) -> u64
     ensures { result ≡ kept_tag packed tag }
 {
     if packed {
-        return (packed_control_tag(tag) as u64) + 128 * (packed_secondary_tag(tag) as u64);
+        return u64::from(packed_control_tag(tag)) + 128 * u64::from(packed_secondary_tag(tag));
     }
     tag
 }
@@ -210,9 +210,9 @@ impl FinishedIndex<'_> {
         ensures { result ≡ marks (candidates self.entry.packed tag self.entry.words.now bucket) }
     {
         if self.packed {
-            return tagged_bytes(self.words[bucket], packed_control_tag(tag) as u64);
+            return tagged_bytes(self.words[bucket], u64::from(packed_control_tag(tag)));
         }
-        let begin = bucket * BUCKET_SLOTS;
+        let begin = BUCKET_SLOTS * bucket;
         marks_from(passed_over(&self.words[begin..begin + BUCKET_SLOTS], tag))
     }
 

@@ -61,7 +61,7 @@ fn packed_reference(word: u64) -> u64
     if word == 0 {
         return 0;
     }
-    (packed_secondary_tag(index_tag(word)) as u64) + index_location(word) * 0x1_0000
+    u64::from(packed_secondary_tag(index_tag(word))) + index_location(word) * 0x1_0000
 }
 
 fn control_word(words: [u64; BUCKET_SLOTS]) -> u64

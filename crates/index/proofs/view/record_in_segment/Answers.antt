@@ -1,5 +1,5 @@
 -- `record_in_segment` meets its contract: a segment inside the filled bytes is a part of them. Assumes nothing.
-use Rattle.std.proofs.Common.{◌≡◌, ℕ, ◌+◌, ◌≤◌, List, length, take, sym, ap, ◌∙◌, arith, length-take}
+use Rattle.std.proofs.Common.{◌≡◌, ◌+◌, ◌≤◌, length, take, sym, ap, ◌∙◌, arith, length-take}
 use Rattle.std.specs.Prelude.{Some, None}
 use Rattle.records.specs.Area.{part}
 use Rattle.records.proofs.Stored.{record_inside}

@@ -3,10 +3,10 @@ use Rattle.std.proofs.Common.{sym, ◌∙◌, arith}
 use Rattle.index.proofs.SlotReads.{word_in}
 use Rattle.index.proofs.find.FinishedIndex.bucket_slot.Goals as goal
 
-pub returns-then-packed : goal.returns-then-packed
-returns-then-packed c = rw c.if-packed.true c.packed_slot_at.ensures
+pub returns-then-self : goal.returns-then-self
+returns-then-self c = rw c.if-self.true c.packed_slot_at.ensures
 
 pub returns : goal.returns
 returns c =
     let a = c.args in
-    rw c.if-packed.false (c.word_slot.ensures ∙ sym (word_in a.buckets a.index.now a.bucket a.offset (omega arith)))
+    rw c.if-self.false (c.word_slot.ensures ∙ sym (word_in a.self.buckets a.self.words.now a.bucket a.offset (omega arith)))

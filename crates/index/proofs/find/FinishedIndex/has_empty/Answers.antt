@@ -1,5 +1,5 @@
 -- `has_empty` meets its contract. Assumes nothing.
 use Rattle.index.proofs.find.FinishedIndex.has_empty.Goals as goal
 
-pub returns-then-packed : goal.returns-then-packed
-returns-then-packed c = rw (c.if-packed.true, c.tagged_bytes.ensures)
+pub returns-then-self : goal.returns-then-self
+returns-then-self c = rw (c.if-self.true, c.tagged_bytes.ensures)

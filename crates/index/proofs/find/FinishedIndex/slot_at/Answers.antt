@@ -3,17 +3,17 @@ use Rattle.std.proofs.Common.{sym, arith}
 use Rattle.index.proofs.SlotReads.{slot_short, slot_past, slot_in}
 use Rattle.index.proofs.find.FinishedIndex.slot_at.Goals as goal
 
-pub returns-then-index-buckets : goal.returns-then-index-buckets
-returns-then-index-buckets c =
+pub returns-then-self : goal.returns-then-self
+returns-then-self c =
     let a = c.args in
-    sym (slot_short a.packed a.buckets a.index.now a.slot (omega arith))
+    sym (slot_short a.self.packed a.self.buckets a.self.words.now a.slot (omega arith))
 
-pub returns-then-slot-buckets : goal.returns-then-slot-buckets
-returns-then-slot-buckets c =
+pub returns-then-slot-self : goal.returns-then-slot-self
+returns-then-slot-self c =
     let a = c.args in
-    sym (slot_past a.packed a.buckets a.index.now a.slot (omega arith) (omega arith))
+    sym (slot_past a.self.packed a.self.buckets a.self.words.now a.slot (omega arith) (omega arith))
 
 pub returns : goal.returns
 returns c =
     let a = c.args in
-    rw c.bucket_slot.ensures (sym (slot_in a.packed a.buckets a.index.now a.slot (omega arith) (omega arith)))
+    rw c.bucket_slot.ensures (sym (slot_in a.self.packed a.self.buckets a.self.words.now a.slot (omega arith) (omega arith)))

@@ -1,5 +1,5 @@
 -- `record_at_location` meets its contract, test by test. Assumes nothing.
-use Rattle.std.proofs.Common.{◌≡◌, arith, le-ltb, lt-ltb}
+use Rattle.std.proofs.Common.{arith, le-ltb, lt-ltb}
 use Rattle.index.proofs.Views.{location_none, location_outside, location_inside}
 use Rattle.index.proofs.view.SegmentView.record_at_location.Goals as goal
 
