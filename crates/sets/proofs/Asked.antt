@@ -1,5 +1,5 @@
 -- What the questions of open, push and finish tell where all are answered yes. Assumes nothing.
-use Rattle.std.proofs.Common.{◌≡◌, ℕ, zero, suc, ◌*◌, ◌<◌, ◌≤◌, Bool, true, false, cond, eqb, ltb, leb, ◌⊎◌, List, [], ◌∷◌, ◌++◌, length, take, refl, inl, inr, ⊎_elim, arith, ltb-true, eq-eqb, ne_eqb, eqb-true, leb-true}
+use Rattle.std.proofs.Common.{◌≡◌, ℕ, zero, suc, ◌*◌, ◌<◌, ◌≤◌, Bool, true, false, cond, eqb, ltb, leb, ◌⊎◌, List, [], ◌∷◌, ◌++◌, length, take, refl, inl, inr, ⊎_elim, arith, ltb-true, eq-eqb, ne_eqb, eqb-true, leb-true, Option, Ok}
 use Rattle.hash_parts.specs.Hash.{tag_of}
 use Rattle.hash_parts.specs.declared.duration.Duration.{Duration}
 use Rattle.hash_parts.specs.declared.setting.SegmentCacheConfig.{SegmentCacheConfig}

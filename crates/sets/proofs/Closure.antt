@@ -1,6 +1,6 @@
 -- Question 1 stays answered yes: an accepted open, push or finish leaves a state and areas that pass it, and no call changes the length of an area. Nothing
 -- is assumed of the state given but that the call was accepted. Assumes nothing.
-use Rattle.std.proofs.Common.{◌≡◌, ℕ, ◌+◌, ◌*◌, ◌/◌, ◌%◌, ◌<◌, ◌≤◌, Bool, true, false, cond, leb, List, [], ◌∷◌, ◌++◌, map, length, get_or, take, drop, replicate, refl, ap, ◌∙◌, arith, length-append, length-drop, length-set, length-take, le-leb, leb-true}
+use Rattle.std.proofs.Common.{◌≡◌, ℕ, ◌+◌, ◌*◌, ◌/◌, ◌%◌, ◌<◌, ◌≤◌, Bool, true, false, cond, leb, List, [], ◌∷◌, ◌++◌, map, length, get_or, take, drop, replicate, refl, ap, ◌∙◌, arith, length-append, length-drop, length-set, length-take, le-leb, leb-true, Option, Some, None}
 use lib.ListN.{length-map, length-replicate}
 use Rattle.hash_parts.specs.Duration.{lives_at}
 use Rattle.hash_parts.specs.Hash.{first_bucket}

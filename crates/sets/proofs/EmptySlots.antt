@@ -1,8 +1,9 @@
 -- An empty slot that a search finds is a slot of the index. Assumes nothing.
-use Rattle.std.proofs.Common.{◌≡◌, ℕ, suc, ◌+◌, ◌*◌, ◌^◌, ◌<◌, ◌≤◌, Bool, true, false, cond, eqb, leb, List, [], ◌∷◌, length, take, drop, arith, length-take}
+use Rattle.std.proofs.Common.{◌≡◌, ℕ, suc, ◌+◌, ◌*◌, ◌^◌, ◌<◌, ◌≤◌, Bool, true, false, cond, eqb, leb, List, [], ◌∷◌, length, take, drop, arith, length-take, Ok, Err}
 use Rattle.hash_parts.specs.Hash.{first_bucket}
 use Rattle.hash_parts.proofs.Products.{first_bucket_below}
-use Rattle.index.specs.Build.{vacant, same, passed, looks, searched, searched_all, slot_for}
+use Rattle.hash_parts.specs.declared.error.SegmentCacheBuildError.TheVariants.{CapacityOverflow}
+use Rattle.index.specs.Build.{vacant, same, passed, looks, searched, searched_all, slot_for, SlotAnswer}
 use Rattle.index.specs.Walk.{bucket_walk}
 use Rattle.index.proofs.Flat.{Below, no_more, one_more, walk_below}
 

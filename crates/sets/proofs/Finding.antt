@@ -1,17 +1,17 @@
 -- The find of a finished set, and what the calls make of it. Assumes nothing.
-use Rattle.std.proofs.Common.{◌≡◌, ℕ, ◌+◌, ◌*◌, ◌^◌, ◌<◌, ◌≤◌, Bool, true, List, Option, length, mul-le-mul_left, arith}
+use Rattle.std.proofs.Common.{◌≡◌, ℕ, ◌+◌, ◌*◌, ◌^◌, ◌<◌, ◌≤◌, Bool, true, List, Option, length, mul-le-mul_left, arith, Some}
 use Rattle.hash_parts.specs.declared.setting.SegmentCacheConfig.{SegmentCacheConfig}
 use Rattle.records.specs.declared.record.Span.{Span}
 use Rattle.index.specs.declared.find.FoundRecord.{FoundRecord}
 use Rattle.index.proofs.Buckets.{buckets_few}
 use Rattle.index.proofs.FoundSlots.{find_slot}
 use Rattle.sets.specs.Answers.{Reply}
-use Rattle.sets.specs.Lookup.{Got, Taken, areas_hold_lookup, areas_hold_set, find_of, view_of}
+use Rattle.sets.specs.Lookup.{Got, Taken, areas_hold_lookup, areas_hold_set, find_of, set_fits, view_of}
 use Rattle.sets.specs.Questions.{counts_fit}
 use Rattle.sets.specs.Stats.{stats_of}
 use Rattle.sets.specs.declared.cache.FrozenSegmentCache.{FrozenSegmentCache}
 use Rattle.sets.specs.declared.stats.SegmentCacheStats.{SegmentCacheStats}
-use Rattle.sets.proofs.Counts.{both, counts_buckets, counts_records, counts_setting, counts_words, set_index, setting_occupied}
+use Rattle.sets.proofs.Counts.{both, counts_buckets, counts_records, counts_setting, counts_words, set_counts, set_index, setting_occupied}
 
 -- buckets and filter words are few
 module _ (c : SegmentCacheConfig) (records buckets words : ℕ) (fits : counts_fit c records buckets words ≡ true) where
@@ -24,6 +24,12 @@ module _ (c : SegmentCacheConfig) (records buckets words : ℕ) (fits : counts_f
   few_words small =
       let p : records * c.negative_filter_bits_per_entry ≤ records * 255 = mul-le-mul_left records (omega arith) in
       omega (arith, p, counts_words c records buckets words fits, counts_records c records buckets words fits)
+
+-- those of a set
+pub set_few : (s : FrozenSegmentCache) → set_fits s ≡ true → s.config.negative_filter_bits_per_entry < 256 → (s.buckets ≤ 1048582) × (s.filter_words ≤ 4194304)
+set_few s fits small =
+    let counts = set_counts s fits in
+    (few_buckets _ _ _ _ counts, few_words _ _ _ _ counts small)
 
 -- ---- the slot of a record that was found
 

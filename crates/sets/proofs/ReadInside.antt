@@ -1,5 +1,5 @@
 -- What is read in a set or a rebuild lies in the filled bytes and ends in its segment; and what a reused push was shown. Assumes nothing.
-use Rattle.std.proofs.Common.{◌≡◌, ℕ, zero, suc, ◌+◌, ◌-◌, ◌/◌, ◌%◌, ◌^◌, ◌<◌, ◌≤◌, Bool, true, false, cond, eqb, ltb, leb, List, [], length, get_or, take, refl, ap, arith, length-take, ltb-true, eqb-true}
+use Rattle.std.proofs.Common.{◌≡◌, ℕ, zero, suc, ◌+◌, ◌-◌, ◌/◌, ◌%◌, ◌^◌, ◌<◌, ◌≤◌, Bool, true, false, cond, eqb, ltb, leb, List, [], length, get_or, take, refl, ap, arith, length-take, ltb-true, eqb-true, Option, Some, None}
 use Rattle.records.specs.Area.{part, same_bytes, spanned}
 use Rattle.records.specs.declared.record.RecordRef.{RecordRef}
 use Rattle.records.specs.declared.record.Span.{Span}

@@ -1,5 +1,5 @@
 -- The ways in which the rebuild calls end, with what their questions tell where one is accepted. Assumes nothing.
-use Rattle.std.proofs.Common.{◌≡◌, ℕ, zero, suc, ◌*◌, List, length, refl}
+use Rattle.std.proofs.Common.{◌≡◌, ℕ, zero, suc, ◌*◌, List, length, refl, Option}
 use Rattle.hash_parts.specs.declared.duration.Duration.{Duration}
 use Rattle.records.specs.Area.{over}
 use Rattle.index.specs.Build.{cleared, empty_slot}

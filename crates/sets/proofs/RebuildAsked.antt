@@ -1,5 +1,5 @@
 -- What the questions of the rebuild calls tell where all are answered yes. Assumes nothing.
-use Rattle.std.proofs.Common.{◌≡◌, ℕ, zero, suc, ◌+◌, ◌*◌, ◌/◌, ◌^◌, ◌<◌, ◌≤◌, true, eqb, ltb, leb, List, length, get_or, refl, subst, arith, ltb-true, eq-eqb, eqb-true, le-leb, leb-true}
+use Rattle.std.proofs.Common.{◌≡◌, ℕ, zero, suc, ◌+◌, ◌*◌, ◌/◌, ◌^◌, ◌<◌, ◌≤◌, true, eqb, ltb, leb, List, length, get_or, refl, subst, arith, ltb-true, eq-eqb, eqb-true, le-leb, leb-true, Option, Ok}
 use native.Mathlib.Decide.{dec_lt}
 use Rattle.hash_parts.specs.declared.duration.Duration.{Duration}
 use Rattle.records.specs.declared.record.RecordRef.{RecordRef}

@@ -1,5 +1,5 @@
 -- What finish leaves: where a question before the split is answered no, and after the split. Assumes nothing.
-use Rattle.std.proofs.Common.{◌≡◌, ℕ, Bool, true, false, cond, leb, List, length, take, sym, ap, ◌∙◌, arith, ne_eqb, le-leb}
+use Rattle.std.proofs.Common.{◌≡◌, ℕ, Bool, true, false, cond, leb, List, length, take, sym, ap, ◌∙◌, arith, ne_eqb, le-leb, Ok, Err}
 use Rattle.hash_parts.specs.Error.{error_number}
 use Rattle.hash_parts.specs.Outcome.{accepted, refused}
 use Rattle.hash_parts.specs.declared.error.SegmentCacheBuildError.{SegmentCacheBuildError}

@@ -1,5 +1,5 @@
 -- The step of the walk, slot by slot. Assumes nothing.
-use Rattle.std.proofs.Common.{◌≡◌, ℕ, suc, ◌+◌, ◌-◌, ◌<◌, ◌≤◌, arith}
+use Rattle.std.proofs.Common.{◌≡◌, ℕ, suc, ◌+◌, ◌-◌, ◌<◌, ◌≤◌, arith, Option, Some, None}
 use Rattle.records.specs.declared.record.RecordRef.{RecordRef}
 use Rattle.sets.specs.Lookup.{first_entry}
 

@@ -1,6 +1,6 @@
 -- Building a set: open, push, finish. Each call by the questions that it asks, in their order, and by what it leaves.
 -- Assumes nothing.
-use Rattle.std.specs.Prelude.{ℕ, ◌+◌, ◌-◌, ◌*◌, Bool, Result, cond, List, [], ◌∷◌, length, take, ◌==◌, nat_le, nat_lt, slice_set}
+use Rattle.std.specs.Prelude.{ℕ, ◌+◌, ◌-◌, ◌*◌, Bool, Result, cond, List, [], ◌∷◌, length, take, ◌==◌, nat_le, nat_lt, slice_set, Option}
 use Rattle.hash_parts.specs.Duration.{encoded_expiry}
 use Rattle.hash_parts.specs.Hash.{tag_of}
 use Rattle.hash_parts.specs.Outcome.{Outcome}

@@ -1,5 +1,5 @@
 -- What the plan of a push comes to: the slot and the deadline of the new record, or the first refusal. For private functions alone. Assumes nothing.
-use Rattle.std.specs.Prelude.{ℕ, Bool, Result, Ok, Err, List, [], ◌∷◌, ◌==◌, nat_le}
+use Rattle.std.specs.Prelude.{ℕ, Bool, Result, Ok, Err, List, [], ◌∷◌, ◌==◌, nat_le, Option}
 use Rattle.hash_parts.specs.Error.{error_number}
 use Rattle.hash_parts.specs.declared.duration.Duration.{Duration}
 use Rattle.hash_parts.specs.declared.error.SegmentCacheBuildError.{SegmentCacheBuildError}

@@ -1,6 +1,6 @@
 -- The questions each call asks: what is asked of a setting, of a state's numbers and of the lengths of the areas lent with it.
 -- Assumes nothing.
-use Rattle.std.specs.Prelude.{ℕ, zero, suc, ◌*◌, ◌^◌, Bool, true, false, Result, Ok, Err, cond, not, List, [], ◌∷◌, ◌==◌, nat_le, nat_lt}
+use Rattle.std.specs.Prelude.{ℕ, zero, suc, ◌*◌, ◌^◌, Bool, true, false, Result, Ok, Err, cond, not, List, [], ◌∷◌, ◌==◌, nat_le, nat_lt, Option, Some, None}
 use Rattle.hash_parts.specs.Duration.{ceil_div, nanos_of}
 use Rattle.hash_parts.specs.Error.{error_number}
 use Rattle.hash_parts.specs.declared.duration.Duration.{Duration}

@@ -2,7 +2,7 @@
 -- leaves. Rebuilt set: "Keeps chosen segments unmoved, appends copied records as one last segment after the filled arena (the rebuilt set's filled bytes are
 -- the source's plus the copied, whatever was dropped)".
 -- Assumes nothing.
-use Rattle.std.specs.Prelude.{ℕ, zero, suc, ◌+◌, ◌-◌, ◌*◌, ◌%◌, ◌^◌, Bool, true, false, Result, cond, List, [], ◌∷◌, length, ◌==◌, nat_le, nat_lt, slice_index, slice_set}
+use Rattle.std.specs.Prelude.{ℕ, zero, suc, ◌+◌, ◌-◌, ◌*◌, ◌%◌, ◌^◌, Bool, true, false, Result, cond, List, [], ◌∷◌, length, ◌==◌, nat_le, nat_lt, slice_index, slice_set, Option, Some, None}
 use Rattle.hash_parts.specs.Duration.{encoded_expiry}
 use Rattle.hash_parts.specs.Hash.{tag_of}
 use Rattle.hash_parts.specs.Outcome.{Outcome}

@@ -1,5 +1,5 @@
 -- What the plans of a rebuild's pushes come to: the slot of a new record, and the deadline of a copied one, or the first refusal. For private functions alone. Assumes nothing.
-use Rattle.std.specs.Prelude.{ℕ, ◌+◌, Bool, Result, List, [], ◌∷◌, ◌==◌, nat_le, nat_lt}
+use Rattle.std.specs.Prelude.{ℕ, ◌+◌, Bool, Result, List, [], ◌∷◌, ◌==◌, nat_le, nat_lt, Option}
 use Rattle.hash_parts.specs.declared.duration.Duration.{Duration}
 use Rattle.hash_parts.specs.declared.error.SegmentCacheBuildError.{SegmentCacheBuildError}
 use Rattle.index.specs.Build.{empty_slot}

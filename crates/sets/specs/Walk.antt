@@ -1,5 +1,5 @@
 -- The walk as one list: what its steps visit, slots ascending. What is told of a whole set goes by it. Assumes nothing.
-use Rattle.std.specs.Prelude.{ℕ, zero, suc, ◌*◌, Bool, List, [], ◌∷◌}
+use Rattle.std.specs.Prelude.{ℕ, zero, suc, ◌*◌, Bool, List, [], ◌∷◌, Option, Some, None}
 use Rattle.records.specs.declared.record.RecordRef.{RecordRef}
 use Rattle.index.specs.View.{record_in}
 use Rattle.index.specs.declared.find.FoundRecord.{FoundRecord}

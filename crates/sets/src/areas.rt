@@ -33,6 +33,7 @@ pub fn area_words(
     Ok(words_needed(config, entry_count))
 }
 
+#[tactic(auto, using(index::proofs::Buckets::buckets_few))]
 fn words_needed(config: SegmentCacheConfig, entry_count: usize) -> AreaWords
     requires { (entry_count ≤ most_records) × (config.target_occupied_slots ≤ 7) }
     ensures { result ≡ words_needed config entry_count }

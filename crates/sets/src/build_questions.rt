@@ -15,6 +15,7 @@ use hash_parts::error::SegmentCacheBuildError;
 use index::build::find_build_slot;
 use index::segments::locations_inside;
 use index::word::BUCKET_SLOTS;
+use records::record::Records;
 
 impl SegmentCacheBuilder {
     // Question 1: the state's own numbers.
@@ -73,9 +74,11 @@ impl SegmentCacheBuilder {
         if self.inserted_entries >= self.expected_entries {
             return Err(SegmentCacheBuildError::CapacityOverflow);
         }
-        let filled = &arena[..self.filled];
-        let expiry = self.config.expiry;
-        let slot = find_build_slot(index, self.bucket_count, filled, expiry, key, hash)?;
+        let records = Records {
+            bytes: &arena[..self.filled],
+            expiry: self.config.expiry,
+        };
+        let slot = find_build_slot(index, self.bucket_count, records, key, hash)?;
         self.plan_record(slot, key.len(), value_bytes, ttl, arena.len())
     }
 

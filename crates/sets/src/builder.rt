@@ -20,7 +20,7 @@ use index::view::SegmentAreas;
 use index::word::{BUCKET_SLOTS, encode_index_word};
 use records::record::append_record;
 
-#[derive(Clone, Copy)]
+#[derive(Clone, Copy, Debug, PartialEq, Eq)]
 pub struct SegmentCacheBuilder {
     pub config: SegmentCacheConfig,
     pub expected_entries: usize,
@@ -41,7 +41,7 @@ pub struct PushedRecord {
 }
 
 // Where a push will put its record, and with which deadline.
-#[derive(Clone, Copy)]
+#[derive(Clone, Copy, Debug, PartialEq, Eq)]
 pub(crate) struct PushPlan {
     pub slot: usize,
     pub expires_at: u16,
@@ -135,7 +135,12 @@ impl SegmentCacheBuilder {
         filter: &mut [u64],
         arena: &mut [u8],
     ) -> PushedRecord
-        requires { (push_end self.old (length key.now) (length value.now) ≤ length arena.old) × (length arena.old ≤ most_arena_bytes) × (plan.slot < length index.old) × (self.old.inserted_entries < self.old.expected_entries) × (self.old.logical_key_bytes ≤ 2 ^ 50) × (self.old.logical_value_bytes ≤ 2 ^ 50) }
+        requires room { push_end self.old (length key.now) (length value.now) ≤ length arena.old }
+        requires short { length arena.old ≤ most_arena_bytes }
+        requires slot { plan.slot < length index.old }
+        requires announced { self.old.inserted_entries < self.old.expected_entries }
+        requires key_bytes { self.old.logical_key_bytes ≤ 2 ^ 50 }
+        requires value_bytes { self.old.logical_value_bytes ≤ 2 ^ 50 }
         ensures { push_result (Ok result) self.new index.new filter.new arena.new ≡ push_made plan.slot plan.expires_at self.old hash key.now value.now index.old filter.old arena.old }
     {
         let PushPlan { slot, expires_at } = plan;
@@ -150,7 +155,11 @@ impl SegmentCacheBuilder {
 
     // Counts one record more.
     fn grow(&mut self, size: usize, key_bytes: usize, value_bytes: usize)
-        requires { (self.old.inserted_entries < self.old.expected_entries) × (self.old.filled + size ≤ most_arena_bytes) × (self.old.logical_key_bytes ≤ 2 ^ 50) × (self.old.logical_value_bytes ≤ 2 ^ 50) × (key_bytes + value_bytes ≤ size) }
+        requires announced { self.old.inserted_entries < self.old.expected_entries }
+        requires short { self.old.filled + size ≤ most_arena_bytes }
+        requires key_bytes { self.old.logical_key_bytes ≤ 2 ^ 50 }
+        requires value_bytes { self.old.logical_value_bytes ≤ 2 ^ 50 }
+        requires holds { key_bytes + value_bytes ≤ size }
         ensures { self.new ≡ builder_grown self.old size key_bytes value_bytes }
     {
         self.inserted_entries += 1;

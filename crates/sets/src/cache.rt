@@ -18,7 +18,7 @@ use index::view::{SegmentAreas, SegmentView};
 use index::word::BUCKET_SLOTS;
 use records::record::Span;
 
-#[derive(Clone, Copy)]
+#[derive(Clone, Copy, Debug, PartialEq, Eq)]
 pub struct FrozenSegmentCache {
     pub config: SegmentCacheConfig,
     pub entries: usize,
@@ -36,7 +36,7 @@ pub struct FrozenSegmentCache {
 
 // A record as probe and walk tell it. Key and value are parts of the arena; location and end are
 // segment × 2^32 + offset.
-#[derive(Clone, Copy)]
+#[derive(Clone, Copy, Debug, PartialEq, Eq)]
 pub struct SegmentBaseRecord {
     pub slot: usize,
     pub location: usize,
@@ -155,7 +155,7 @@ impl FrozenSegmentCache {
         Ok(found.map(|found| base_record(self.config, found, now_tick)))
     }
 
-    #[tactic(auto, using(crate::proofs::Finding::few_buckets, crate::proofs::Finding::few_words, crate::proofs::Finding::stats_made, crate::proofs::Counts::set_counts), unfolding(crate::specs::Lookup::stats_answer, crate::specs::Lookup::ask_stats))]
+    #[tactic(auto, using(crate::proofs::Finding::set_few, crate::proofs::Finding::stats_made), unfolding(crate::specs::Lookup::stats_answer, crate::specs::Lookup::ask_stats))]
     pub fn stats(self) -> Result<SegmentCacheStats, SegmentCacheBuildError>
         ensures { stats_reply result ≡ stats_answer self }
     {

@@ -47,6 +47,7 @@ impl KeptSegments {
     }
 
     // Whether a segment is kept.
+    #[tactic(auto, using(crate::proofs::KeptWords::is_kept_bit))]
     pub(crate) fn is_kept(self, segment: usize) -> bool
         ensures { result ≡ is_kept self segment }
     {
@@ -66,6 +67,7 @@ impl KeptSegments {
     }
 
     // How many segments are kept.
+    #[tactic(auto, using(crate::proofs::KeptWords::retained_words))]
     pub(crate) fn retained(self) -> usize
         ensures { result ≡ retained self }
     {
@@ -73,6 +75,7 @@ impl KeptSegments {
     }
 
     // The number of a kept segment in the rebuilt set.
+    #[tactic(auto, using(crate::proofs::KeptWords::new_number_sum, crate::proofs::KeptWords::new_number_256))]
     pub(crate) fn new_number(self, segment: usize) -> usize
         requires { segment < most_segments }
         ensures { result ≡ new_number self segment }
@@ -83,6 +86,7 @@ impl KeptSegments {
 }
 
 // Whether a bit of a word is set.
+#[tactic(auto, using(crate::proofs::KeptWords::bit_at))]
 fn bit_set(word: u64, at: usize) -> bool
     requires { at ≤ 63 }
     ensures { result ≡ slice_index_or (bits_of 64 word) at false }

@@ -47,7 +47,7 @@ pub(crate) fn lifetime_fits(ttl: Option<Duration>) -> bool
 pub(crate) fn occupancy_fits(occupied: u8) -> bool
     ensures { result ≡ occupancy_fits occupied }
 {
-    1 <= occupied && occupied <= 7
+    (1..=7).contains(&occupied)
 }
 
 #[tactic(auto, unfolding(crate::specs::Questions::tick_runs))]
@@ -118,7 +118,7 @@ pub(crate) fn segment_areas_hold(starts_len: usize, lengths_len: usize) -> bool
 pub(crate) fn target_fits(target: usize) -> bool
     ensures { result ≡ target_fits target }
 {
-    1 <= target && target <= MAX_SEGMENT_TARGET
+    (1..=MAX_SEGMENT_TARGET).contains(&target)
 }
 
 // The word layout needs no scratch.
@@ -201,5 +201,8 @@ pub(crate) fn record_fits(
 ) -> bool
     ensures { result ≡ nat_le (record_size expiry key_bytes value_bytes) rest }
 {
-    encoded_record_bytes(expiry, key_bytes, value_bytes).is_ok_and(|size| size <= rest)
+    match encoded_record_bytes(expiry, key_bytes, value_bytes) {
+        Ok(size) => size <= rest,
+        Err(_) => false,
+    }
 }

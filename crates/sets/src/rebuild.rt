@@ -33,7 +33,7 @@ pub struct SegmentRecordLocation {
     pub header_bytes: usize,
 }
 
-#[derive(Clone, Copy)]
+#[derive(Clone, Copy, Debug, PartialEq, Eq)]
 pub struct SharedSegmentCacheBuilder {
     pub config: SegmentCacheConfig,
     pub expected_entries: usize,
@@ -54,7 +54,7 @@ pub struct SharedSegmentCacheBuilder {
 }
 
 // The rebuilt set, and what it took.
-#[derive(Clone, Copy)]
+#[derive(Clone, Copy, Debug, PartialEq, Eq)]
 pub struct SharedSegmentCacheBuild {
     pub cache: FrozenSegmentCache,
     pub reused_entries: usize,
@@ -186,7 +186,12 @@ impl SharedSegmentCacheBuilder {
         index: &mut [u64],
         filter: &mut [u64],
     ) -> PushedRecord
-        requires { (is_kept self.old.kept (segment_part source.location) ≡ true) × (slot < length index.old) × (self.old.inserted_entries < self.old.expected_entries) × (self.old.logical_key_bytes + key_bytes < 2 ^ 64) × (self.old.logical_value_bytes + value_bytes < 2 ^ 64) × (self.old.record_header_bytes + source.header_bytes < 2 ^ 64) }
+        requires kept { is_kept self.old.kept (segment_part source.location) ≡ true }
+        requires slot { slot < length index.old }
+        requires announced { self.old.inserted_entries < self.old.expected_entries }
+        requires key_bytes { self.old.logical_key_bytes + key_bytes < 2 ^ 64 }
+        requires value_bytes { self.old.logical_value_bytes + value_bytes < 2 ^ 64 }
+        requires header_bytes { self.old.record_header_bytes + source.header_bytes < 2 ^ 64 }
         ensures { reused_result (Ok result) self.new index.new filter.new ≡ reused_made slot self.old hash key_bytes value_bytes source index.old filter.old }
     {
         let location = self.moved_location(source.location);
@@ -207,7 +212,14 @@ impl SharedSegmentCacheBuilder {
         filter: &mut [u64],
         arena: &mut [u8],
     ) -> PushedRecord
-        requires { (rebuild_filled self.old + copied_size self.old (length key.now) (length value.now) ≤ length arena.old) × (length arena.old ≤ most_arena_bytes) × (retained self.old.kept < most_segments) × (plan.slot < length index.old) × (self.old.inserted_entries < self.old.expected_entries) × (self.old.logical_key_bytes ≤ 2 ^ 50) × (self.old.logical_value_bytes ≤ 2 ^ 50) × (self.old.record_header_bytes ≤ 2 ^ 50) }
+        requires room { rebuild_filled self.old + copied_size self.old (length key.now) (length value.now) ≤ length arena.old }
+        requires short { length arena.old ≤ most_arena_bytes }
+        requires segment { retained self.old.kept < most_segments }
+        requires slot { plan.slot < length index.old }
+        requires announced { self.old.inserted_entries < self.old.expected_entries }
+        requires key_bytes { self.old.logical_key_bytes ≤ 2 ^ 50 }
+        requires value_bytes { self.old.logical_value_bytes ≤ 2 ^ 50 }
+        requires header_bytes { self.old.record_header_bytes ≤ 2 ^ 50 }
         ensures { copied_result (Ok result) self.new index.new filter.new arena.new ≡ copied_made plan.slot plan.expires_at self.old hash key.now value.now index.old filter.old arena.old }
     {
         let PushPlan { slot, expires_at } = plan;
@@ -237,7 +249,10 @@ impl SharedSegmentCacheBuilder {
 
     // Counts one reused record more. The totals of reused records are free numbers: they wrap at 64 bits.
     fn count_reused(&mut self, header_bytes: usize, key_bytes: usize, value_bytes: usize)
-        requires { (self.old.inserted_entries < self.old.expected_entries) × (self.old.logical_key_bytes + key_bytes < 2 ^ 64) × (self.old.logical_value_bytes + value_bytes < 2 ^ 64) × (self.old.record_header_bytes + header_bytes < 2 ^ 64) }
+        requires announced { self.old.inserted_entries < self.old.expected_entries }
+        requires key_bytes { self.old.logical_key_bytes + key_bytes < 2 ^ 64 }
+        requires value_bytes { self.old.logical_value_bytes + value_bytes < 2 ^ 64 }
+        requires header_bytes { self.old.record_header_bytes + header_bytes < 2 ^ 64 }
         ensures { self.new ≡ reused_grown self.old header_bytes key_bytes value_bytes }
     {
         self.inserted_entries += 1;
@@ -253,7 +268,12 @@ impl SharedSegmentCacheBuilder {
 
     // Counts one copied record more.
     fn count_copied(&mut self, size: usize, key_bytes: usize, value_bytes: usize)
-        requires { (self.old.inserted_entries < self.old.expected_entries) × (self.old.copied_bytes + size ≤ most_arena_bytes) × (key_bytes + value_bytes ≤ size) × (self.old.logical_key_bytes ≤ 2 ^ 50) × (self.old.logical_value_bytes ≤ 2 ^ 50) × (self.old.record_header_bytes ≤ 2 ^ 50) }
+        requires announced { self.old.inserted_entries < self.old.expected_entries }
+        requires short { self.old.copied_bytes + size ≤ most_arena_bytes }
+        requires holds { key_bytes + value_bytes ≤ size }
+        requires key_bytes { self.old.logical_key_bytes ≤ 2 ^ 50 }
+        requires value_bytes { self.old.logical_value_bytes ≤ 2 ^ 50 }
+        requires header_bytes { self.old.record_header_bytes ≤ 2 ^ 50 }
         ensures { self.new ≡ copied_grown self.old size key_bytes value_bytes }
     {
         self.inserted_entries += 1;
@@ -293,6 +313,7 @@ fn opened_rebuild(
 }
 
 // The kept words of a source's segment area in a new one, and 0 in the rest of its 256.
+#[tactic(auto, using(crate::proofs::RebuildSteps::kept_most, crate::proofs::KeptBits::chosen_length, crate::proofs::RebuildSteps::over_cleared))]
 fn keep_words(flags: &[u8], words: &[u64], area: &mut [u64])
     requires { (length flags.now ≤ length words.now) × (length flags.now ≤ most_segments) × (most_segments ≤ length area.old) }
     ensures { area.new ≡ over (padded (chosen flags.now words.now)) area.old }

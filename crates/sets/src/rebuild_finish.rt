@@ -44,8 +44,11 @@ impl SharedSegmentCacheBuilder {
     }
 
     // The start and the length of the segment of the copied records, where there is one.
+    #[tactic(auto, using(crate::proofs::RebuildSteps::adds_below))]
     pub(crate) fn add_segment(self, starts: &mut [u64], lengths: &mut [u64])
-        requires { (most_segments ≤ length starts.old) × (most_segments ≤ length lengths.old) × (retained self.kept + (if adds_segment self then 1 else 0) ≤ most_segments) }
+        requires starts { most_segments ≤ length starts.old }
+        requires lengths { most_segments ≤ length lengths.old }
+        requires few { retained self.kept + (if adds_segment self then 1 else 0) ≤ most_segments }
         ensures { (starts.new ≡ with_last self starts.old self.source_filled) × (lengths.new ≡ with_last self lengths.old self.copied_bytes) }
     {
         if self.adds_segment() {
@@ -56,8 +59,12 @@ impl SharedSegmentCacheBuilder {
     }
 
     // The finished set, and what it took.
+    #[tactic(auto, using(crate::proofs::Finding::few_buckets, crate::proofs::Finding::few_words))]
     pub(crate) fn into_build(self, lengths: &[u64]) -> SharedSegmentCacheBuild
-        requires { (retained self.kept ≤ length lengths.now) × (sum_of (retained self.kept) lengths.now ≤ 2 ^ 38) × (rebuild_filled self ≤ most_arena_bytes) × (counts_fit self.config self.expected_entries self.bucket_count self.filter_words ≡ true) }
+        requires lengths { retained self.kept ≤ length lengths.now }
+        requires sum { sum_of (retained self.kept) lengths.now ≤ 2 ^ 38 }
+        requires short { rebuild_filled self ≤ most_arena_bytes }
+        requires counts { counts_fit self.config self.expected_entries self.bucket_count self.filter_words ≡ true }
         ensures { result ≡ build_of self lengths.now }
     {
         let index_bytes = self.bucket_count * 64 + self.filter_words * 8;
@@ -71,7 +78,9 @@ impl SharedSegmentCacheBuilder {
     }
 
     fn into_cache(self, lengths: &[u64]) -> FrozenSegmentCache
-        requires { (retained self.kept ≤ length lengths.now) × (sum_of (retained self.kept) lengths.now ≤ 2 ^ 38) × (rebuild_filled self ≤ most_arena_bytes) }
+        requires lengths { retained self.kept ≤ length lengths.now }
+        requires sum { sum_of (retained self.kept) lengths.now ≤ 2 ^ 38 }
+        requires short { rebuild_filled self ≤ most_arena_bytes }
         ensures { result ≡ rebuilt_set self lengths.now }
     {
         FrozenSegmentCache {
@@ -104,7 +113,8 @@ impl SharedSegmentCacheBuilder {
 
 // The sum of the first words of an area.
 fn sum_of(words: &[u64], count: usize) -> usize
-    requires { (count ≤ length words.now) × (sum_of count words.now < 2 ^ 64) }
+    requires inside { count ≤ length words.now }
+    requires fits { sum_of count words.now < 2 ^ 64 }
     ensures { result ≡ sum_of count words.now }
 {
     let mut sum = 0;

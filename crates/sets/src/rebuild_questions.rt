@@ -136,6 +136,7 @@ impl SharedSegmentCacheBuilder {
     }
 
     // A location of the source, with its segment numbered anew.
+    #[tactic(auto, using(crate::proofs::KeptBits::kept_below, crate::proofs::KeptBits::number_below, crate::proofs::KeptBits::retained_256))]
     pub(crate) fn moved_location(self, location: usize) -> usize
         requires { is_kept self.kept (segment_part location) ≡ true }
         ensures { result ≡ moved_location self location }

@@ -46,9 +46,6 @@ impl SegmentCacheStats {
             return 0;
         }
         let basis_points = self.entries.saturating_mul(10_000) / self.index_slots;
-        if basis_points > 65_535 {
-            return 10_000;
-        }
-        basis_points as u16
+        u16::try_from(basis_points).unwrap_or(10_000)
     }
 }

@@ -1,7 +1,7 @@
 -- `copy_kept` meets its contract: what is written and what is left to choose are the chosen words. Assumes nothing.
-use Rattle.std.proofs.Common.{◌≡◌, ℕ, ◌+◌, ◌<◌, List, [], ◌∷◌, length, get_or, drop, sym, subst, ap, ◌∙◌, arith, rules, length-append}
+use Rattle.std.proofs.Common.{◌≡◌, ℕ, ◌+◌, ◌<◌, List, [], ◌∷◌, length, get_or, drop, sym, ◌∙◌, arith, rules, length-append}
 use Rattle.std.proofs.lemmas.Slice.Zip.{zip_end, zip_turn}
-use Rattle.records.proofs.Area.{Writing, begin, fits, next_byte, complete}
+use Rattle.records.proofs.Area.{begin, fits, next_byte, complete}
 use Rattle.sets.specs.Kept.{chosen}
 use Rattle.sets.proofs.KeptBits.{chosen_length}
 use Rattle.sets.proofs.KeptWords.{chosen_dropped, chosen_end, chosen_kept}

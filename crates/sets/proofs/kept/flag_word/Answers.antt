@@ -1,6 +1,6 @@
 -- `flag_word` meets its contract: the word of the flags from a position on. Assumes nothing.
 use Rattle.std.proofs.Common.{◌+◌, ◌-◌, arith}
-use Rattle.sets.proofs.KeptWords.{flag_bound, word_bound, word_more, word_none, word_whole}
+use Rattle.sets.proofs.KeptWords.{flag_bound, word_bound, word_more, word_none}
 use Rattle.sets.proofs.kept.flag_word.Goals as goal
 
 pub loop-at-init : goal.loop-at-init

@@ -1,5 +1,5 @@
 -- `push` meets its contract. Assumes nothing.
-use Rattle.std.proofs.Common.{ℕ, ◌≤◌, sym, ap, ◌∙◌, arith}
+use Rattle.std.proofs.Common.{ℕ, ◌≤◌, sym, ap, ◌∙◌, arith, Ok}
 use Rattle.sets.specs.BuildPlans.{planned, plan_push}
 use Rattle.sets.proofs.Counts.{counts_records}
 use Rattle.sets.proofs.Asked.{push_asked}
@@ -16,4 +16,11 @@ push_at-requires c =
     let n = q.areas.numbers in
     let few = counts_records _ _ _ _ n.counts in
     let at = found_inside _ _ _ _ _ c.ranges.hash.fits q.areas.index_holds (q.place ∙ ap Ok p.1) in
-    (q.fits, q.areas.arena_short, at, q.announced, omega (arith, few, n.announced, n.key_bytes), omega (arith, few, n.announced, n.value_bytes))
+    record {
+      room = q.fits;
+      short = q.areas.arena_short;
+      slot = at;
+      announced = q.announced;
+      key_bytes = omega (arith, few, n.announced, n.key_bytes);
+      value_bytes = omega (arith, few, n.announced, n.value_bytes);
+    }

@@ -10,6 +10,12 @@ grow-requires c =
     let pre = c.requires in
     let e = b.config.expiry in
     let written = c.append_record-size.ensures in
-    let wrote = appended e a.key.now a.value.now a.plan.expires_at b.filled a.arena.now pre.0 _ _ written.0 written.1 in
+    let wrote = appended e a.key.now a.value.now a.plan.expires_at b.filled a.arena.now pre.room _ _ written.0 written.1 in
     let holds = size_holds e (length a.key.now) (length a.value.now) in
-    (pre.3, omega (arith, wrote.0, pre.0, pre.1), pre.4, pre.5, omega (arith, wrote.0, holds))
+    record {
+      announced = pre.announced;
+      short = omega (arith, wrote.0, pre.room, pre.short);
+      key_bytes = pre.key_bytes;
+      value_bytes = pre.value_bytes;
+      holds = omega (arith, wrote.0, holds);
+    }

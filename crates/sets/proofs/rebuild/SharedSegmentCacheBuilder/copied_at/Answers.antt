@@ -11,6 +11,13 @@ count_copied-requires c =
     let pre = c.requires in
     let e = r.config.expiry in
     let written = c.append_record-size.ensures in
-    let wrote = appended e a.key.now a.value.now a.plan.expires_at (rebuild_filled r) a.arena.now pre.0 _ _ written.0 written.1 in
+    let wrote = appended e a.key.now a.value.now a.plan.expires_at (rebuild_filled r) a.arena.now pre.room _ _ written.0 written.1 in
     let holds = size_holds e (length a.key.now) (length a.value.now) in
-    (pre.4, omega (arith, wrote.0, pre.0, pre.1), omega (arith, wrote.0, holds), pre.5, pre.6, pre.7)
+    record {
+      announced = pre.announced;
+      short = omega (arith, wrote.0, pre.room, pre.short);
+      holds = omega (arith, wrote.0, holds);
+      key_bytes = pre.key_bytes;
+      value_bytes = pre.value_bytes;
+      header_bytes = pre.header_bytes;
+    }

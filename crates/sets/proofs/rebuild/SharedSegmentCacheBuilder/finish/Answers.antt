@@ -15,4 +15,9 @@ into_build-build-requires c =
     let few = retained_256 a.self.kept in
     let short : rebuild_filled a.self ≤ 2 ^ 30 = omega (arith, q.filled_held, q.arena_short) in
     let sum = sum_inside (rebuild_filled a.self) a.starts.now a.lengths.now (retained a.self.kept) short q.inside in
-    (omega (arith, few, q.lengths_hold), omega (arith, few, sum), short, q.numbers.counts)
+    record {
+      lengths = omega (arith, few, q.lengths_hold);
+      sum = omega (arith, few, sum);
+      short = short;
+      counts = q.numbers.counts;
+    }

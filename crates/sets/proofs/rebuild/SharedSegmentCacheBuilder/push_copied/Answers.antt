@@ -1,5 +1,5 @@
 -- `push_copied` meets its contract. Assumes nothing.
-use Rattle.std.proofs.Common.{◌≤◌, sym, ap, ◌∙◌, arith}
+use Rattle.std.proofs.Common.{◌≤◌, sym, ap, ◌∙◌, arith, Ok}
 use Rattle.sets.specs.BuildPlans.{planned}
 use Rattle.sets.specs.RebuildPlans.{plan_copied}
 use Rattle.sets.proofs.Counts.{counts_records}
@@ -16,13 +16,14 @@ copied_at-requires c =
     let q = copied_asked _ _ _ _ _ _ _ _ _ _ p.0 in
     let n = q.areas.numbers in
     let few = counts_records _ _ _ _ n.counts in
-    let at = found_inside _ _ _ _ _ c.ranges.hash.fits q.areas.index_holds (q.place ∙ ap Ok p.1) in (
-      q.fits,
-      q.areas.arena_short,
-      q.room,
-      at,
-      q.announced,
-      omega (arith, few, n.announced, n.key_bytes),
-      omega (arith, few, n.announced, n.value_bytes),
-      omega (arith, few, n.announced, n.header_length),
-    )
+    let at = found_inside _ _ _ _ _ c.ranges.hash.fits q.areas.index_holds (q.place ∙ ap Ok p.1) in
+    record {
+      room = q.fits;
+      short = q.areas.arena_short;
+      segment = q.room;
+      slot = at;
+      announced = q.announced;
+      key_bytes = omega (arith, few, n.announced, n.key_bytes);
+      value_bytes = omega (arith, few, n.announced, n.value_bytes);
+      header_bytes = omega (arith, few, n.announced, n.header_length);
+    }

@@ -1,5 +1,5 @@
 -- `push_reused` meets its contract. Assumes nothing.
-use Rattle.std.proofs.Common.{◌+◌, ◌≤◌, sym, ap, ◌∙◌, arith}
+use Rattle.std.proofs.Common.{◌+◌, ◌≤◌, sym, ap, ◌∙◌, arith, Ok}
 use Rattle.sets.specs.Rebuild.{kept_view, moved_location}
 use Rattle.sets.specs.RebuildPlans.{plan_reused, slot_planned}
 use Rattle.sets.proofs.Counts.{counts_records}
@@ -20,11 +20,12 @@ reused_at-requires c =
     let few = counts_records _ _ _ _ n.counts in
     let at = found_inside _ _ _ _ _ c.ranges.hash.fits q.areas.index_holds (q.place ∙ ap Ok p.1) in
     let shown = (reused_record _ _ _ _ (kept_view a.self.now) _ _ (moved_location a.self.now a.source.location + 1) q.holds).3 in
-    let short = q.areas.arena_short in (
-      q.kept,
-      at,
-      q.announced,
-      omega (arith, few, n.announced, n.key_bytes, shown, short),
-      omega (arith, few, n.announced, n.value_bytes, shown, short),
-      omega (arith, few, n.announced, n.header_length, shown, short),
-    )
+    let short = q.areas.arena_short in
+    record {
+      kept = q.kept;
+      slot = at;
+      announced = q.announced;
+      key_bytes = omega (arith, few, n.announced, n.key_bytes, shown, short);
+      value_bytes = omega (arith, few, n.announced, n.value_bytes, shown, short);
+      header_bytes = omega (arith, few, n.announced, n.header_length, shown, short);
+    }
