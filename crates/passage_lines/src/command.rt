@@ -13,7 +13,7 @@ use records::record::Span;
 pub(crate) const MAX_LINE_BYTES: usize = 8_192;
 
 // The spans are the parts of the line that spell key and value, of length 0 for `-`.
-#[derive(Clone, Copy)]
+#[derive(Clone, Copy, Debug, PartialEq, Eq)]
 pub enum Command {
     Open {
         records: usize,

@@ -7,7 +7,7 @@ use crate::command::MAX_LINE_BYTES;
 
 // What of a block is unread: the bytes from at to end. Where skipping, they go on with a line that
 // was too long.
-#[derive(Clone, Copy)]
+#[derive(Clone, Copy, Debug, PartialEq, Eq)]
 pub struct Input {
     pub at: usize,
     pub end: usize,
@@ -15,7 +15,7 @@ pub struct Input {
 }
 
 // What stands next in a block.
-#[derive(Clone, Copy)]
+#[derive(Clone, Copy, Debug, PartialEq, Eq)]
 pub enum NextLine {
     // A whole line, without its line feed.
     Line { from: usize, to: usize },

@@ -8,7 +8,7 @@ use hash_parts::error::SegmentCacheBuildError;
 use texts::output::{put_decimal, put_hex, put_text};
 
 // The words of the commands.
-#[derive(Clone, Copy)]
+#[derive(Clone, Copy, Debug, PartialEq, Eq)]
 pub enum Word {
     Open,
     Put,
@@ -31,7 +31,7 @@ impl Word {
 
 // Written by put_reply and not by a `Display`: what a `Display` promises holds only where the writing
 // succeeds, and nothing says that it does.
-#[derive(Clone, Copy)]
+#[derive(Clone, Copy, Debug, PartialEq, Eq)]
 pub enum Reply {
     // A line of another form, or out of turn.
     Bad,
