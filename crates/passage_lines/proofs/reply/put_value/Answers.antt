@@ -1,7 +1,7 @@
 -- `put_value` meets its contract: the rest of the area that it lends comes home. Assumes nothing.
 use native.Mathlib.Omega.{arith}
 use lib.ListN.{length-take, length-drop}
-use Rattle.passage_lines.proofs.Spelling.{appended_in, appended_out}
+use Rattle.texts.proofs.Spelling.{appended_in, appended_out}
 use Rattle.passage_lines.proofs.Replies.{value_length}
 use Rattle.passage_lines.proofs.reply.put_value.Goals as goal
 
