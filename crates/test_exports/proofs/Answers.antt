@@ -1,6 +1,6 @@
 -- Laws of answers as numbers and words. Assumes nothing.
 use mathlib.Core.Path.{◌≡◌, refl, ap, ◌∙◌}
-use mathlib.Core.List.{List, []}
+use mathlib.Core.List.{List, [], ◌∷◌}
 use Prim.Native.Nat.{ℕ, ◌+◌, ◌≤◌, ◌<◌}
 use mathlib.Core.Bool.{Bool, true, false, cond}
 use lib.Dec.{leb}
@@ -35,6 +35,15 @@ placed_none area = placed_in [] area area (omega arith) refl
 pub code_refused : (base : ℕ) (r : SegmentCacheBuildError) → base + error_number r ≡ code_of base (refused r)
 unfolding code_of
 code_refused base r = rw (ne_eqb (error_number r) 0 (λ z. omega (arith, refusal_pos r)))
+
+-- a value
+pub code_accepted : (base n : ℕ) → n ≡ code_of base (accepted n)
+unfolding code_of
+code_accepted base n = refl
+
+pub told_accepted : (n : ℕ) (area : List ℕ) → told 0 (placed (n ∷ []) area) ≡ lent (outcome_told (accepted n)) area
+unfolding outcome_told
+told_accepted n area = refl
 
 pub told_refused : (r : SegmentCacheBuildError) (area : List ℕ) → told (error_number r) area ≡ lent (outcome_told (refused r)) area
 unfolding outcome_told

@@ -11,7 +11,11 @@ ghost use Rattle.index.specs.View.{record_in};
 ghost use Rattle.index.specs.Word.{marked, unmarked, word_of, word_stored, word_tag};
 ghost use Rattle.test_exports.specs.Exports.{code_of, expiry_of, found_told, lent, record_told, slot_code, told, view_of};
 
-use index::view::SegmentView;
+use hash_parts::error::SegmentCacheBuildError;
+use index::filter::NegativeFilter;
+use index::find::{FinishedIndex, find_record};
+use index::view::{SegmentAreas, SegmentView};
+use records::record::Records;
 
 #[unsafe(no_mangle)]
 pub extern "C" fn test_encode_index_word(tag: u64, location: u64) -> u64
@@ -85,13 +89,13 @@ pub extern "C" fn test_clear_words(words: &mut [u64], count: usize)
 
 // A slot, or 2^63 and the number of the refusal that a build then gives: 4 for a key that stands in
 // the index, 3 for a full one.
+#[tactic(auto, using(crate::proofs::Answers::code_refused, crate::proofs::Answers::code_accepted))]
 fn slot_code(slot: Result<usize, SegmentCacheBuildError>) -> u64
     ensures { result ≡ slot_code (slot_outcome slot) }
 {
     match slot {
         Ok(at) => at as u64,
-        Err(SegmentCacheBuildError::DuplicateKey) => 0x8000_0000_0000_0004,
-        Err(SegmentCacheBuildError::CapacityOverflow) => 0x8000_0000_0000_0003,
+        Err(refusal) => 0x8000_0000_0000_0000 + u64::from(refusal.number()),
     }
 }
 
@@ -107,7 +111,11 @@ pub extern "C" fn test_find_build_slot(
     ensures { result ≡ slot_code (build_slot index.now buckets records.now (expiry_of on 1 0) key.now hash) }
 {
     let expiry = crate::expiry_of(on, 1, 0);
-    slot_code(index::build::find_build_slot(index, buckets, records, expiry, key, hash))
+    let records = Records {
+        bytes: records,
+        expiry,
+    };
+    slot_code(index::build::find_build_slot(index, buckets, records, key, hash))
 }
 
 #[unsafe(no_mangle)]
@@ -149,7 +157,11 @@ pub extern "C" fn test_mark_negative_filter(filter: &mut [u64], words: usize, ha
 pub extern "C" fn test_negative_filter_may_contain(filter: &[u64], words: usize, hash: u64) -> bool
     ensures { result ≡ filter_has filter.now words hash }
 {
-    index::filter::negative_filter_may_contain(filter, words, hash)
+    NegativeFilter {
+        words: filter,
+        count: words,
+    }
+    .may_contain(hash)
 }
 
 #[unsafe(no_mangle)]
@@ -167,6 +179,7 @@ pub extern "C" fn test_locations_inside(index: &[u64], buckets: usize, filled: u
 }
 
 // The number of segments, or 2^32 and the refusal's number.
+#[tactic(auto, using(crate::proofs::Answers::code_refused, crate::proofs::Answers::code_accepted))]
 #[unsafe(no_mangle)]
 pub extern "C" fn test_split_record_segments(
     index: &mut [u64],
@@ -180,7 +193,7 @@ pub extern "C" fn test_split_record_segments(
 {
     match index::segments::split_record_segments(index, buckets, filled, target, starts, lengths) {
         Ok(count) => count as u64,
-        Err(refusal) => 0x1_0000_0000 + (refusal.number() as u64),
+        Err(refusal) => 0x1_0000_0000 + u64::from(refusal.number()),
     }
 }
 
@@ -213,6 +226,7 @@ pub extern "C" fn test_clear_control(control: u64, slot: usize) -> u64
 }
 
 // The words are those of test_record_at.
+#[tactic(auto, using(crate::proofs::Answers::placed_none))]
 #[unsafe(no_mangle)]
 pub extern "C" fn test_record_at_location(
     arena: &[u8],
@@ -232,30 +246,20 @@ pub extern "C" fn test_record_at_location(
         filled,
         segments,
     };
-    let Some(record) = index::view::record_at_location(
-        view, arena, starts, lengths, stored,
-    ) else {
+    let areas = SegmentAreas {
+        starts,
+        lengths,
+        arena,
+    };
+    let Some(record) = view.record_at_location(areas, stored) else {
         return false;
     };
-    let key = record.key;
-    let value = record.value;
-    crate::put_words(
-        out,
-        &[
-            record.location as u64,
-            record.key_offset as u64,
-            key.at as u64,
-            key.len as u64,
-            value.at as u64,
-            value.len as u64,
-            record.expires_at as u64,
-            record.end as u64,
-        ],
-    );
+    crate::put_words(out, &crate::words_of(record));
     true
 }
 
 // The words: the slot, and those of test_record_at.
+#[tactic(auto, using(crate::proofs::Answers::placed_none))]
 #[unsafe(no_mangle)]
 pub extern "C" fn test_find_record(
     arena: &[u8],
@@ -281,36 +285,45 @@ pub extern "C" fn test_find_record(
         filled,
         segments,
     };
-    let Some(found) = index::find::find_record(
-        view,
+    let index = FinishedIndex {
+        words: index,
         packed,
-        index,
         buckets,
-        filter,
-        filter_words,
+    };
+    let filter = NegativeFilter {
+        words: filter,
+        count: filter_words,
+    };
+    let areas = SegmentAreas {
         starts,
         lengths,
         arena,
-        key,
-        hash,
-    ) else {
+    };
+    let Some(found) = find_record(view, index, filter, areas, key, hash) else {
         return false;
     };
-    let record = found.entry;
-    let key_span = record.key;
-    let value = record.value;
+    let [
+        location,
+        key_offset,
+        key_at,
+        key_len,
+        value_at,
+        value_len,
+        expires_at,
+        end,
+    ] = crate::words_of(found.entry);
     crate::put_words(
         out,
         &[
             found.slot as u64,
-            record.location as u64,
-            record.key_offset as u64,
-            key_span.at as u64,
-            key_span.len as u64,
-            value.at as u64,
-            value.len as u64,
-            record.expires_at as u64,
-            record.end as u64,
+            location,
+            key_offset,
+            key_at,
+            key_len,
+            value_at,
+            value_len,
+            expires_at,
+            end,
         ],
     );
     true

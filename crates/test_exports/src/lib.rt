@@ -11,13 +11,13 @@ ghost use Rattle.hash_parts.specs.ZeroBytes.{lowest_set, without_lowest, zero_ma
 ghost use Rattle.records.specs.Area.{same_bytes, spanned, written};
 ghost use Rattle.records.specs.Record.{encoded_size, record_at, record_bytes};
 ghost use Rattle.records.specs.Uleb128.{uleb128};
-ghost use Rattle.records.specs.Option<(usize, usize)>.{read_varint};
-ghost use Rattle.test_exports.specs.Exports.{byte_or256, code_of, duration_of, expiry_of, left_told, lent, lifetime_of, nanos_told, outcome_told, placed, record_told, span_of, told, varint_told};
+ghost use Rattle.records.specs.Varint.{read_varint};
+ghost use Rattle.test_exports.specs.Exports.{byte_or256, code_of, duration_of, expiry_of, left_told, lent, lifetime_of, nanos_told, outcome_told, placed, record_told, span_of, told, varint_told, words_of};
 
 use hash_parts::duration::{Duration, SegmentRemainingTtl};
 use hash_parts::error::SegmentCacheBuildError;
 use hash_parts::setting::SegmentExpiry;
-use records::record::Span;
+use records::record::{RecordRef, Records, Span};
 
 #[unsafe(no_mangle)]
 pub extern "C" fn test_hash_tag(hash: u64) -> u64
@@ -51,14 +51,15 @@ pub extern "C" fn test_packed_secondary_tag(tag: u64) -> u16
 pub extern "C" fn test_wrapping_mul(a: u64, b: u64) -> u64
     ensures { result ≡ a * b % 2 ^ 64 }
 {
-    hash_parts::hash::wrapping_mul(a, b)
+    a.wrapping_mul(b)
 }
 
+#[tactic(auto, using(hash_parts::proofs::Rotation::rotated_law))]
 #[unsafe(no_mangle)]
 pub extern "C" fn test_rotate_left_27(hash: u64) -> u64
     ensures { result ≡ rotated hash }
 {
-    hash_parts::hash::rotate_left_27(hash)
+    hash.rotate_left(27)
 }
 
 #[unsafe(no_mangle)]
@@ -102,10 +103,7 @@ fn expiry_of(on: bool, secs: u64, nanos: u32) -> SegmentExpiry
 fn lifetime_of(finite: bool, secs: u64, nanos: u32) -> Option<Duration>
     ensures { result ≡ lifetime_of finite secs nanos }
 {
-    if finite {
-        return Some(Duration { secs, nanos });
-    }
-    None
+    finite.then_some(Duration { secs, nanos })
 }
 
 // The upper and the lower word.
@@ -113,12 +111,12 @@ fn lifetime_of(finite: bool, secs: u64, nanos: u32) -> Option<Duration>
 pub extern "C" fn test_as_nanos(secs: u64, nanos: u32, out: &mut [u64])
     ensures { out.new ≡ placed (nanos_told (nanos_words (nanos_of (duration_of secs nanos)))) out.old }
 {
-    let duration = Duration { secs, nanos };
-    let words = duration.as_nanos();
-    put_words(out, &[words.high, words.low]);
+    let total = Duration { secs, nanos }.as_nanos();
+    put_words(out, &[(total >> 64) as u64, (total % (1 << 64)) as u64]);
 }
 
 // The deadline, or 65,536 and the refusal's number.
+#[tactic(auto, using(crate::proofs::Answers::code_refused, crate::proofs::Answers::code_accepted))]
 #[unsafe(no_mangle)]
 pub extern "C" fn test_encode_expiry(
     on: bool,
@@ -134,12 +132,13 @@ pub extern "C" fn test_encode_expiry(
     let expiry = expiry_of(on, tick_secs, tick_nanos);
     let lifetime = lifetime_of(finite, secs, nanos);
     match hash_parts::duration::encode_expiry_at_tick(expiry, lifetime, now_tick) {
-        Ok(deadline) => deadline as u64,
-        Err(refusal) => 65_536 + (refusal.number() as u64),
+        Ok(deadline) => u64::from(deadline),
+        Err(refusal) => 65_536 + u64::from(refusal.number()),
     }
 }
 
 // 0: nothing is left. 1: it never lapses. 2: seconds and nanoseconds stand in the words.
+#[tactic(auto, using(crate::proofs::Answers::placed_none))]
 #[unsafe(no_mangle)]
 pub extern "C" fn test_remaining_ttl(
     on: bool,
@@ -153,10 +152,10 @@ pub extern "C" fn test_remaining_ttl(
 {
     let expiry = expiry_of(on, tick_secs, tick_nanos);
     match hash_parts::duration::remaining_ttl(expiry, expires_at, now_tick) {
-        SegmentRemainingTtl::Nothing => 0,
-        SegmentRemainingTtl::Never => 1,
-        SegmentRemainingTtl::Finite(left) => {
-            put_words(out, &[left.secs, left.nanos as u64]);
+        None => 0,
+        Some(SegmentRemainingTtl::Never) => 1,
+        Some(SegmentRemainingTtl::Finite(left)) => {
+            put_words(out, &[left.secs, u64::from(left.nanos)]);
             2
         }
     }
@@ -170,17 +169,14 @@ pub extern "C" fn test_lives_at_tick(expires_at: u16, now_tick: u64) -> bool
 }
 
 // Writes the words to the front where all of them fit.
+#[tactic(auto, using(crate::proofs::Answers::placed_in, crate::proofs::Answers::placed_out))]
 fn put_words(out: &mut [u64], words: &[u64])
     ensures { out.new ≡ placed words.now out.old }
 {
     if out.len() < words.len() {
         return;
     }
-    let mut i = 0;
-    while i < words.len() {
-        out[i] = words[i];
-        i += 1;
-    }
+    out[..words.len()].copy_from_slice(words);
 }
 
 #[unsafe(no_mangle)]
@@ -191,17 +187,19 @@ pub extern "C" fn test_varint_bytes(value: usize) -> usize
 }
 
 // The number of bytes written, or 2^32 and the refusal's number.
+#[tactic(auto, using(crate::proofs::Answers::code_refused, crate::proofs::Answers::code_accepted))]
 #[unsafe(no_mangle)]
 pub extern "C" fn test_write_varint(output: &mut [u8], value: usize) -> u64
     ensures { (result ≡ code_of (2 ^ 32) (written (uleb128 value) output.old).answer) × (output.new ≡ (written (uleb128 value) output.old).area) }
 {
     match records::varint::write_varint(output, value) {
         Ok(bytes) => bytes as u64,
-        Err(refusal) => 0x1_0000_0000 + (refusal.number() as u64),
+        Err(refusal) => 0x1_0000_0000 + u64::from(refusal.number()),
     }
 }
 
 // The words: the value and the position after it.
+#[tactic(auto, using(crate::proofs::Answers::placed_none))]
 #[unsafe(no_mangle)]
 pub extern "C" fn test_read_varint(input: &[u8], cursor: usize, out: &mut [u64]) -> bool
     ensures { told result out.new ≡ lent (varint_told (read_varint input.now cursor)) out.old }
@@ -214,6 +212,7 @@ pub extern "C" fn test_read_varint(input: &[u8], cursor: usize, out: &mut [u64])
 }
 
 // 0 and the size in a word, or the refusal's number.
+#[tactic(auto, using(crate::proofs::Answers::told_refused, crate::proofs::Answers::told_accepted))]
 #[unsafe(no_mangle)]
 pub extern "C" fn test_encoded_record_bytes(
     on: bool,
@@ -229,7 +228,7 @@ pub extern "C" fn test_encoded_record_bytes(
             put_words(out, &[size as u64]);
             0
         }
-        Err(refusal) => refusal.number() as u64,
+        Err(refusal) => u64::from(refusal.number()),
     }
 }
 
@@ -249,7 +248,7 @@ pub extern "C" fn test_append_record(
     let bytes = records::record::append_record(rest, expiry, key, value, expires_at);
     if bytes == 0 {
         let refusal = SegmentCacheBuildError::AreaTooShort;
-        return refusal.number() as u64;
+        return u64::from(refusal.number());
     }
     put_words(out, &[bytes as u64]);
     0
@@ -257,30 +256,32 @@ pub extern "C" fn test_append_record(
 
 // The words: location, bytes before the key, key's place and length, value's place and length,
 // deadline, end.
+#[tactic(auto, using(crate::proofs::Answers::placed_none))]
 #[unsafe(no_mangle)]
 pub extern "C" fn test_record_at(bytes: &[u8], on: bool, location: usize, out: &mut [u64]) -> bool
     ensures { told result out.new ≡ lent (record_told (record_at (expiry_of on 1 0) bytes.now location)) out.old }
 {
     let expiry = expiry_of(on, 1, 0);
-    let Some(record) = records::record::record_at(bytes, expiry, location) else {
+    let Some(record) = Records { bytes, expiry }.record_at(location) else {
         return false;
     };
-    let key = record.key;
-    let value = record.value;
-    put_words(
-        out,
-        &[
-            record.location as u64,
-            record.key_offset as u64,
-            key.at as u64,
-            key.len as u64,
-            value.at as u64,
-            value.len as u64,
-            record.expires_at as u64,
-            record.end as u64,
-        ],
-    );
+    put_words(out, &words_of(record));
     true
+}
+
+pub(crate) fn words_of(record: RecordRef) -> [u64; 8]
+    ensures { result ≡ words_of «record» }
+{
+    [
+        record.location as u64,
+        record.key_offset as u64,
+        record.key.at as u64,
+        record.key.len as u64,
+        record.value.at as u64,
+        record.value.len as u64,
+        u64::from(record.expires_at),
+        record.end as u64,
+    ]
 }
 
 #[unsafe(no_mangle)]
@@ -300,19 +301,11 @@ pub extern "C" fn test_value_slice_len(arena: &[u8], at: usize, len: usize) -> u
 
 // The byte at i of the part, or 256 past its end: the length alone does not show where the part
 // begins.
+#[tactic(auto, unfolding(crate::specs::Exports::byte_or256))]
 #[unsafe(no_mangle)]
 pub extern "C" fn test_value_slice_byte(arena: &[u8], at: usize, len: usize, i: usize) -> u64
     ensures { result ≡ byte_or256 (spanned arena.now (span_of at len)) i }
 {
     let part = records::record::value_slice(arena, Span { at, len });
-    if i < part.len() {
-        return wide(part[i]);
-    }
-    256
-}
-
-fn wide(byte: u8) -> u64
-    ensures { result ≡ byte }
-{
-    byte as u64
+    part.get(i).map_or(256, |byte| u64::from(*byte))
 }

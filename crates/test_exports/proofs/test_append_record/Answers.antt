@@ -17,7 +17,7 @@ returns-then-bytes-eq0 c =
     let known = goal.at.returns-then-bytes-eq0 c in
     let a = c.args in
     let none = wrote_none (bytes known.After-append_record-bytes) a.rest.now (record_long _ a.key.now a.value.now a.expires_at) (rw c.append_record-bytes.ensures.0 at c.if-bytes-eq0.true) in
-    rw (← c.expiry_of-expiry.ensures, none, c.number.ensures) (told_refused AreaTooShort a.out.now, c.append_record-bytes.ensures.1)
+    rw (← c.expiry_of-expiry.ensures, none, c.from.ensures, c.number.ensures) (told_refused AreaTooShort a.out.now, c.append_record-bytes.ensures.1)
 
 pub returns : goal.returns
 unfolding outcome_told
