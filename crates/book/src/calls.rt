@@ -225,9 +225,7 @@ pub fn make_reuse(
     ensures filter_after { reused_result result builder.new index.new filter.new ≡ after_reused builder.old hash key.now value.now source index.old filter.old areas.entry.starts.now areas.entry.lengths.now areas.entry.arena.now }
     ensures result_after { (sets : List FinishedSet) (files : List (List ℕ)) → repush_left sets files areas.entry.arena.now (areas_of index.new filter.new areas.entry.starts.now areas.entry.lengths.now) builder.new result ≡ step (world_of areas.entry.arena.now (rebuilding builder.old (areas_of index.old filter.old areas.entry.starts.now areas.entry.lengths.now)) sets files) (reuse key.now value.now hash source.location source.header_bytes) }
 {
-    builder.push_reused(
-        hash, key, value, source, index, filter, areas,
-    )
+    builder.push_reused(hash, key, value, source, index, filter, areas)
 }
 
 // Copied push.

@@ -92,10 +92,7 @@ pub(crate) fn rebuild_and_ask(
         lengths,
         arena,
     );
-    let build = make_refinish(
-        builder, index, filter, starts, lengths, scratch, arena,
-    )
-    .ok()?;
+    let build = make_refinish(builder, index, filter, starts, lengths, scratch, arena).ok()?;
     let areas = SegmentAreas {
         starts,
         lengths,
