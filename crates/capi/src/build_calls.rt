@@ -6,7 +6,8 @@ ghost use Rattle.capi.specs.Calls.{area_numbers, exported_area_words, exported_f
 use crate::answers::{ask, tell};
 use crate::words::{BUILDER_WORDS, FromWords, MALFORMED, SET_WORDS, ToWords};
 use hash_parts::setting::SegmentCacheConfig;
-use sets::areas::{AreaWords, SegmentAreas, area_words};
+use index::view::SegmentAreas;
+use sets::areas::{AreaWords, area_words};
 use sets::builder::SegmentCacheBuilder;
 
 const AREAS: usize = 5;

@@ -5,7 +5,7 @@ ghost use Rattle.capi.specs.Rebuilds.{exported_rebuild_finish, exported_rebuild_
 
 use crate::answers::tell;
 use crate::words::{FromWords, MALFORMED, REBUILD_WORDS, SET_WORDS, ToWords, copy_words};
-use sets::areas::SegmentAreas;
+use index::view::SegmentAreas;
 use sets::cache::FrozenSegmentCache;
 use sets::rebuild::{SharedSegmentCacheBuild, SharedSegmentCacheBuilder};
 

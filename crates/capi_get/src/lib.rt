@@ -7,7 +7,7 @@ ghost use Rattle.capi.specs.Calls.{exported_get, index_told};
 
 use capi::answers::{SPAN_WORDS, tell};
 use capi::words::{FromWords, MALFORMED};
-use sets::areas::SegmentAreas;
+use index::view::SegmentAreas;
 use sets::cache::FrozenSegmentCache;
 
 // The three words of the span: 1 and the value's place and length in the arena, or three zeros.

@@ -7,7 +7,7 @@ ghost use Rattle.capi.specs.Calls.{exported_walk, told};
 
 use capi::answers::{RECORD_WORDS, tell};
 use capi::words::{FromWords, MALFORMED};
-use sets::areas::SegmentAreas;
+use index::view::SegmentAreas;
 use sets::cache::FrozenSegmentCache;
 
 // A step of the walk: the first record from a slot on, in the words of segment_cache_probe.

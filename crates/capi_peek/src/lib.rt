@@ -7,7 +7,7 @@ ghost use Rattle.capi.specs.Calls.{exported_peek, told};
 
 use capi::answers::{SPAN_WORDS, tell};
 use capi::words::{FromWords, MALFORMED};
-use sets::areas::SegmentAreas;
+use index::view::SegmentAreas;
 use sets::cache::FrozenSegmentCache;
 
 // A lookup with no mark set, in the words of segment_cache_get.

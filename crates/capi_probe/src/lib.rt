@@ -7,7 +7,7 @@ ghost use Rattle.capi.specs.Calls.{exported_probe, told};
 
 use capi::answers::{RECORD_WORDS, tell};
 use capi::words::{FromWords, MALFORMED};
-use sets::areas::SegmentAreas;
+use index::view::SegmentAreas;
 use sets::cache::FrozenSegmentCache;
 
 // The twelve words of a record: 1, slot, location, bytes before the key, place and length of key

@@ -7,7 +7,7 @@ ghost use Rattle.capi.specs.Rebuilds.{exported_reused, reused_words};
 
 use capi::answers::{PLACE_WORDS, tell_push};
 use capi::words::{FromWords, MALFORMED, REBUILD_WORDS};
-use sets::areas::SegmentAreas;
+use index::view::SegmentAreas;
 use sets::rebuild::{SegmentRecordLocation, SharedSegmentCacheBuilder};
 
 // Location and header bytes are those of the record in the source; the two words of the place are

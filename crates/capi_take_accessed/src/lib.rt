@@ -7,7 +7,7 @@ ghost use Rattle.capi.specs.Calls.{exported_take, index_told};
 
 use capi::answers::tell;
 use capi::words::{FromWords, MALFORMED};
-use sets::areas::SegmentAreas;
+use index::view::SegmentAreas;
 use sets::cache::FrozenSegmentCache;
 
 // The word: 1 where the mark was set, else 0.
