@@ -32,15 +32,6 @@ pub code_refused : (base : ℕ) (r : SegmentCacheBuildError) → base + error_nu
 unfolding code_of
 code_refused base r = rw (ne_eqb (error_number r) 0 (λ z. omega (arith, refusal_pos r)))
 
--- a value
-pub code_accepted : (base n : ℕ) → n ≡ code_of base (accepted n)
-unfolding code_of
-code_accepted base n = refl
-
-pub told_accepted : (n : ℕ) (area : List ℕ) → told 0 (placed (n ∷ []) area) ≡ lent (outcome_told (accepted n)) area
-unfolding outcome_told
-told_accepted n area = refl
-
 pub told_refused : (r : SegmentCacheBuildError) (area : List ℕ) → told (error_number r) area ≡ lent (outcome_told (refused r)) area
 unfolding outcome_told
 told_refused r area = rw (ne_eqb (error_number r) 0 (λ z. omega (arith, refusal_pos r))) (ap (told (error_number r)) (placed_none area))

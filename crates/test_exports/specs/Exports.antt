@@ -1,6 +1,5 @@
 -- The answers of the lower calls as numbers and words. Assumes nothing.
 use Rattle.std.specs.Prelude.{ℕ, ◌+◌, ◌^◌, Bool, true, false, cond, List, [], ◌∷◌, eqb, leb, ltb, length, get_or, None, Option, Some}
-use Rattle.hash_parts.specs.Duration.{Nanoseconds}
 use Rattle.hash_parts.specs.Outcome.{Outcome}
 use Rattle.hash_parts.specs.declared.duration.Duration.{Duration}
 use Rattle.hash_parts.specs.Duration.{Nanoseconds}

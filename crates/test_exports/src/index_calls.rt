@@ -89,7 +89,6 @@ pub extern "C" fn test_clear_words(words: &mut [u64], count: usize)
 
 // A slot, or 2^63 and the number of the refusal that a build then gives: 4 for a key that stands in
 // the index, 3 for a full one.
-#[tactic(auto, using(crate::proofs::Answers::code_refused, crate::proofs::Answers::code_accepted))]
 fn slot_code(slot: Result<usize, SegmentCacheBuildError>) -> u64
     ensures { result ≡ slot_code (slot_outcome slot) }
 {
@@ -176,7 +175,6 @@ pub extern "C" fn test_locations_inside(index: &[u64], buckets: usize, filled: u
 }
 
 // The number of segments, or 2^32 and the refusal's number.
-#[tactic(auto, using(crate::proofs::Answers::code_refused, crate::proofs::Answers::code_accepted))]
 #[unsafe(no_mangle)]
 pub extern "C" fn test_split_record_segments(
     index: &mut [u64],
@@ -223,7 +221,6 @@ pub extern "C" fn test_clear_control(control: u64, slot: usize) -> u64
 }
 
 // The words are those of test_record_at.
-#[tactic(auto, using(crate::proofs::Answers::placed_none))]
 #[unsafe(no_mangle)]
 #[tactic(auto, using(crate::proofs::Answers::placed_none))]
 pub extern "C" fn test_record_at_location(
@@ -257,7 +254,6 @@ pub extern "C" fn test_record_at_location(
 }
 
 // The words: the slot, and those of test_record_at.
-#[tactic(auto, using(crate::proofs::Answers::placed_none))]
 #[unsafe(no_mangle)]
 #[tactic(auto, using(crate::proofs::Answers::placed_none))]
 pub extern "C" fn test_find_record(

@@ -54,7 +54,6 @@ pub extern "C" fn test_wrapping_mul(a: u64, b: u64) -> u64
     a.wrapping_mul(b)
 }
 
-#[tactic(auto, using(hash_parts::proofs::Rotation::rotated_law))]
 #[unsafe(no_mangle)]
 #[tactic(auto, using(hash_parts::proofs::Rotation::rotated_law))]
 pub extern "C" fn test_rotate_left_27(hash: u64) -> u64
@@ -117,7 +116,6 @@ pub extern "C" fn test_as_nanos(secs: u64, nanos: u32, out: &mut [u64])
 }
 
 // The deadline, or 65,536 and the refusal's number.
-#[tactic(auto, using(crate::proofs::Answers::code_refused, crate::proofs::Answers::code_accepted))]
 #[unsafe(no_mangle)]
 #[tactic(auto, using(crate::proofs::Answers::code_refused), unfolding(crate::specs::Exports::code_of))]
 pub extern "C" fn test_encode_expiry(
@@ -134,13 +132,12 @@ pub extern "C" fn test_encode_expiry(
     let expiry = expiry_of(on, tick_secs, tick_nanos);
     let lifetime = lifetime_of(finite, secs, nanos);
     match hash_parts::duration::encode_expiry_at_tick(expiry, lifetime, now_tick) {
-        Ok(deadline) => u64::from(deadline),
-        Err(refusal) => 65_536 + u64::from(refusal.number()),
+        Ok(deadline) => deadline as u64,
+        Err(refusal) => 65_536 + (refusal.number() as u64),
     }
 }
 
 // 0: nothing is left. 1: it never lapses. 2: seconds and nanoseconds stand in the words.
-#[tactic(auto, using(crate::proofs::Answers::placed_none))]
 #[unsafe(no_mangle)]
 #[tactic(auto, using(crate::proofs::Answers::placed_none))]
 pub extern "C" fn test_remaining_ttl(
@@ -201,7 +198,6 @@ pub extern "C" fn test_varint_bytes(value: usize) -> usize
 }
 
 // The number of bytes written, or 2^32 and the refusal's number.
-#[tactic(auto, using(crate::proofs::Answers::code_refused, crate::proofs::Answers::code_accepted))]
 #[unsafe(no_mangle)]
 pub extern "C" fn test_write_varint(output: &mut [u8], value: usize) -> u64
     ensures { (result ≡ code_of (2 ^ 32) (written (uleb128 value) output.old).answer) × (output.new ≡ (written (uleb128 value) output.old).area) }
@@ -210,7 +206,6 @@ pub extern "C" fn test_write_varint(output: &mut [u8], value: usize) -> u64
 }
 
 // The words: the value and the position after it.
-#[tactic(auto, using(crate::proofs::Answers::placed_none))]
 #[unsafe(no_mangle)]
 #[tactic(auto, using(crate::proofs::Answers::placed_none))]
 pub extern "C" fn test_read_varint(input: &[u8], cursor: usize, out: &mut [u64]) -> bool
@@ -224,7 +219,6 @@ pub extern "C" fn test_read_varint(input: &[u8], cursor: usize, out: &mut [u64])
 }
 
 // 0 and the size in a word, or the refusal's number.
-#[tactic(auto, using(crate::proofs::Answers::told_refused, crate::proofs::Answers::told_accepted))]
 #[unsafe(no_mangle)]
 #[tactic(auto, using(crate::proofs::Answers::told_refused), unfolding(crate::specs::Exports::outcome_told))]
 pub extern "C" fn test_encoded_record_bytes(
@@ -241,7 +235,7 @@ pub extern "C" fn test_encoded_record_bytes(
             put_words(out, &[size as u64]);
             0
         }
-        Err(refusal) => u64::from(refusal.number()),
+        Err(refusal) => refusal.number() as u64,
     }
 }
 
@@ -262,7 +256,7 @@ pub extern "C" fn test_append_record(
     let bytes = records::record::append_record(rest, expiry, key, value, expires_at);
     if bytes == 0 {
         let refusal = SegmentCacheBuildError::AreaTooShort;
-        return u64::from(refusal.number());
+        return refusal.number() as u64;
     }
     put_words(out, &[bytes as u64]);
     0
@@ -270,7 +264,6 @@ pub extern "C" fn test_append_record(
 
 // The words: location, bytes before the key, key's place and length, value's place and length,
 // deadline, end.
-#[tactic(auto, using(crate::proofs::Answers::placed_none))]
 #[unsafe(no_mangle)]
 #[tactic(auto, using(crate::proofs::Answers::placed_none))]
 pub extern "C" fn test_record_at(bytes: &[u8], on: bool, location: usize, out: &mut [u64]) -> bool
@@ -316,7 +309,6 @@ pub extern "C" fn test_value_slice_len(arena: &[u8], at: usize, len: usize) -> u
 
 // The byte at i of the part, or 256 past its end: the length alone does not show where the part
 // begins.
-#[tactic(auto, unfolding(crate::specs::Exports::byte_or256))]
 #[unsafe(no_mangle)]
 #[tactic(auto, unfolding(crate::specs::Exports::byte_or256))]
 pub extern "C" fn test_value_slice_byte(arena: &[u8], at: usize, len: usize, i: usize) -> u64
