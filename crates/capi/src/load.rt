@@ -155,15 +155,17 @@ fn front_setting(words: &[u64]) -> Option<SegmentCacheConfig>
     requires { 6 ≤ length words.now }
     ensures { result ≡ setting_in words.now }
 {
-    if words[0] > 1 || words[4] > 1 || words[5] > 255 {
+    // Read before any is asked, so that one test asks all three.
+    let (flag, packed, bits) = (words[0], words[4], words[5]);
+    if flag > 1 || packed > 1 || bits > 255 {
         return None;
     }
     Some(SegmentCacheConfig {
-        expiry: expiry_of(words[0], words[1], capped_nanos(words[2])),
+        expiry: expiry_of(flag, words[1], capped_nanos(words[2])),
         // An occupancy beyond 8 bits stays too high.
         target_occupied_slots: u8::try_from(words[3]).unwrap_or(u8::MAX),
-        packed_bucket_index: words[4] == 1,
-        negative_filter_bits_per_entry: words[5] as u8,
+        packed_bucket_index: packed == 1,
+        negative_filter_bits_per_entry: bits as u8,
     })
 }
 

@@ -35,12 +35,15 @@ pub trait ToWords<const N: usize> {
     ghost fits: { N * 8 < 2 ^ 63 };
 }
 
-// Stores words over the front of lent ones, where they fit.
+// Stores words over the front of lent ones, where they fit. By copy_from_slice an array would be written to the stack
+// first, and then copied.
 #[tactic(auto, unfolding(records::specs::Area::written))]
 pub fn copy_words(out: &mut [u64], words: &[u64])
     ensures { out.new ≡ stored words.now out.old }
 {
     if out.len() >= words.len() {
-        out[..words.len()].copy_from_slice(words);
+        for (i, word) in words.iter().enumerate() {
+            out[i] = *word;
+        }
     }
 }
