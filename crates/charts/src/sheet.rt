@@ -22,20 +22,6 @@ const PAGE_BYTES: usize = PAGE_LINES * LINE_BYTES;
 // The columns of key and value show so many bytes.
 const FIELD_BYTES: usize = 12;
 
-#[derive(Clone, Copy)]
-pub enum SheetAnswer {
-    // How many pages the sheet has.
-    Pages(usize),
-    Refused(SegmentCacheBuildError),
-}
-
-#[derive(Clone, Copy)]
-pub(crate) enum RowCount {
-    Rows(usize),
-    // A key or value is too long for its columns.
-    TooLong,
-}
-
 // How many pages a set's sheet has. A page takes 3,250 bytes.
 pub fn sheet_pages(
     set: FrozenSegmentCache,
@@ -43,14 +29,14 @@ pub fn sheet_pages(
     starts: &[u64],
     lengths: &[u64],
     arena: &[u8],
-) -> SheetAnswer
+) -> Result<usize, SegmentCacheBuildError>
     ensures { sheet_reply result ≡ pages_answer set index.now starts.now lengths.now arena.now }
 {
     if !set.areas_hold(index.len(), starts.len(), lengths.len(), arena.len()) {
-        return SheetAnswer::Refused(SegmentCacheBuildError::InvalidState);
+        return Err(SegmentCacheBuildError::InvalidState);
     }
     let packed = set.config.packed_bucket_index;
-    let count = count_rows(
+    let rows = count_rows(
         set.view(),
         packed,
         set.buckets,
@@ -58,11 +44,8 @@ pub fn sheet_pages(
         starts,
         lengths,
         arena,
-    );
-    let RowCount::Rows(rows) = count else {
-        return SheetAnswer::Refused(SegmentCacheBuildError::FieldTooLong);
-    };
-    SheetAnswer::Pages((rows + (PAGE_LINES - 1)) / PAGE_LINES)
+    )?;
+    Ok((rows + (PAGE_LINES - 1)) / PAGE_LINES)
 }
 
 // Prints a set's sheet to the front of a page area, and says how many pages it has.
@@ -73,15 +56,12 @@ pub fn print_sheet(
     lengths: &[u64],
     arena: &[u8],
     page: &mut [u8],
-) -> SheetAnswer
+) -> Result<usize, SegmentCacheBuildError>
     ensures { sheet_result result page.new ≡ after_sheet set index.now starts.now lengths.now arena.now page.old }
 {
-    let answer = sheet_pages(set, index, starts, lengths, arena);
-    let SheetAnswer::Pages(pages) = answer else {
-        return answer;
-    };
+    let pages = sheet_pages(set, index, starts, lengths, arena)?;
     if page.len() / PAGE_BYTES < pages {
-        return SheetAnswer::Refused(SegmentCacheBuildError::AreaTooShort);
+        return Err(SegmentCacheBuildError::AreaTooShort);
     }
     let packed = set.config.packed_bucket_index;
     write_sheet(
@@ -95,7 +75,7 @@ pub fn print_sheet(
         pages,
         page,
     );
-    answer
+    Ok(pages)
 }
 
 // The first pass: counts the rows, and asks of each whether it fits.
@@ -107,7 +87,7 @@ fn count_rows(
     starts: &[u64],
     lengths: &[u64],
     arena: &[u8],
-) -> RowCount
+) -> Result<usize, SegmentCacheBuildError>
     requires { 8 * buckets ≤ length index.now }
     ensures { result ≡ row_count 0 (rows_in (record_in view arena.now starts.now lengths.now) packed buckets index.now arena.now) }
 {
@@ -125,11 +105,11 @@ fn count_rows(
             continue;
         };
         if !entry_fits(arena, entry) {
-            return RowCount::TooLong;
+            return Err(SegmentCacheBuildError::FieldTooLong);
         }
         rows += 1;
     }
-    RowCount::Rows(rows)
+    Ok(rows)
 }
 
 // Whether key and value fit their columns.

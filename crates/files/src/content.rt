@@ -47,27 +47,20 @@ pub(crate) const BUCKET_BYTES: usize = 64;
 
 pub(crate) const MAX_ARENA_BYTES: usize = 1_073_741_824;
 
-// What the questions of a file come to: the set that it holds, as it will be once loaded.
-#[derive(Clone, Copy)]
-pub(crate) enum FilePlan {
-    Set(FrozenSegmentCache),
-    Refused(SegmentCacheBuildError),
-}
-
-// What 13, 14 and 15 ask, each over the whole file.
-pub(crate) fn plan_file(file: &[u8]) -> FilePlan
+// What 13, 14 and 15 ask, each over the whole file; and the set that it holds, as it will be once loaded.
+pub(crate) fn plan_file(file: &[u8]) -> Result<FrozenSegmentCache, SegmentCacheBuildError>
     ensures { plan_reply result ≡ file_asked file.now }
 {
     if !frames_well(file) {
-        return FilePlan::Refused(SegmentCacheBuildError::FileFraming);
+        return Err(SegmentCacheBuildError::FileFraming);
     }
     if !kinds_in_order(file) {
-        return FilePlan::Refused(SegmentCacheBuildError::FileKinds);
+        return Err(SegmentCacheBuildError::FileKinds);
     }
     if !content_fits(file) {
-        return FilePlan::Refused(SegmentCacheBuildError::FileContent);
+        return Err(SegmentCacheBuildError::FileContent);
     }
-    FilePlan::Set(set_in(file))
+    Ok(set_in(file))
 }
 
 // What 15 asks. The set's own numbers are asked as question 1 of a finished set asks them.

@@ -10,7 +10,7 @@ ghost use Rattle.files.specs.Copies.{masked_by};
 ghost use Rattle.files.specs.Load.{after_load, load_result, needs_answer, needs_reply};
 
 use crate::blocks::{FILTER, INDEX, LENGTHS, SEGMENTS, content_of};
-use crate::content::{FilePlan, plan_file};
+use crate::content::plan_file;
 use crate::copies::{
     UNMARKED_CONTROL, UNMARKED_WORD, WHOLE, WORD_BYTES, number_at, put_bytes, take_words,
 };
@@ -29,33 +29,18 @@ pub struct FileNeeds {
     pub arena: usize,
 }
 
-#[derive(Clone, Copy)]
-pub enum FileNeedsAnswer {
-    Needs(FileNeeds),
-    Refused(SegmentCacheBuildError),
-}
-
-#[derive(Clone, Copy)]
-pub enum LoadFileAnswer {
-    Loaded(FrozenSegmentCache),
-    Refused(SegmentCacheBuildError),
-}
-
 // The least lengths that a load takes. An area may be longer.
-pub fn file_needs(file: &[u8]) -> FileNeedsAnswer
+pub fn file_needs(file: &[u8]) -> Result<FileNeeds, SegmentCacheBuildError>
     ensures { needs_reply result ≡ needs_answer file.now }
 {
-    let plan = plan_file(file);
-    match plan {
-        FilePlan::Set(set) => FileNeedsAnswer::Needs(FileNeeds {
-            index: set.buckets * BUCKET_SLOTS,
-            filter: set.filter_words,
-            starts: MAX_RECORD_SEGMENTS,
-            lengths: MAX_RECORD_SEGMENTS,
-            arena: set.filled,
-        }),
-        FilePlan::Refused(refusal) => FileNeedsAnswer::Refused(refusal),
-    }
+    let set = plan_file(file)?;
+    Ok(FileNeeds {
+        index: set.buckets * BUCKET_SLOTS,
+        filter: set.filter_words,
+        starts: MAX_RECORD_SEGMENTS,
+        lengths: MAX_RECORD_SEGMENTS,
+        arena: set.filled,
+    })
 }
 
 // Loads a file: its words and bytes go to the front of the areas, marks cleared.
@@ -66,13 +51,11 @@ pub fn load_file(
     starts: &mut [u64],
     lengths: &mut [u64],
     arena: &mut [u8],
-) -> LoadFileAnswer
+) -> Result<FrozenSegmentCache, SegmentCacheBuildError>
     ensures { load_result result index.new filter.new starts.new lengths.new arena.new ≡ after_load file.now index.old filter.old starts.old lengths.old arena.old }
 {
-    match plan_file(file) {
-        FilePlan::Set(set) => load_set(set, file, index, filter, starts, lengths, arena),
-        FilePlan::Refused(refusal) => LoadFileAnswer::Refused(refusal),
-    }
+    let set = plan_file(file)?;
+    load_set(set, file, index, filter, starts, lengths, arena)
 }
 
 // The areas are asked, then written.
@@ -84,7 +67,7 @@ fn load_set(
     starts: &mut [u64],
     lengths: &mut [u64],
     arena: &mut [u8],
-) -> LoadFileAnswer
+) -> Result<FrozenSegmentCache, SegmentCacheBuildError>
     requires { (set ≡ file_set file.now) × (first_no (ask_file file.now) ≡ 0) }
     ensures { load_result result index.new filter.new starts.new lengths.new arena.new ≡ after_load file.now index.old filter.old starts.old lengths.old arena.old }
 {
@@ -95,7 +78,7 @@ fn load_set(
         lengths.len(),
         arena.len(),
     ) {
-        return LoadFileAnswer::Refused(SegmentCacheBuildError::AreaTooShort);
+        return Err(SegmentCacheBuildError::AreaTooShort);
     }
     let packed = set.config.packed_bucket_index;
     load_index(content_of(file, INDEX), packed, set.buckets, index);
@@ -103,7 +86,7 @@ fn load_set(
     load_starts(content_of(file, LENGTHS), starts);
     load_lengths(content_of(file, LENGTHS), lengths);
     put_bytes(arena, 0, content_of(file, SEGMENTS));
-    LoadFileAnswer::Loaded(set)
+    Ok(set)
 }
 
 // In the packed layout the marks stand in the control words, the first of the index.

@@ -23,31 +23,22 @@ use sets::rebuild_questions::source_holds;
 // Five headers and kind 1.
 const FIXED_BYTES: usize = 74;
 
-#[derive(Clone, Copy)]
-pub enum FileSizeAnswer {
-    Bytes(usize),
-    Refused(SegmentCacheBuildError),
-}
-
-#[derive(Clone, Copy)]
-pub enum WriteFileAnswer {
-    // How many bytes the file has.
-    Written(usize),
-    Refused(SegmentCacheBuildError),
-}
-
 // How many bytes a set takes as a file.
-pub fn file_bytes(set: FrozenSegmentCache, starts: &[u64], lengths: &[u64]) -> FileSizeAnswer
+pub fn file_bytes(
+    set: FrozenSegmentCache,
+    starts: &[u64],
+    lengths: &[u64],
+) -> Result<usize, SegmentCacheBuildError>
     ensures { size_reply result ≡ size_answer set starts.now lengths.now }
 {
     if !source_holds(set, starts, lengths, set.filled) {
-        return FileSizeAnswer::Refused(SegmentCacheBuildError::InvalidState);
+        return Err(SegmentCacheBuildError::InvalidState);
     }
     let bytes = sum_of(lengths, set.segments);
     if bytes > MAX_ARENA_BYTES {
-        return FileSizeAnswer::Refused(SegmentCacheBuildError::InvalidState);
+        return Err(SegmentCacheBuildError::InvalidState);
     }
-    FileSizeAnswer::Bytes(
+    Ok(
         FIXED_BYTES
             + WORD_BYTES * set.segments
             + BUCKET_BYTES * set.buckets
@@ -56,7 +47,7 @@ pub fn file_bytes(set: FrozenSegmentCache, starts: &[u64], lengths: &[u64]) -> F
     )
 }
 
-// Writes the set to the front of the file area, marks cleared.
+// Writes the set to the front of the file area, marks cleared, and says how many bytes the file has.
 pub fn write_file(
     set: FrozenSegmentCache,
     index: &[u64],
@@ -65,7 +56,7 @@ pub fn write_file(
     lengths: &[u64],
     arena: &[u8],
     file: &mut [u8],
-) -> WriteFileAnswer
+) -> Result<usize, SegmentCacheBuildError>
     ensures { write_result result file.new ≡ after_write set index.now filter.now starts.now lengths.now arena.now file.old }
 {
     if !set.lookup_areas_hold(
@@ -75,16 +66,14 @@ pub fn write_file(
         lengths.len(),
         arena.len(),
     ) {
-        return WriteFileAnswer::Refused(SegmentCacheBuildError::InvalidState);
+        return Err(SegmentCacheBuildError::InvalidState);
     }
-    let FileSizeAnswer::Bytes(bytes) = file_bytes(set, starts, lengths) else {
-        return WriteFileAnswer::Refused(SegmentCacheBuildError::InvalidState);
-    };
+    let bytes = file_bytes(set, starts, lengths)?;
     if file.len() < bytes {
-        return WriteFileAnswer::Refused(SegmentCacheBuildError::AreaTooShort);
+        return Err(SegmentCacheBuildError::AreaTooShort);
     }
     put_file(set, index, filter, starts, lengths, arena, file);
-    WriteFileAnswer::Written(bytes)
+    Ok(bytes)
 }
 
 fn sum_of(words: &[u64], count: usize) -> usize
