@@ -2,6 +2,7 @@
 ghost use Rattle.std.specs.Prelude.{◌≡◌, true, ◌+◌, ◌*◌, ◌<◌, ◌≤◌, length};
 ghost use Rattle.records.specs.Area.{over, pasted};
 ghost use Rattle.index.specs.View.{record_in};
+ghost use Rattle.sets.specs.Lookup.{entry_at};
 ghost use Rattle.charts.specs.Line.{line, lines, pages_for, sheet};
 ghost use Rattle.charts.specs.Sheet.{after_sheet, pages_answer, row_count, row_fits, row_of, rows_fit, rows_in, sheet_reply, sheet_result};
 
@@ -45,7 +46,7 @@ pub fn sheet_pages(
         lengths,
         arena,
     )?;
-    Ok((rows + (PAGE_LINES - 1)) / PAGE_LINES)
+    Ok(rows.div_ceil(PAGE_LINES))
 }
 
 // Prints a set's sheet to the front of a page area, and says how many pages it has.
@@ -91,16 +92,9 @@ fn count_rows(
     requires { 8 * buckets ≤ length index.now }
     ensures { result ≡ row_count 0 (rows_in (record_in view arena.now starts.now lengths.now) packed buckets index.now arena.now) }
 {
-    let slots = buckets * BUCKET_SLOTS;
     let mut rows = 0;
-    let mut slot = 0;
-    while slot < slots {
-        let here = slot;
-        slot += 1;
-        let IndexSlot::Used(_, stored) = slot_at(index, packed, buckets, here) else {
-            continue;
-        };
-        let read = record_at_location(view, arena, starts, lengths, stored);
+    for slot in 0..buckets * BUCKET_SLOTS {
+        let read = entry_at(view, packed, buckets, slot, index, starts, lengths, arena);
         let RecordAnswer::Read(entry) = read else {
             continue;
         };
@@ -112,16 +106,31 @@ fn count_rows(
     Ok(rows)
 }
 
+// The record that a slot names.
+fn entry_at(
+    view: SegmentView,
+    packed: bool,
+    buckets: usize,
+    slot: usize,
+    index: &[u64],
+    starts: &[u64],
+    lengths: &[u64],
+    arena: &[u8],
+) -> RecordAnswer
+    ensures { result ≡ entry_at (record_in view arena.now starts.now lengths.now) packed buckets index.now slot }
+{
+    let IndexSlot::Used(_, stored) = slot_at(index, packed, buckets, slot) else {
+        return RecordAnswer::Unreadable;
+    };
+    record_at_location(view, arena, starts, lengths, stored)
+}
+
 // Whether key and value fit their columns.
 fn entry_fits(arena: &[u8], entry: RecordRef) -> bool
     ensures { result ≡ row_fits (row_of arena.now (record { slot = 0; entry = entry })) }
 {
-    let key = entry.key;
-    let value = entry.value;
-    if value_slice(arena, key).len() > FIELD_BYTES {
-        return false;
-    }
-    value_slice(arena, value).len() <= FIELD_BYTES
+    value_slice(arena, entry.key).len() <= FIELD_BYTES
+        && value_slice(arena, entry.value).len() <= FIELD_BYTES
 }
 
 // The second pass: a line to each row, and blank lines to the end of the last page.
@@ -162,20 +171,13 @@ fn write_rows(
     ensures value { (result ≡ length (rows_in (record_in view arena.now starts.now lengths.now) packed buckets index.now arena.now)) × (65 * result ≡ length (lines (length (rows_in (record_in view arena.now starts.now lengths.now) packed buckets index.now arena.now)) (rows_in (record_in view arena.now starts.now lengths.now) packed buckets index.now arena.now))) }
     ensures page_after { page.new ≡ over (lines (length (rows_in (record_in view arena.now starts.now lengths.now) packed buckets index.now arena.now)) (rows_in (record_in view arena.now starts.now lengths.now) packed buckets index.now arena.now)) page.old }
 {
-    let slots = buckets * BUCKET_SLOTS;
     let mut rows = 0;
-    let mut slot = 0;
-    while slot < slots {
-        let here = slot;
-        slot += 1;
-        let IndexSlot::Used(_, stored) = slot_at(index, packed, buckets, here) else {
-            continue;
-        };
-        let read = record_at_location(view, arena, starts, lengths, stored);
+    for slot in 0..buckets * BUCKET_SLOTS {
+        let read = entry_at(view, packed, buckets, slot, index, starts, lengths, arena);
         let RecordAnswer::Read(entry) = read else {
             continue;
         };
-        rows = put_entry(page, rows, here, entry, arena);
+        rows = put_entry(page, rows, slot, entry, arena);
     }
     rows
 }
@@ -184,14 +186,12 @@ fn put_entry(page: &mut [u8], number: usize, slot: usize, entry: RecordRef, aren
     requires { (65 * number + 65 ≤ length page.old) × (slot < 100000000) × (row_fits (row_of arena.now (record { slot = slot; entry = entry })) ≡ true) }
     ensures { (result ≡ number + 1) × (page.new ≡ pasted (65 * number) (line (row_of arena.now (record { slot = slot; entry = entry }))) page.old) }
 {
-    let key = entry.key;
-    let value = entry.value;
     put_row(
         page,
         number,
         slot,
-        value_slice(arena, key),
-        value_slice(arena, value),
+        value_slice(arena, entry.key),
+        value_slice(arena, entry.value),
         entry.expires_at,
     )
 }
