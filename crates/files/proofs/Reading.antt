@@ -9,13 +9,15 @@ use native.Mathlib.Decide.{dec_lt}
 use borrow.Author.Tests.{lt-ltb, le-ltb, eqb-true, eqb-false}
 use lib.Dec.{eqb, leb, leb→le, ltb}
 use lib.ListN.{length, take, drop, get_or, replicate, length-append, length-replicate, length-take, get_or-append}
-use lib.Seq.{drop-cons, drop-drop, get_or-append-add, take_all}
+use lib.Seq.{drop-cons, drop-drop, drop_at, get_or-append-add, take_all, take_at}
 use Rattle.hash_parts.specs.ZeroBytes.{number_of}
 use Rattle.hash_parts.proofs.Table.{at}
 use Rattle.records.specs.Area.{part}
 use Rattle.index.specs.Packed.{words_of}
 use Rattle.index.specs.Segments.{padded}
 use Rattle.files.proofs.Moved.{starts_length}
+use Rattle.files.specs.Kinds.{place_of}
+use Rattle.files.specs.declared.content.Count.{Count}
 use Rattle.files.specs.Contents.{numbers_in, starts_by, sum, widths}
 
 -- ---- words
@@ -56,8 +58,16 @@ sum_none (x ∷ l) zero h = absurd (omega arith)
 sum_none (x ∷ l) (suc i) h = sum_none l i (omega arith)
 
 -- the word at hand, and the sum of those behind it
-pub sum_word : (l : List ℕ) (i n : ℕ) → i < length l / 8 → n ≡ number_of (part (8 * i) 8 l) → sum (drop i (all_words l)) ≡ n + sum (drop (i + 1) (all_words l))
-sum_word l i n h e = omega (arith, sum_rest (all_words l) i, word_at (length l / 8) i l h, e)
+-- the first word of some bytes, and those behind it
+pub sum_chunk : (l w rest : List ℕ) (n : ℕ) → l ≡ w ++ rest → length w ≡ 8 → n ≡ number_of w → sum (all_words l) ≡ n + sum (all_words rest)
+unfolding words_of
+sum_chunk l w more n e h f =
+    let long : length l / 8 ≡ suc (length more / 8) = omega (arith, ap length e, length-append w more) in
+    rw (long, e, take_at w more 8 h, drop_at w more 8 h, f)
+
+pub sum_short : (l : List ℕ) → length l < 8 → sum (all_words l) ≡ 0
+unfolding words_of
+sum_short l h = let none : length l / 8 ≡ 0 = omega arith in rw none
 
 front : (l : List ℕ) (i : ℕ) → sum (take (suc i) l) ≡ sum (take i l) + get_or l i 0
 front [] zero = refl
@@ -85,6 +95,9 @@ number_in (w ∷ ws) bytes (suc i) h =
 
 pub width_small : (i : ℕ) → i < 10 → get_or widths i 0 ≤ 8
 width_small i h = leb→le (get_or widths i 0) 8 (at (λ (k : ℕ). leb (get_or widths k 0) 8) 10 tt i h)
+
+pub place_few : (c : Count) → place_of c < 10
+place_few c = grind arith
 
 -- ---- starts
 
