@@ -39,13 +39,6 @@ pub rows_all : (read : ℕ → RecordAnswer) (packed : Bool) (buckets : ℕ) (in
 unfolding entries_in
 rows_all read packed buckets index arena = let e : 8 * buckets - 0 ≡ 8 * buckets = omega arith in rw e
 
--- no more rows than slots
-pub rows_few : (read : ℕ → RecordAnswer) (packed : Bool) (buckets : ℕ) (index arena : List ℕ) → length (rows_in read packed buckets index arena) ≤ 8 * buckets
-unfolding entries_in
-rows_few read packed buckets index arena =
-    let at : ℕ → RecordAnswer = entry_at read packed buckets index in
-    omega (arith, length-map (entries_from at 0 (8 * buckets)) (row_of arena), entries_few at 0 (8 * buckets))
-
 -- ---- whether rows fit
 
 says_no : false ≡ true → ⊥

@@ -1,20 +1,19 @@
 -- Laws of numbers in bytes, of writing from a position of an area on, and of words with some bits cleared. Assumes nothing.
-use mathlib.Core.Path.{◌≡◌, refl, sym, ap, ◌∙◌}
+use mathlib.Core.Path.{◌≡◌, refl, ap, ◌∙◌}
 use mathlib.Core.List.{List, [], ◌∷◌, ◌++◌, append_assoc, append-nil}
 use Prim.Native.Nat.{ℕ, zero, suc, ◌+◌, ◌-◌, ◌*◌, ◌/◌, ◌%◌, ◌≤◌, ◌<◌}
-use native.Mathlib.Nat.{add_assoc}
 use native.Mathlib.Decide.{dec_lt}
 use borrow.Rule.Slice.PartMut.{put_mid}
 use native.Mathlib.Omega.{arith}
-use lib.ListN.{length, take, drop, get_or, replicate, length-append, length-drop, length-replicate, take-append-drop}
-use lib.Seq.{drop-drop, length-take-le, take_all, take_at, drop_at}
+use lib.ListN.{length, take, drop, get_or, replicate, length-append, length-drop, length-replicate}
+use lib.Seq.{length-take-le, take_all, take_at}
 use Rattle.std.specs.Int.{from_le_bytes, to_le_bytes, w64}
 use Rattle.std.proofs.lemmas.List.{drop_all, drop_more, drop-replicate, get_or_past}
 use Rattle.hash_parts.specs.ZeroBytes.{bytes_of, number_of}
 use Rattle.hash_parts.proofs.Bytes.{Bytes, no_bytes, one_byte, length_bytes, number_append}
 use Rattle.records.specs.Area.{over, part, pasted}
 use Rattle.index.specs.Segments.{padded}
-use Rattle.records.proofs.Area.{Writing, complete, over_length, over_pasted}
+use Rattle.records.proofs.Area.{over_length, over_pasted}
 
 -- ---- numbers in bytes, as std reads and writes them
 
@@ -114,39 +113,6 @@ unfolding padded
 padded_front ws area n h few = rw (take_all 256 ws (omega arith), append_assoc, take_at ws _ n h)
 
 -- ---- writing from a position on
-
-pub begin_at : (at : ℕ) (s area : List ℕ) → at + length s ≤ length area → Writing (take at area ++ s) s area area at
-begin_at at s area h =
-    let n : length (take at area) ≡ at = length-take-le at area (omega arith) in
-    record {
-      done = take at area;
-      parts = refl;
-      count = n;
-      list = sym (ap (λ (k : ℕ). take at area ++ drop k area) n ∙ take-append-drop at area);
-      short = omega (arith, length-append (take at area) s, n);
-    }
-
-pub over_at : (at : ℕ) (s area : List ℕ) → at ≤ length area → over (take at area ++ s) area ≡ pasted at s area
-over_at at s area h =
-    let n : length (take at area) ≡ at = length-take-le at area h in
-    rw (length-append (take at area) s, n) (simp (append_assoc, drop-drop))
-
--- where all is written, its end
-pub ended_at : (at : ℕ) (s area : List ℕ) → at ≤ length area → {left out : List ℕ} {end : ℕ} → Writing (take at area ++ s) left area out end → left ≡ [] → end ≡ at + length s
-ended_at at s area h w e = (complete w e).0 ∙ length-append (take at area) s ∙ ap (λ (n : ℕ). n + length s) (length-take-le at area h)
-
--- two pieces, one after the other
-pub paste_next : (at n : ℕ) (s t area : List ℕ) → n ≡ at + length s → at ≤ length area → pasted n t (pasted at s area) ≡ pasted at (s ++ t) area
-paste_next at n s t area e h =
-    let l : length (take at area ++ s) ≡ n = omega (arith, length-append (take at area) s, length-take-le at area h) in
-    let two : pasted at s area ≡ (take at area ++ s) ++ drop (length s) (drop at area) = sym (append_assoc (take at area) s _) in
-    rw (two, take_at (take at area ++ s) (drop (length s) (drop at area)) n l, drop_at (take at area ++ s) (drop (length s) (drop at area)) n l)
-    (simp (append_assoc, length-append, drop-drop, add_assoc))
-
-pub paste_length : (at : ℕ) (s area : List ℕ) → at + length s ≤ length area → length (pasted at s area) ≡ length area
-paste_length at s area h =
-    length-append (take at area) (over s (drop at area))
-    ∙ omega (arith, length-take-le at area (omega arith), length-append s (drop (length s) (drop at area)), length-drop (length s) (drop at area), length-drop at area)
 
 -- a part that is lent by its start and its end
 pub part_lent : (start end count : ℕ) (l : List ℕ) → end ≡ start + count → take (end - start) (drop start l) ≡ part start count l

@@ -1,18 +1,13 @@
 -- Laws of blocks: whether they are whole, what stands behind them, what they hold. Assumes nothing.
-use mathlib.Core.Path.{◌≡◌, refl, sym, ap, ◌∙◌}
+use mathlib.Core.Path.{◌≡◌, refl, sym, ◌∙◌}
 use mathlib.Core.Bool.{Bool, true, false, cond}
 use mathlib.Core.List.{List, [], ◌∷◌}
-use Prim.Native.Nat.{ℕ, zero, suc, min, ◌+◌, ◌-◌, ◌≤◌, ◌<◌}
-use native.Mathlib.Nat.{add_assoc}
+use Prim.Native.Nat.{ℕ, zero, suc, ◌+◌, ◌≤◌, ◌<◌}
 use native.Mathlib.Decide.{dec_le}
 use native.Mathlib.Omega.{arith}
 use borrow.Author.Tests.{eqb-true, le-leb, lt-leb, leb-true, leb-false, ne_eqb}
 use lib.Dec.{eqb, leb}
-use lib.ListN.{length, take, drop, length-drop, drop_of_length-le}
-use lib.Seq.{take-nil}
-use Rattle.std.proofs.lemmas.List.{drop_all, take_min}
-use Rattle.hash_parts.specs.ZeroBytes.{number_of}
-use Rattle.records.specs.Area.{part}
+use lib.ListN.{length, drop_of_length-le}
 use Rattle.sets.proofs.Counts.{both}
 use Rattle.files.specs.Blocks.{behind, frames_well, is_whole, kind_in, kinds_from, size_in}
 
@@ -95,12 +90,3 @@ some_left [] e = cc
 some_left (b ∷ g) e = omega arith
 
 -- ---- the content, as much of it as there is
-
-pub content_none : (g : List ℕ) → length g < 6 → part 6 (size_in g) g ≡ []
-content_none g h = rw (drop_all 6 g (omega arith)) (take-nil (size_in g))
-
-pub content_some : (g : List ℕ) (n : ℕ) → n ≡ min (size_in g) (length g - 6) → take (6 + n - 6) (drop 6 g) ≡ part 6 (size_in g) g
-content_some g n e =
-    let l : length (drop 6 g) ≡ length g - 6 = length-drop 6 g in
-    let k : 6 + n - 6 ≡ min (size_in g) (length (drop 6 g)) = omega arith in
-    rw k (take_min (size_in g) (drop 6 g))

@@ -182,10 +182,18 @@ fn blocks_fit(file: &[u8], buckets: usize, filter_words: usize) -> bool
     if lengths.len() % WORD_BYTES != 0 {
         return false;
     }
-    if !is_count_of(content_of(file, BlockKind::Index).len(), buckets, BUCKET_BYTES) {
+    if !is_count_of(
+        content_of(file, BlockKind::Index).len(),
+        buckets,
+        BUCKET_BYTES,
+    ) {
         return false;
     }
-    if !is_count_of(content_of(file, BlockKind::Filter).len(), filter_words, WORD_BYTES) {
+    if !is_count_of(
+        content_of(file, BlockKind::Filter).len(),
+        filter_words,
+        WORD_BYTES,
+    ) {
         return false;
     }
     let bytes = content_of(file, BlockKind::Segments).len();

@@ -1,5 +1,5 @@
 -- `is_whole` meets its contract: what is left behind the header is compared with the size. Assumes nothing.
-use Rattle.std.proofs.Common.{◌≡◌, ◌∙◌, ◌-◌, ℕ, ap, sym, arith, length}
+use Rattle.std.proofs.Common.{◌∙◌, ◌-◌, ℕ, ap, sym, arith, length}
 use borrow.Author.Tests.{lt-leb}
 use lib.Dec.{leb}
 use Rattle.files.proofs.Positions.{whole_by_rest, whole_short}

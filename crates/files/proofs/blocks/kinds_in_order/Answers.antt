@@ -1,5 +1,5 @@
 -- `kinds_in_order` meets its contract: what is asked of the kinds that are left is what was asked of the file. Assumes nothing.
-use Rattle.std.proofs.Common.{◌≡◌, ◌∙◌, ◌-◌, ◌+◌, ◌<◌, ◌≤◌, ℕ, suc, ap, sym, refl, arith, true, false, cond, List, length}
+use Rattle.std.proofs.Common.{◌≡◌, ◌∙◌, ◌-◌, ◌+◌, ◌<◌, ℕ, suc, ap, sym, arith, true, false, cond, List, length}
 use borrow.Author.Tests.{eq-eqb, ne_eqb}
 use lib.Dec.{eqb}
 use Rattle.files.specs.Blocks.{behind, frames_well, is_whole, kind_in, kinds_from}

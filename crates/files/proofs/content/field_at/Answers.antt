@@ -1,13 +1,13 @@
 -- `field_at` meets its contract: the position is the sum of the widths before the number. Assumes nothing.
-use Rattle.std.proofs.Common.{◌≡◌, ◌∙◌, ◌-◌, ◌+◌, ◌<◌, ◌≤◌, ◌^◌, ℕ, ap, ap₂, sym, arith, List, length, get_or, take, drop, length-drop}
+use Rattle.std.proofs.Common.{◌≡◌, ◌∙◌, ◌-◌, ◌+◌, ap, sym, arith, length, take, drop, length-drop}
 use Rattle.std.proofs.lemmas.List.{length-take-le}
 use Rattle.hash_parts.specs.ZeroBytes.{number_of}
 use Rattle.records.specs.Area.{part}
 use Rattle.files.specs.Blocks.{content_of}
-use Rattle.files.specs.Contents.{sum, widths}
+use Rattle.files.specs.Contents.{widths}
 use Rattle.files.specs.Kinds.{place_of}
 use Rattle.files.proofs.Copying.{part_lent}
-use Rattle.files.proofs.Reading.{number_in, place_few, sum_within, width_small}
+use Rattle.files.proofs.Reading.{number_in, place_few, sum_within}
 use Rattle.files.proofs.content.field_at.Goals as goal
 
 pub returns : goal.returns

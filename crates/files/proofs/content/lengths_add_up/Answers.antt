@@ -1,5 +1,5 @@
 -- `lengths_add_up` meets its contract: what is left of the bytes and the words that are left make up the difference. Assumes nothing.
-use Rattle.std.proofs.Common.{◌≡◌, ◌+◌, ◌/◌, ◌∙◌, ap, sym, arith}
+use Rattle.std.proofs.Common.{◌≡◌, ◌∙◌, sym, arith}
 use borrow.Author.Tests.{ne_eqb}
 use Rattle.files.specs.Contents.{sum}
 use Rattle.files.proofs.Reading.{all_words, eqb_same, sum_chunk, sum_short}

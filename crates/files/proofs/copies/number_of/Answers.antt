@@ -1,6 +1,5 @@
 -- `number_of` meets its contract: zeros behind the bytes change nothing. Assumes nothing.
 use Rattle.std.proofs.Common.{◌≡◌, ◌∙◌, arith}
-use Rattle.std.specs.Int.{from_le_bytes, w64}
 use Rattle.hash_parts.specs.ZeroBytes.{number_of}
 use Rattle.hash_parts.proofs.Bytes.{number_small}
 use Rattle.files.proofs.Copying.{all_bytes, padded_number}

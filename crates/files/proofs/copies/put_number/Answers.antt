@@ -1,5 +1,5 @@
 -- `put_number` meets its contract. Assumes nothing.
-use Rattle.std.proofs.Common.{◌∙◌, length, sym}
+use Rattle.std.proofs.Common.{◌∙◌, length}
 use Rattle.files.proofs.Copying.{front_bytes}
 use Rattle.files.proofs.copies.put_number.Goals as goal
 

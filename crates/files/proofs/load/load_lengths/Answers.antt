@@ -1,5 +1,5 @@
 -- `load_lengths` meets its contract. Assumes nothing.
-use Rattle.std.proofs.Common.{rules, ◌≡◌, ◌/◌, ℕ, ◌∙◌, arith, length, take}
+use Rattle.std.proofs.Common.{rules, ◌≡◌, ◌/◌, ◌∙◌, arith, length, take}
 use Rattle.std.proofs.lemmas.List.{length-take-le}
 use Rattle.index.specs.Packed.{words_of}
 use Rattle.files.proofs.Copying.{front_home, padded_home}

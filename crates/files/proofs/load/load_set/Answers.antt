@@ -13,7 +13,7 @@ use Rattle.sets.proofs.Said.{answered_no, answered_yes}
 use Rattle.sets.specs.Lookup.{areas_hold_lookup}
 use Rattle.sets.specs.declared.cache.FrozenSegmentCache.{FrozenSegmentCache}
 use Rattle.files.specs.Blocks.{content_of}
-use Rattle.files.specs.Contents.{file_set, starts_by, sum, unmarked_index}
+use Rattle.files.specs.Contents.{file_set, starts_by, unmarked_index}
 use Rattle.files.specs.Load.{load_areas_hold}
 use Rattle.files.proofs.Loading.{AreasHold, areas_same, areas_told, blocks_told, load_done, load_short}
 use Rattle.files.proofs.Copying.{front_home, padded_front}

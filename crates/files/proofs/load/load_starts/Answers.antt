@@ -1,5 +1,5 @@
 -- `load_starts` meets its contract: the starts that are written and those that are left are all of them. Assumes nothing.
-use Rattle.std.proofs.Common.{rules, ◌≡◌, ◌∙◌, ◌+◌, ◌∷◌, [], ℕ, ap, arith, get_or, drop}
+use Rattle.std.proofs.Common.{rules, ◌≡◌, ◌+◌, [], ap, arith, get_or, drop}
 use Rattle.std.proofs.lemmas.List.{drop_all, drop_more}
 use Rattle.records.proofs.Area.{begin, complete, next_byte}
 use Rattle.files.specs.Contents.{starts_by}

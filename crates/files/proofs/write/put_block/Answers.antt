@@ -1,5 +1,5 @@
 -- `put_block` meets its contract: a header, and the words behind it. Assumes nothing.
-use Rattle.std.proofs.Common.{◌∙◌, arith, length}
+use Rattle.std.proofs.Common.{◌∙◌, arith}
 use Rattle.index.specs.Packed.{word_bytes}
 use Rattle.files.specs.Kinds.{kind_number}
 use Rattle.files.proofs.Low.{word_bytes_length}

@@ -1,5 +1,5 @@
 -- `put_counts` meets its contract: a header, and the numbers of kind 1 behind it. Assumes nothing.
-use Rattle.std.proofs.Common.{◌≡◌, ◌∙◌, ap, sym, refl, length}
+use Rattle.std.proofs.Common.{◌∙◌, ap, sym, length}
 use Rattle.files.specs.Write.{count_bytes}
 use Rattle.files.proofs.Pieces.{block_made, counts_long, counts_same, flag_is}
 use Rattle.files.proofs.write.put_counts.Goals as goal

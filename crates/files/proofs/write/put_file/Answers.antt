@@ -1,10 +1,9 @@
 -- `put_file` meets its contract: each block takes its part of the area. Assumes nothing.
-use Rattle.std.proofs.Common.{◌≡◌, ◌∙◌, ◌+◌, ◌*◌, ◌≤◌, ◌<◌, ◌++◌, ℕ, List, ap, sym, arith, true, length, take, get_or}
+use Rattle.std.proofs.Common.{◌≡◌, ◌∙◌, ◌*◌, ◌<◌, ℕ, sym, arith, true, length, take}
 use native.Mathlib.Nat.{le_refl}
 use Rattle.std.proofs.lemmas.List.{get_or-take, length-take-le}
 use Rattle.sets.specs.Rebuild.{segments_inside, sum_of}
 use Rattle.sets.proofs.RebuildAsked.{segments_pass}
-use Rattle.files.specs.Blocks.{block}
 use Rattle.files.specs.Write.{file_of, segment_bytes}
 use Rattle.files.proofs.Asked.{WriteAsked, write_asked}
 use Rattle.files.proofs.Pieces.{from_first, from_front, sum_front}

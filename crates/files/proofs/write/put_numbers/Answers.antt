@@ -6,7 +6,6 @@ use Rattle.records.proofs.Area.{begin, complete, fits, next}
 use Rattle.files.specs.Contents.{bytes_for, widths}
 use Rattle.files.proofs.Copying.{number_put, over_all}
 use Rattle.files.proofs.Pieces.{no_numbers, numbers_long, one_number}
-use Rattle.files.proofs.Reading.{width_small}
 use Rattle.files.proofs.write.put_numbers.Goals as goal
 use Rattle.files.proofs.write.put_numbers.Goals.{At-loop-i}
 

@@ -1,5 +1,5 @@
 -- What each turn of the loop keeps.
-use Rattle.std.proofs.Common.{◌≡◌, drop, take}
+use Rattle.std.proofs.Common.{drop}
 use Rattle.records.proofs.Area.{Writing}
 use Rattle.files.specs.Contents.{bytes_for, widths}
 use Rattle.files.proofs.write.put_numbers.Given as goal

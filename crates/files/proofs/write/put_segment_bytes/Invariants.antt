@@ -1,7 +1,6 @@
 -- What each turn of the loop keeps.
-use Rattle.std.proofs.Common.{◌≡◌, ◌-◌, length}
+use Rattle.std.proofs.Common.{◌-◌, length}
 use Rattle.records.proofs.Area.{Writing}
-use Rattle.sets.specs.Rebuild.{sum_of}
 use Rattle.files.specs.Write.{segment_bytes}
 use Rattle.files.proofs.Pieces.{segments_from}
 use Rattle.files.proofs.write.put_segment_bytes.Given as goal
