@@ -1,8 +1,8 @@
 -- Lookups and mark clearings in a finished set: the answer is the book's, and the set stands for the same list after them. Assumes nothing.
+use Rattle.std.specs.Prelude.{None, Option, Some, slice_get}
 use mathlib.Core.Path.{◌≡◌, refl, sym, ap, ◌∙◌}
 use mathlib.Core.Bool.{Bool, true, false, cond}
-use mathlib.Core.List.{List, [], ◌∷◌, head?}
-use mathlib.Core.Option.{none, some}
+use mathlib.Core.List.{List, [], ◌∷◌}
 use Prim.Native.Nat.{ℕ, ◌+◌, ◌*◌, ◌/◌, ◌%◌, ◌^◌, ◌≤◌, ◌<◌}
 use native.Mathlib.Omega.{arith}
 use lib.Dec.{eqb, ltb}
@@ -13,10 +13,7 @@ use Rattle.hash_parts.specs.Duration.{lives_at}
 use Rattle.hash_parts.specs.declared.setting.SegmentExpiry.{SegmentExpiry}
 use Rattle.records.specs.Area.{part, spanned}
 use Rattle.records.specs.Record.{Stored, contents}
-use Rattle.records.specs.declared.record.RecordAnswer.TheVariants.{Read}
 use Rattle.index.specs.Find.{find_in}
-use Rattle.index.specs.declared.find.FindAnswer.{FindAnswer}
-use Rattle.index.specs.declared.find.FindAnswer.TheVariants as find
 use Rattle.index.specs.declared.find.FoundRecord.{FoundRecord}
 use Rattle.index.specs.declared.view.SegmentView.{SegmentView}
 use Rattle.index.proofs.Contents.{stored_in}
@@ -39,19 +36,19 @@ use Rattle.book.proofs.Reading.{same_stored}
 use Rattle.book.proofs.Relation.{SetHolds}
 
 -- what the find of a set comes to
-abbrev found_in : List ℕ → FinishedSet → List ℕ → ℕ → FindAnswer
+abbrev found_in : List ℕ → FinishedSet → List ℕ → ℕ → Option FoundRecord
 found_in arena s key h = find_of s.cache h key s.areas.index s.areas.filter s.areas.starts s.areas.lengths arena
 
 -- ---- the answer
 
 -- "live at a tick" by the deadline, as a lookup and as the book say it
 live_ruled : (arena : List ℕ) (tick : ℕ) (y : FoundRecord) (e : Entry) → y.entry.expires_at ≡ e.deadline → spanned arena y.entry.value ≡ e.value
-    → answer_of arena (live_value tick y) ≡ ruled tick (some e)
+    → answer_of arena (live_value tick y) ≡ ruled tick (Some e)
 unfolding live_value lives_at
 live_ruled arena tick y e same bytes = rw same (go (eqb e.deadline 65535) (ltb tick e.deadline))
   where
     go : (never before : Bool)
-        → answer_of arena (cond (cond never true before) (accept (some y.entry.value)) (accept none)) ≡ cond never (value e.value) (cond before (value e.value) nothing)
+        → answer_of arena (cond (cond never true before) (accept (Some y.entry.value)) (accept None)) ≡ cond never (value e.value) (cond before (value e.value) nothing)
     go true before = ap value bytes
     go false true = ap value bytes
     go false false = refl
@@ -62,7 +59,7 @@ module _ (H : List ℕ → ℕ) (x : SegmentExpiry) (arena : List ℕ) (top : �
   long = set_index_holds s.cache (length s.areas.index) (length s.areas.filter) (length s.areas.starts) (length s.areas.lengths) (length arena) ok.passes
 
   -- the value handed out lies in the arena
-  value_bytes : (y : FoundRecord) (e : Entry) → found_in arena s key h ≡ find.Found y → contents arena (Read y.entry) ≡ some (stored_of e)
+  value_bytes : (y : FoundRecord) (e : Entry) → found_in arena s key h ≡ Some y → contents arena (Some y.entry) ≡ Some (stored_of e)
       → (y.entry.expires_at ≡ e.deadline) × (spanned arena y.entry.value ≡ e.value)
   unfolding spanned
   value_bytes y e f c =
@@ -83,7 +80,8 @@ module _ (H : List ℕ → ℕ) (x : SegmentExpiry) (arena : List ℕ) (top : �
       ∙ ap (ruled tick) (sym (first_is key l.list))
     where
       go : (m : List Entry) → only (keyed stored_of key) l.list ≡ m
-          → answer_of arena (gotten tick s.cache.config.packed_bucket_index s.areas.index (found_in arena s key h)).answer ≡ ruled tick (head? (only (keyed stored_of key) l.list))
+          → answer_of arena (gotten tick s.cache.config.packed_bucket_index s.areas.index (found_in arena s key h)).answer
+          ≡ ruled tick (slice_get (only (keyed stored_of key) l.list) 0)
       go [] e =
           let f = find_nothing (view_of s.cache) s.areas.index s.cache.buckets s.areas.starts s.areas.lengths arena ok.index long (λ m d y. y) key h hash bound e in
           rw (f, e)
@@ -97,7 +95,7 @@ module _ (H : List ℕ → ℕ) (x : SegmentExpiry) (arena : List ℕ) (top : �
 -- the index stands for the same list after the mark of a found slot is set or cleared
 module _ {H : List ℕ → ℕ} {Holds : ℕ → Entry → Type 0} (view : SegmentView) (index : List ℕ) (buckets : ℕ) (filter : List ℕ) (words : ℕ) (starts lengths arena key : List ℕ) (h : ℕ)
     (y : FoundRecord) (bound : h < 2 ^ 64) {r : List Entry} where
-  slot_marked_law : (packed : Bool) → find_in view packed index buckets filter words starts lengths arena key h ≡ find.Found y
+  slot_marked_law : (packed : Bool) → find_in view packed index buckets filter words starts lengths arena key h ≡ Some y
       → Indexed stored_of H packed Holds buckets (index_slots packed buckets index) filter words r
       → Indexed stored_of H packed Holds buckets (index_slots packed buckets (slot_marked packed index y.slot)) filter words r
   unfolding slot_marked
@@ -106,7 +104,7 @@ module _ {H : List ℕ → ℕ} {Holds : ℕ → Entry → Type 0} (view : Segme
       control_marked_indexed buckets index x (y.slot / 8) (y.slot % 8) (omega arith)
   slot_marked_law false f x = marked_indexed buckets index x y.slot (find_word view index buckets filter words starts lengths arena key h y bound f).0
 
-  slot_cleared_law : (packed : Bool) → find_in view packed index buckets filter words starts lengths arena key h ≡ find.Found y
+  slot_cleared_law : (packed : Bool) → find_in view packed index buckets filter words starts lengths arena key h ≡ Some y
       → Indexed stored_of H packed Holds buckets (index_slots packed buckets index) filter words r
       → Indexed stored_of H packed Holds buckets (index_slots packed buckets (slot_cleared packed index y.slot)) filter words r
   unfolding slot_cleared
@@ -120,7 +118,7 @@ module _ (H : List ℕ → ℕ) (x : SegmentExpiry) (arena : List ℕ) (top : �
   reindexed : (index : List ℕ)
       → areas_hold_lookup s.cache (length index) (length s.areas.filter) (length s.areas.starts) (length s.areas.lengths) (length arena) ≡ true
       → Indexed stored_of H s.cache.config.packed_bucket_index
-      (λ m e. stored_in (view_of s.cache) arena s.areas.starts s.areas.lengths m ≡ some (stored_of e))
+      (λ m e. stored_in (view_of s.cache) arena s.areas.starts s.areas.lengths m ≡ Some (stored_of e))
       s.cache.buckets (index_slots s.cache.config.packed_bucket_index s.cache.buckets index)
       s.areas.filter s.cache.filter_words l.list
       → SmallIf s.cache.config.packed_bucket_index s.cache.buckets index → SetHolds H x arena top (with_index s index) l
@@ -144,7 +142,7 @@ module _ (H : List ℕ → ℕ) (x : SegmentExpiry) (arena : List ℕ) (top : �
     abbrev Same : List ℕ → Type 0
     Same index =
         Indexed stored_of H s.cache.config.packed_bucket_index
-        (λ m e. stored_in (view_of s.cache) arena s.areas.starts s.areas.lengths m ≡ some (stored_of e))
+        (λ m e. stored_in (view_of s.cache) arena s.areas.starts s.areas.lengths m ≡ Some (stored_of e))
         s.cache.buckets (index_slots s.cache.config.packed_bucket_index s.cache.buckets index)
         s.areas.filter s.cache.filter_words l.list
 
@@ -159,20 +157,20 @@ module _ (H : List ℕ → ℕ) (x : SegmentExpiry) (arena : List ℕ) (top : �
         still_live y true = small_marked s.cache.config.packed_bucket_index s.cache.buckets s.areas.index y.slot ok.small
         still_live y false = ok.small
 
-        still : (a : FindAnswer) → Small (gotten tick s.cache.config.packed_bucket_index s.areas.index a).index
-        still find.Nothing = ok.small
-        still (find.Found y) = still_live y (lives_at y.entry.expires_at tick)
+        still : (a : Option FoundRecord) → Small (gotten tick s.cache.config.packed_bucket_index s.areas.index a).index
+        still None = ok.small
+        still (Some y) = still_live y (lives_at y.entry.expires_at tick)
 
-        live : (y : FoundRecord) → found_in arena s key h ≡ find.Found y → (b : Bool)
+        live : (y : FoundRecord) → found_in arena s key h ≡ Some y → (b : Bool)
             → Same (cond b (slot_marked s.cache.config.packed_bucket_index s.areas.index y.slot) s.areas.index)
         live y f true =
             slot_marked_law (view_of s.cache) s.areas.index s.cache.buckets s.areas.filter s.cache.filter_words s.areas.starts s.areas.lengths arena key h y bound
             s.cache.config.packed_bucket_index f ok.index
         live y f false = ok.index
 
-        go : (a : FindAnswer) → found_in arena s key h ≡ a → Same (gotten tick s.cache.config.packed_bucket_index s.areas.index a).index
-        go find.Nothing f = ok.index
-        go (find.Found y) f = live y f (lives_at y.entry.expires_at tick)
+        go : (a : Option FoundRecord) → found_in arena s key h ≡ a → Same (gotten tick s.cache.config.packed_bucket_index s.areas.index a).index
+        go None f = ok.index
+        go (Some y) f = live y f (lives_at y.entry.expires_at tick)
 
     pub set_taken : SetHolds H x arena top (with_index s (after_take s.cache h key s.areas.index s.areas.filter s.areas.starts s.areas.lengths arena).index) l
     set_taken =
@@ -180,13 +178,13 @@ module _ (H : List ℕ → ℕ) (x : SegmentExpiry) (arena : List ℕ) (top : �
         (rw (take_asks s.cache h key s.areas.index s.areas.filter s.areas.starts s.areas.lengths arena ok.passes) (go (found_in arena s key h) refl))
         (rw (take_asks s.cache h key s.areas.index s.areas.filter s.areas.starts s.areas.lengths arena ok.passes) (still (found_in arena s key h)))
       where
-        still : (a : FindAnswer) → Small (taken_of s.cache.config.packed_bucket_index s.areas.index a).index
-        still find.Nothing = ok.small
-        still (find.Found y) = small_cleared s.cache.config.packed_bucket_index s.cache.buckets s.areas.index y.slot ok.small
+        still : (a : Option FoundRecord) → Small (taken_of s.cache.config.packed_bucket_index s.areas.index a).index
+        still None = ok.small
+        still (Some y) = small_cleared s.cache.config.packed_bucket_index s.cache.buckets s.areas.index y.slot ok.small
 
-        go : (a : FindAnswer) → found_in arena s key h ≡ a → Same (taken_of s.cache.config.packed_bucket_index s.areas.index a).index
-        go find.Nothing f = ok.index
-        go (find.Found y) f =
+        go : (a : Option FoundRecord) → found_in arena s key h ≡ a → Same (taken_of s.cache.config.packed_bucket_index s.areas.index a).index
+        go None f = ok.index
+        go (Some y) f =
             slot_cleared_law (view_of s.cache) s.areas.index s.cache.buckets s.areas.filter s.cache.filter_words s.areas.starts s.areas.lengths arena key h y bound
             s.cache.config.packed_bucket_index f ok.index
 

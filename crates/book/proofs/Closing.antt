@@ -1,8 +1,8 @@
 -- An accepted finish keeps the relation of world and book. Assumes nothing.
+use Rattle.std.specs.Prelude.{Some}
 use mathlib.Core.Path.{◌≡◌, sym, ap, ◌∙◌, subst}
 use mathlib.Core.Bool.{true, false}
 use mathlib.Core.List.{List, [], ◌∷◌}
-use mathlib.Core.Option.{some}
 use Prim.Native.Nat.{ℕ, suc, ◌+◌, ◌-◌, ◌*◌, ◌^◌, ◌≤◌, ◌<◌}
 use native.Mathlib.Omega.{arith}
 use lib.ListN.{length, take, get_or}
@@ -109,7 +109,7 @@ module _ (H : List ℕ → ℕ) where
           ap (λ (i : ℕ). sum_of i (over (cuts.padded (cuts.lengths_of b.filled ss)) a.lengths)) (sym n)
           ∙ sum_filled (cuts.lengths_of b.filled ss) a.lengths (omega (arith, n, few)) asked.lengths_hold
           ∙ lengths_sum b.filled 0 (cuts.starts_after 256 ws b.filled target 0) (starts_ascend ws b.filled target) most
-          ∙ (let none : b.filled - 0 ≡ b.filled = omega arith in none)
+          ∙ (let None : b.filled - 0 ≡ b.filled = omega arith in None)
 
       short : length tape ≤ 2 ^ 30
       short = omega (arith, ok.filled, asked.areas.filled_held, asked.areas.arena_short)
@@ -123,7 +123,7 @@ module _ (H : List ℕ → ℕ) where
       Reads : ℕ → Entry → Type 0
       Reads m e =
           stored_in (view_of (set_of b (length ss))) arena (over (cuts.padded ss) a.starts) (over (cuts.padded (cuts.lengths_of b.filled ss)) a.lengths) m
-          ≡ some (stored_of e)
+          ≡ Some (stored_of e)
 
       located : (e : Entry) → Stands x tape (places k.list) 0 e → ⊥
       located e h = omega (arith, h.flat)

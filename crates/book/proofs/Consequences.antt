@@ -1,12 +1,12 @@
 -- What else holds of every list of calls: no lookup in a finished set is refused, and segments and tape are the book's. Assumes nothing.
+use Rattle.std.specs.Prelude.{None, Option, Some, slice_get}
 use mathlib.Core.Path.{◌≡◌, refl, ap₂}
 use mathlib.Core.Bool.{Bool, true, false, cond}
 use mathlib.Core.List.{List, [], ◌∷◌, ◌++◌, map, Forall₂}
-use mathlib.Core.Option.{Option, none, some}
 use Prim.Native.Nat.{ℕ, ◌^◌, ◌<◌}
 use native.Mathlib.Omega.{arith}
 use lib.Dec.{eqb, ltb}
-use lib.ListN.{length, take, get_elem?}
+use lib.ListN.{length, take}
 use Rattle.hash_parts.specs.declared.setting.SegmentCacheConfig.{SegmentCacheConfig}
 use Rattle.hash_parts.specs.declared.setting.SegmentExpiry.{SegmentExpiry}
 use Rattle.book.specs.Book.{Entry, ListedSet, Book, blank, heard, book_after, first_of, ruled, reply_from, replied, replies}
@@ -23,8 +23,8 @@ use Rattle.book.proofs.Theorem.{every_list}
 
 -- the book's rule never says `refused`
 never_ruled : (tick : ℕ) (o : Option Entry) → ruled tick o ≡ denied → ⊥
-never_ruled tick none e = let z : ◌≡◌ {A = ℕ} 0 1 = cc in omega arith
-never_ruled tick (some d) e = go (eqb d.deadline 65535) (ltb tick d.deadline) e
+never_ruled tick None e = let z : ◌≡◌ {A = ℕ} 0 1 = cc in omega arith
+never_ruled tick (Some d) e = go (eqb d.deadline 65535) (ltb tick d.deadline) e
   where
     go : (never before : Bool) → cond never (value d.value) (cond before (value d.value) nothing) ≡ denied → ⊥
     go true before f = let z : ◌≡◌ {A = ℕ} 0 1 = cc in omega arith
@@ -32,15 +32,15 @@ never_ruled tick (some d) e = go (eqb d.deadline 65535) (ltb tick d.deadline) e
     go false false f = let z : ◌≡◌ {A = ℕ} 0 1 = cc in omega arith
 
 never_from : (o : Option ListedSet) (key : List ℕ) (tick : ℕ) → reply_from o key tick ≡ denied → ⊥
-never_from none key tick e = let z : ◌≡◌ {A = ℕ} 0 1 = cc in omega arith
-never_from (some l) key tick e = never_ruled tick (first_of key l.list) e
+never_from None key tick e = let z : ◌≡◌ {A = ℕ} 0 1 = cc in omega arith
+never_from (Some l) key tick e = never_ruled tick (first_of key l.list) e
 
 never_replied : (k : Book) (c : Call (Unit {0}) (ℕ × List ℕ)) → Every (λ y. y ≡ denied → ⊥) (replied k c)
 never_replied k (opening config records arena index filter starts lengths) = every_nil
 never_replied k (push key v h lifetime) = every_nil
 never_replied k (finish target scratch) = every_nil
-never_replied k (lookup set key h tick) = every_cons (never_from (get_elem? k.sets set) key tick) every_nil
-never_replied k (peek set key h tick) = every_cons (never_from (get_elem? k.sets set) key tick) every_nil
+never_replied k (lookup set key h tick) = every_cons (never_from (slice_get k.sets set) key tick) every_nil
+never_replied k (peek set key h tick) = every_cons (never_from (slice_get k.sets set) key tick) every_nil
 never_replied k (clear set key h) = every_nil
 never_replied k (probe set key h tick) = every_nil
 never_replied k (walk set slot tick) = every_nil

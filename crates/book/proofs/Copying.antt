@@ -1,8 +1,8 @@
 -- An accepted copied push keeps what the open rebuild stands for: its entry, whose bytes are appended to the tape, joins the list. Assumes nothing.
+use Rattle.std.specs.Prelude.{Ok, Some}
 use mathlib.Core.Path.{◌≡◌, refl, sym, ap, ◌∙◌}
 use mathlib.Core.Bool.{true}
 use mathlib.Core.List.{List, ◌++◌}
-use mathlib.Core.Option.{some}
 use Prim.Native.Nat.{ℕ, ◌+◌, ◌-◌, ◌^◌, ◌≤◌, ◌<◌}
 use native.Mathlib.Omega.{arith}
 use lib.ListN.{length, set, length-append}
@@ -14,7 +14,6 @@ use Rattle.records.specs.Record.{record_bytes, stored_at}
 use Rattle.index.specs.Build.{never, slot_for}
 use Rattle.index.specs.Filter.{displaced_marked}
 use Rattle.index.specs.Word.{word_of}
-use Rattle.index.specs.declared.build.BuildSlot.TheVariants.{Empty}
 use Rattle.index.proofs.Entries.{reheld}
 use Rattle.index.proofs.Pushes.{pushed}
 use Rattle.index.proofs.Views.{part_front}
@@ -41,8 +40,8 @@ rests_on {x} {tape} new l e (rests_copied p w) = rests_copied p (written_on x ta
 module _ (H : List ℕ → ℕ) where
   -- the slot found, the entry's deadline, how many bytes it takes, and how long the arena is then
   pub rebuild_copy : (r : SharedSegmentCacheBuilder) (a : Areas) (arena : ℕ) (k : Book) → RebuildHolds H r a arena k
-      → (key value : List ℕ) (h slot deadline size after : ℕ) → h ≡ H key → h < 2 ^ 64 → slot_for never a.index r.bucket_count h ≡ Empty slot
-      → stored_at k.expiry (record_bytes k.expiry key value deadline) 0 ≡ some record { key = key; value = value; deadline = deadline }
+      → (key value : List ℕ) (h slot deadline size after : ℕ) → h ≡ H key → h < 2 ^ 64 → slot_for never a.index r.bucket_count h ≡ Ok slot
+      → stored_at k.expiry (record_bytes k.expiry key value deadline) 0 ≡ Some record { key = key; value = value; deadline = deadline }
       → size ≡ length (record_bytes k.expiry key value deadline) → r.copied_bytes ≤ 1_073_741_824 → retained r.kept < 256
       → rebuild_passes (copied_grown r size (length key) (length value)) (length (set a.index slot (word_of (tag_of h) (copied_location r))))
       (length (displaced_marked a.filter r.filter_words h slot r.bucket_count)) a.starts a.lengths after ≡ true

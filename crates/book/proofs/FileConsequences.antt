@@ -1,14 +1,14 @@
 -- What the claim on lists of calls gives for files. Document 02, Change 2: "Under the mission's premises, loading a written file gives a set with the same
 -- lookups, statistics and index words, marks aside". And the writer refuses no set of a list, and the loader no file of it, but for the areas that are lent.
 -- Assumes nothing.
+use Rattle.std.specs.Prelude.{Option, Some, slice_get}
 use mathlib.Core.Path.{◌≡◌, refl, sym, ap, subst, ◌∙◌}
 use mathlib.Core.Bool.{Bool, true, false, cond}
 use mathlib.Core.List.{List, ◌∷◌}
-use mathlib.Core.Option.{Option, some}
 use Prim.Native.Nat.{ℕ, ◌+◌, ◌*◌, ◌^◌, ◌≤◌, ◌<◌}
 use native.Mathlib.Omega.{arith}
 use lib.Dec.{leb}
-use lib.ListN.{length, take, drop, get_elem?}
+use lib.ListN.{length, take, drop}
 use lib.Seq.{length-take-le, take_at}
 use borrow.Author.Tests.{le-leb, leb-true}
 use Rattle.hash_parts.specs.Setting.{without_expiry}
@@ -196,7 +196,7 @@ module _ (H : List ℕ → ℕ) where
 
 -- ---- of every list of calls
 
-both_of : {A B : Type 0} {P : A → B → Type 0} {o : Option A} {p : Option B} (a : A) → Both P o p → o ≡ some a → (b : B) × P a b
+both_of : {A B : Type 0} {P : A → B → Type 0} {o : Option A} {p : Option B} (a : A) → Both P o p → o ≡ Some a → (b : B) × P a b
 both_of a both_none e = absurd (let z : ◌≡◌ {A = ℕ} 0 1 = cc in omega arith)
 both_of {P = P} a (both_some {a = c} {b = b} x) e = let same : c ≡ a = cc in (b, rw same at x)
 
@@ -215,14 +215,14 @@ module _ (empty : List ℕ) (calls : List (Call (List ℕ) ℕ)) where
         (h.0, h.1, at_end h.0 h.1 calls (unopened empty) before (unopened_holds h.0 empty without_expiry) h.2)
 
     -- the writer refuses a set of the list with nothing but 10, and only where the file is longer than the area lent
-    pub write_by_the_list : (j : ℕ) (s : FinishedSet) → get_elem? end.sets j ≡ some s → (out : List ℕ)
+    pub write_by_the_list : (j : ℕ) (s : FinishedSet) → slice_get end.sets j ≡ Some s → (out : List ℕ)
         → (write_in end s out).answer ≡ cond (leb (file_size s.cache s.areas.lengths) (length out)) (accept (file_size s.cache s.areas.lengths)) (refuse 10 tt)
     write_by_the_list j s e out =
         let y = both_of s (pairs_get j ends.2.sets) e in
         write_answered ends.0 _ end.arena _ s y.0 y.1 out
 
     -- and the loader a file of the list with nothing but 10, for the areas lent
-    pub load_by_the_list : (i : ℕ) (file : List ℕ) → get_elem? end.files i ≡ some file → (arena : List ℕ) (a : Areas)
+    pub load_by_the_list : (i : ℕ) (file : List ℕ) → slice_get end.files i ≡ Some file → (arena : List ℕ) (a : Areas)
         → (load_in file arena a).answer
         ≡ cond (load_areas_hold file (length a.index) (length a.filter) (length a.starts) (length a.lengths) (length arena)) (accept (file_set file)) (refuse 10 tt)
     load_by_the_list i file e arena a =
@@ -230,7 +230,7 @@ module _ (empty : List ℕ) (calls : List (Call (List ℕ) ℕ)) where
         load_answered ends.0 file y.0 y.1 arena a
 
   -- a set of the list, written and loaded
-  module _ (j : ℕ) (s : FinishedSet) (is : get_elem? end.sets j ≡ some s) (out : List ℕ) (n : ℕ) (written : (write_in end s out).answer ≡ accept n)
+  module _ (j : ℕ) (s : FinishedSet) (is : slice_get end.sets j ≡ Some s) (out : List ℕ) (n : ℕ) (written : (write_in end s out).answer ≡ accept n)
       (arena : List ℕ) (a : Areas) (s' : FrozenSegmentCache) (loaded : (load_in (take n (write_in end s out).file) arena a).answer ≡ accept s') where
     -- what the writer left, and what the loader leaves
     abbrev file : List ℕ
@@ -244,7 +244,7 @@ module _ (empty : List ℕ) (calls : List (Call (List ℕ) ℕ)) where
 
     -- "the same lookups": for any key, hash and tick, where equal keys carry equal hashes with this lookup too
     pub same_lookups : (key : List ℕ) (h tick : ℕ) → EqualHashes (lookup j key h tick ∷ calls) → Hashes64 (lookup j key h tick ∷ calls) → TypedSettings calls
-        → answer_of o.arena (after_get s' h key tick o.index o.filter o.starts o.lengths o.arena).answer ≡ answer_from end (some s) key h tick
+        → answer_of o.arena (after_get s' h key tick o.index o.filter o.starts o.lengths o.arena).answer ≡ answer_from end (Some s) key h tick
     same_lookups key h tick equal small typed =
         let g = hashed (lookup j key h tick ∷ calls) equal small (tt, typed) in
         let H : List ℕ → ℕ = g.0 in

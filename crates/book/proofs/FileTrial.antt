@@ -1,5 +1,6 @@
 -- The definitions run: a list of calls with writes and loads, computed. Each of the wrong programs of files that changes an answer of a list breaks one of
 -- these equations. Assumes nothing.
+use Rattle.std.specs.Prelude.{None, Some}
 use mathlib.Core.Path.{◌≡◌, refl}
 use mathlib.Core.Bool.{Bool, true, false}
 use mathlib.Core.List.{List, [], ◌∷◌, flat_map, map}
@@ -9,10 +10,9 @@ use Rattle.hash_parts.specs.Duration as duration
 use Rattle.hash_parts.specs.Hash as hash
 use Rattle.hash_parts.specs.Setting.{without_expiry}
 use Rattle.hash_parts.specs.ZeroBytes as bytes
-use Rattle.hash_parts.specs.declared.duration.Lifetime.TheVariants.{Never, For}
 use Rattle.hash_parts.specs.declared.setting.SegmentCacheConfig.{SegmentCacheConfig}
 use Rattle.hash_parts.specs.declared.setting.SegmentExpiry.{SegmentExpiry}
-use Rattle.hash_parts.specs.declared.setting.SegmentExpiry.TheVariants.{None, Relative16}
+use Rattle.hash_parts.specs.declared.setting.SegmentExpiry.TheVariants as setting
 use Rattle.records.specs.Area as area
 use Rattle.records.specs.Record as stored
 use Rattle.records.specs.Uleb128 as uleb
@@ -40,12 +40,12 @@ use Rattle.book.specs.Calls.{Call, opening, push, finish, lookup, reopen, reuse,
 use Rattle.book.specs.World.{FinishedSet, unopened, world_after, told, answers}
 
 -- one record to a bucket, eight filter bits to a record
-abbrev setting : SegmentExpiry → Bool → SegmentCacheConfig
-setting expiry packed = record { expiry = expiry; target_occupied_slots = 1; packed_bucket_index = packed; negative_filter_bits_per_entry = 8 }
+abbrev config : SegmentExpiry → Bool → SegmentCacheConfig
+config expiry packed = record { expiry = expiry; target_occupied_slots = 1; packed_bucket_index = packed; negative_filter_bits_per_entry = 8 }
 
 -- areas and an arena of arbitrary content
 abbrev begin : SegmentExpiry → Bool → Call (List ℕ) ℕ
-begin expiry packed = opening (setting expiry packed) 2 (replicate 40 8) (replicate 17 7) (replicate 2 9) (replicate 257 5) (replicate 256 5)
+begin expiry packed = opening (config expiry packed) 2 (replicate 40 8) (replicate 17 7) (replicate 2 9) (replicate 257 5) (replicate 256 5)
 
 abbrev taking : ℕ → Call (List ℕ) ℕ
 taking i = load i (replicate 30 6) (replicate 17 3) (replicate 1 4) (replicate 256 2) (replicate 257 1)
@@ -55,15 +55,15 @@ taking i = load i (replicate 30 6) (replicate 17 3) (replicate 1 4) (replicate 2
 -- and the first file once more.
 abbrev calls : Bool → List (Call (List ℕ) ℕ)
 calls packed =
-    begin (Relative16 record { secs = 1; nanos = 0 }) packed
-    ∷ push (2 ∷ []) [] (2 ^ 63) Never
-    ∷ push (1 ∷ []) (65 ∷ 66 ∷ []) 3 (For record { secs = 9; nanos = 500_000_000 })
+    begin (setting.Relative16 record { secs = 1; nanos = 0 }) packed
+    ∷ push (2 ∷ []) [] (2 ^ 63) None
+    ∷ push (1 ∷ []) (65 ∷ 66 ∷ []) 3 (Some record { secs = 9; nanos = 500_000_000 })
     ∷ finish 5 (1 ∷ 2 ∷ 3 ∷ [])
     ∷ lookup 0 (1 ∷ []) 3 9
     ∷ write 0 (replicate 237 0)
     ∷ write 0 (replicate 239 0)
     ∷ write 1 (replicate 239 0)
-    ∷ begin None packed
+    ∷ begin setting.None packed
     ∷ lookup 0 (1 ∷ []) 3 9
     ∷ taking 1
     ∷ taking 0
@@ -72,7 +72,7 @@ calls packed =
     ∷ lookup 0 (2 ∷ []) (2 ^ 63) 0
     ∷ reopen 2 1 (0 ∷ 1 ∷ []) 5 (replicate 17 7) (replicate 2 9) (replicate 257 5) (replicate 256 5)
     ∷ reuse (1 ∷ []) (65 ∷ 66 ∷ []) 3 (2 ^ 32) 4
-    ∷ copy (4 ∷ []) (68 ∷ []) 6 (For record { secs = 1; nanos = 0 })
+    ∷ copy (4 ∷ []) (68 ∷ []) 6 (Some record { secs = 1; nanos = 0 })
     ∷ refinish (1 ∷ 2 ∷ 3 ∷ [])
     ∷ write 1 (replicate 300 0)
     ∷ write 0 (replicate 300 0)

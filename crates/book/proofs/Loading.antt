@@ -8,7 +8,6 @@ use lib.ListN.{length, take}
 use Rattle.hash_parts.specs.declared.setting.SegmentCacheConfig.{SegmentCacheConfig}
 use Rattle.hash_parts.specs.declared.setting.SegmentExpiry.{SegmentExpiry}
 use Rattle.index.specs.Filter.{filter_has}
-use Rattle.index.specs.declared.slot.IndexSlot.{IndexSlot}
 use Rattle.index.proofs.Contents.{stored_in}
 use Rattle.index.proofs.Entries.{Indexed, reheld}
 use Rattle.index.proofs.Flat.{index_slots}
@@ -18,6 +17,7 @@ use Rattle.book.specs.Book.{Entry, ListedSet}
 use Rattle.book.specs.World.{FinishedSet}
 use Rattle.book.proofs.Keys.{stored_of}
 use Rattle.book.proofs.Relation.{SetHolds, SegmentsHold}
+use Rattle.index.specs.Slot.{IndexSlot}
 
 -- other slots that are the same, and a filter that answers alike
 refiltered : {H : List ℕ → ℕ} {packed : Bool} {Holds : ℕ → Entry → Type 0} {buckets : ℕ} (slots slots' : List IndexSlot) (filter filter' : List ℕ) (words : ℕ) {r : List Entry}

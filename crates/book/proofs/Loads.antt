@@ -1,8 +1,8 @@
 -- A load of a written file keeps the relation: its set holds to the list that was noted at the write. Assumes nothing.
+use Rattle.std.specs.Prelude.{Some}
 use mathlib.Core.Path.{◌≡◌, refl, sym, ap, ap₂, subst, ◌∙◌}
 use mathlib.Core.Bool.{Bool}
 use mathlib.Core.List.{List, [], ◌∷◌}
-use mathlib.Core.Option.{some}
 use Prim.Native.Nat.{ℕ, zero, suc, ◌+◌, ◌*◌, ◌/◌, ◌^◌, ◌≤◌, ◌<◌}
 use native.Mathlib.Omega.{arith}
 use lib.ListN.{length, take, drop, length-drop}
@@ -100,7 +100,7 @@ segments_loaded f starts lengths a held =
 -- ---- the file of a set that holds, loaded
 
 -- no entry stands at no location
-nowhere_stored : (s : FrozenSegmentCache) (arena starts lengths : List ℕ) (e : Entry) → stored_in (view_of s) arena starts lengths 0 ≡ some (stored_of e) → ⊥
+nowhere_stored : (s : FrozenSegmentCache) (arena starts lengths : List ℕ) (e : Entry) → stored_in (view_of s) arena starts lengths 0 ≡ Some (stored_of e) → ⊥
 unfolding stored_in record_in
 nowhere_stored s arena starts lengths e q = let z : ◌≡◌ {A = ℕ} 0 1 = cc in omega arith
 
@@ -126,7 +126,7 @@ module _ (H : List ℕ → ℕ) (bound : (key : List ℕ) → H key < 2 ^ 64) (l
       let long : length (file_index f) ≡ 8 * s.buckets = index_long f fa ∙ ap (λ (n : ℕ). 8 * n) b in
       slots_front s.buckets (file_index f) (drop (length (file_index f)) area) long packed
       ∙ ap (index_slots packed s.buckets) (index_back s a.index a.filter a.starts a.lengths arena out ok.typed asked)
-      ∙ slots_loaded stored_of H (λ m e. stored_in (view_of s) arena a.starts a.lengths m ≡ some (stored_of e)) (nowhere_stored s arena a.starts a.lengths) packed s.buckets
+      ∙ slots_loaded stored_of H (λ m e. stored_in (view_of s) arena a.starts a.lengths m ≡ Some (stored_of e)) (nowhere_stored s arena a.starts a.lengths) packed s.buckets
       (take (8 * s.buckets) a.index) (length-take-le (8 * s.buckets) a.index asked.index_holds) {table = ok.index.table} (rw taken ok.index.cells)
       ∙ taken
 

@@ -1,14 +1,13 @@
 -- The four calls of a rebuild keep the relation of world and book. Assumes nothing.
+use Rattle.std.specs.Prelude.{Option}
 use mathlib.Core.Path.{◌≡◌, refl, sym, ap, ◌∙◌}
 use mathlib.Core.Bool.{true, cond}
 use mathlib.Core.List.{List}
-use mathlib.Core.Option.{Option}
 use Prim.Native.Nat.{ℕ, ◌+◌, ◌^◌, ◌≤◌, ◌<◌}
 use native.Mathlib.Omega.{arith}
 use lib.ListN.{length, take}
 use lib.Seq.{take-take, length-take-le}
 use Rattle.hash_parts.specs.Duration.{encoded_expiry}
-use Rattle.hash_parts.specs.declared.duration.Lifetime.{Lifetime}
 use Rattle.hash_parts.specs.declared.setting.SegmentExpiry.{SegmentExpiry}
 use Rattle.records.specs.Area.{pasted}
 use Rattle.records.specs.Record.{record_bytes, record_size}
@@ -35,6 +34,7 @@ use Rattle.book.proofs.Refinishing.{rebuild_finish}
 use Rattle.book.proofs.Relation.{SetHolds, CurrentHolds, is_rebuilding, Holds}
 use Rattle.book.proofs.Reopening.{rebuild_open}
 use Rattle.book.proofs.Reusing.{rebuild_reuse}
+use Rattle.hash_parts.specs.declared.duration.Duration.{Duration}
 
 module _ (H : List ℕ → ℕ) where
   -- ---- rebuild open: the tape is cut to the newest set's filled bytes
@@ -101,7 +101,7 @@ module _ (H : List ℕ → ℕ) where
 
   -- ---- copied push
 
-  pub copy_holds : (w : World) (k : Book) → Holds H w k → (c : Current) → CurrentHolds H (length w.arena) k c → (key value : List ℕ) (h : ℕ) (ttl : Lifetime) → h ≡ H key → h < 2 ^ 64
+  pub copy_holds : (w : World) (k : Book) → Holds H w k → (c : Current) → CurrentHolds H (length w.arena) k c → (key value : List ℕ) (h : ℕ) (ttl : Option Duration) → h ≡ H key → h < 2 ^ 64
       → Holds H (copy_step w c key value h ttl).after (heard k (copy key value h ttl, (copy_step w c key value h ttl).accepted))
   copy_holds w k m idle ok key value h ttl hash bound = m
   copy_holds w k m (building b a) ok key value h ttl hash bound = m

@@ -1,10 +1,10 @@
 -- An accepted rebuild finish makes of what the open rebuild stands for what the rebuilt set stands for: every entry is read in its segment, the copied ones
 -- in the last. Assumes nothing.
+use Rattle.std.specs.Prelude.{Some}
 use mathlib.Core.Path.{◌≡◌, refl, sym, ap, ap₂, ◌∙◌}
 use mathlib.Core.Bool.{Bool, true, false, cond}
 use mathlib.Core.List.{List, [], ◌∷◌, ◌++◌}
 use mathlib.Core.Logic.{◌≢◌}
-use mathlib.Core.Option.{some}
 use Prim.Native.Nat.{ℕ, zero, suc, ◌+◌, ◌-◌, ◌*◌, ◌/◌, ◌%◌, ◌^◌, ◌≤◌, ◌<◌}
 use native.Mathlib.Omega.{arith}
 use lib.Dec.{eqb, ltb}
@@ -79,7 +79,7 @@ module _ (view : SegmentView) (tape arena starts lengths S L : List ℕ) (base n
     (news : base < length tape → (n < view.segments) × (get_or S n 0 ≡ base) × (get_or L n 0 ≡ length tape - base)) where
   -- in one segment
   in_one : (g o : ℕ) (e : Entry) → o < 2 ^ 32 → g < view.segments → get_or S g 0 + get_or L g 0 ≤ length tape
-      → stored_at view.expiry (part (get_or S g 0) (get_or L g 0) tape) o ≡ some (stored_of e) → stored_in view arena S L (g * 2 ^ 32 + o + 1) ≡ some (stored_of e)
+      → stored_at view.expiry (part (get_or S g 0) (get_or L g 0) tape) o ≡ Some (stored_of e) → stored_in view arena S L (g * 2 ^ 32 + o + 1) ≡ Some (stored_of e)
   in_one g o e p q h f = rw plus (stored_segment view arena S L location (stored_of e) is_segment_law fits reads)
     where
       location : ℕ
@@ -97,10 +97,10 @@ module _ (view : SegmentView) (tape arena starts lengths S L : List ℕ) (base n
       fits : get_or S (location / 2 ^ 32) 0 + get_or L (location / 2 ^ 32) 0 ≤ length (take view.filled arena)
       fits = rw (parts.0, memory) h
 
-      reads : stored_at view.expiry (part (get_or S (location / 2 ^ 32) 0) (get_or L (location / 2 ^ 32) 0) (take view.filled arena)) (location % 2 ^ 32) ≡ some (stored_of e)
+      reads : stored_at view.expiry (part (get_or S (location / 2 ^ 32) 0) (get_or L (location / 2 ^ 32) 0) (take view.filled arena)) (location % 2 ^ 32) ≡ Some (stored_of e)
       reads = rw (parts.0, parts.1, memory) f
 
-  rests_read : (l : ℕ) (e : Entry) → Rests view.expiry tape base n starts lengths l e → stored_in view arena S L l ≡ some (stored_of e)
+  rests_read : (l : ℕ) (e : Entry) → Rests view.expiry tape base n starts lengths l e → stored_in view arena S L l ≡ Some (stored_of e)
   rests_read l e (rests_kept g o p q h f) =
       let z = olds g q in
       in_one g o e p z.0 (rw (z.1, z.2) h) (rw (z.1, z.2) f)
@@ -198,9 +198,9 @@ module _ (H : List ℕ → ℕ) where
           sum_more n (set a.lengths n copied)
           ∙ ap₂ (λ (x y : ℕ). x + y) (sum_set a.lengths n n copied (omega arith)) (get_or-set_same a.lengths n copied 0 (omega (arith, few true q, asked.areas.lengths_hold)))
       total false q =
-          let none : copied ≡ 0 = adds_none n copied q in
+          let None : copied ≡ 0 = adds_none n copied q in
           let plus : n + 0 ≡ n = omega arith in
-          ap (λ (i : ℕ). sum_of i a.lengths) plus ∙ omega (arith, none)
+          ap (λ (i : ℕ). sum_of i a.lengths) plus ∙ omega (arith, None)
 
       olds : (t : Bool) (g : ℕ) → g < n → (g < N t) × (get_or (S t) g 0 ≡ get_or a.starts g 0) × (get_or (L t) g 0 ≡ get_or a.lengths g 0)
       olds true g h =

@@ -1,9 +1,9 @@
 -- How the world and the book go together: what an open builder or rebuild, a finished set and their areas are to the book's lists and tape, and a file to the
 -- list that was noted for it. Assumes nothing.
+use Rattle.std.specs.Prelude.{Some}
 use mathlib.Core.Path.{◌≡◌}
 use mathlib.Core.Bool.{true, false}
 use mathlib.Core.List.{List, Forall₂}
-use mathlib.Core.Option.{some}
 use Prim.Native.Nat.{ℕ, ◌+◌, ◌-◌, ◌*◌, ◌^◌, ◌≤◌, ◌<◌}
 use lib.ListN.{length, take, get_or}
 use Rattle.hash_parts.specs.declared.setting.SegmentExpiry.{SegmentExpiry}
@@ -34,7 +34,7 @@ use Rattle.book.proofs.Standing.{Every, places, Stands, Written}
 -- records, which follow the first `base` bytes of the tape and whose segment is not in the areas before finish.
 pub data Rests (x : SegmentExpiry) (tape : List ℕ) (base n : ℕ) (starts lengths : List ℕ) : ℕ → Entry → Type 0 where
   rests_kept : {e : Entry} (g o : ℕ) → o < 2 ^ 32 → g < n → get_or starts g 0 + get_or lengths g 0 ≤ length tape
-      → stored_at x (part (get_or starts g 0) (get_or lengths g 0) tape) o ≡ some (stored_of e) → Rests x tape base n starts lengths (g * 2 ^ 32 + o + 1) e
+      → stored_at x (part (get_or starts g 0) (get_or lengths g 0) tape) o ≡ Some (stored_of e) → Rests x tape base n starts lengths (g * 2 ^ 32 + o + 1) e
   rests_copied : {e : Entry} → base ≤ e.at → Written x tape e → Rests x tape base n starts lengths (n * 2 ^ 32 + (e.at - base) + 1) e
 
 -- the segments of a finished set: each lies in its filled bytes; they add up to its record bytes, and to no more than the filled
@@ -81,7 +81,7 @@ module _ (H : List ℕ → ℕ) where
     pub starts : take s.cache.segments s.areas.starts ≡ l.starts
     pub passes : areas_hold_lookup s.cache (length s.areas.index) (length s.areas.filter) (length s.areas.starts) (length s.areas.lengths) (length arena) ≡ true
     pub index : Indexed stored_of H s.cache.config.packed_bucket_index
-        (λ m e. stored_in (view_of s.cache) arena s.areas.starts s.areas.lengths m ≡ some (stored_of e))
+        (λ m e. stored_in (view_of s.cache) arena s.areas.starts s.areas.lengths m ≡ Some (stored_of e))
         s.cache.buckets (index_slots s.cache.config.packed_bucket_index s.cache.buckets s.areas.index)
         s.areas.filter s.cache.filter_words l.list
 

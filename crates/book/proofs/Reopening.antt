@@ -1,8 +1,8 @@
 -- An accepted rebuild open: the rebuild stands for an empty list, and its kept segments are those of the newest set. Assumes nothing.
+use Rattle.std.specs.Prelude.{Some}
 use mathlib.Core.Path.{◌≡◌, refl, sym, ap, ◌∙◌}
 use mathlib.Core.Bool.{Bool, true, false, cond, not}
 use mathlib.Core.List.{List, [], ◌∷◌}
-use mathlib.Core.Option.{some}
 use Prim.Native.Nat.{ℕ, zero, suc, ◌+◌, ◌*◌, ◌≤◌, ◌<◌}
 use native.Mathlib.Omega.{arith}
 use lib.Dec.{eqb}
@@ -62,7 +62,7 @@ chosen_sum (f ∷ flags) (w ∷ words) = go (eqb f 0) (chosen_sum flags words)
     go false h = omega arith
 
 module _ (H : List ℕ → ℕ) where
-  pub rebuild_open : (s : FinishedSet) (l : ListedSet) (k : Book) (arena : List ℕ) (top : ℕ) → SetHolds H k.expiry arena top s l → newest k.sets ≡ some l → l.filled ≤ length k.tape
+  pub rebuild_open : (s : FinishedSet) (l : ListedSet) (k : Book) (arena : List ℕ) (top : ℕ) → SetHolds H k.expiry arena top s l → newest k.sets ≡ Some l → l.filled ≤ length k.tape
       → (records copied : ℕ) (flags : List ℕ) (tick : ℕ) (index filter starts lengths : List ℕ)
       → ReopenAsked s.cache s.areas.starts s.areas.lengths (length arena) records copied flags (length index) (length filter) (length starts) (length lengths)
       → rebuild_passes (rebuild_opened s.cache records flags tick) (length (cleared index (8 * buckets_in s.cache.config records)))

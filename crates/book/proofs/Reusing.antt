@@ -1,8 +1,8 @@
 -- An accepted reused push keeps what the open rebuild stands for: its entry, which stands in a kept segment, joins the list. Assumes nothing.
+use Rattle.std.specs.Prelude.{Some}
 use mathlib.Core.Path.{◌≡◌, ap, ◌∙◌}
 use mathlib.Core.Bool.{true}
 use mathlib.Core.List.{List}
-use mathlib.Core.Option.{some}
 use Prim.Native.Nat.{ℕ, ◌+◌, ◌/◌, ◌%◌, ◌^◌, ◌≤◌, ◌<◌}
 use native.Mathlib.Omega.{arith}
 use lib.ListN.{length, take, set, get_or, length-take}
@@ -96,4 +96,4 @@ module _ (H : List ℕ → ℕ) where
       rests : Rests x k.tape r.source_filled (retained r.kept) a.starts a.lengths (moved_location r source.location + 1) e
       rests =
           rests_kept g o (omega arith) shown.number shown.inside
-          (rw ok.expiry at shown.reads ∙ ap (λ (s : ℕ). some record { key = key; value = value; deadline = deadline_on x k.tape (s + o) }) (ok.sourced from asked.kept))
+          (rw ok.expiry at shown.reads ∙ ap (λ (s : ℕ). Some record { key = key; value = value; deadline = deadline_on x k.tape (s + o) }) (ok.sourced from asked.kept))

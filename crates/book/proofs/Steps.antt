@@ -1,13 +1,12 @@
 -- Every call keeps the relation of world and book, and a lookup's answer is the book's. Assumes nothing.
+use Rattle.std.specs.Prelude.{None, Option, Some, slice_get}
 use mathlib.Core.Path.{◌≡◌, refl, sym, ap, ◌∙◌}
 use mathlib.Core.Bool.{Bool, true, false, cond}
 use mathlib.Core.List.{List, [], ◌∷◌, Forall₂}
-use mathlib.Core.Option.{Option, none, some}
 use Prim.Native.Nat.{ℕ, ◌^◌, ◌≤◌, ◌<◌}
 use native.Mathlib.Omega.{arith}
-use lib.ListN.{length, get_elem?}
+use lib.ListN.{length}
 use Rattle.hash_parts.specs.Duration.{encoded_expiry}
-use Rattle.hash_parts.specs.declared.duration.Lifetime.{Lifetime}
 use Rattle.hash_parts.specs.declared.setting.SegmentCacheConfig.{SegmentCacheConfig}
 use Rattle.hash_parts.specs.declared.setting.SegmentExpiry.{SegmentExpiry}
 use Rattle.records.specs.Area.{pasted}
@@ -40,6 +39,7 @@ use Rattle.book.proofs.Pushing.{new_back, builder_push}
 use Rattle.book.proofs.RebuildSteps.{reopen_holds, reuse_holds, copy_holds, refinish_holds}
 use Rattle.book.proofs.Relation.{SetHolds, FileHolds, CurrentHolds, is_idle, is_building, is_rebuilding, Holds}
 use Rattle.book.proofs.Standing.{every_nil}
+use Rattle.hash_parts.specs.declared.duration.Duration.{Duration}
 
 -- a call that the book notes nothing of
 pub same_heard : (k : Book) (t : Bool) → cond t k k ≡ k
@@ -70,7 +70,7 @@ current_filed H (rebuilding r a) (is_rebuilding y) =
 module _ (H : List ℕ → ℕ) where
   -- ---- push
 
-  push_holds : (w : World) (k : Book) → Holds H w k → (c : Current) → CurrentHolds H (length w.arena) k c → (key value : List ℕ) (h : ℕ) (ttl : Lifetime) → h ≡ H key → h < 2 ^ 64
+  push_holds : (w : World) (k : Book) → Holds H w k → (c : Current) → CurrentHolds H (length w.arena) k c → (key value : List ℕ) (h : ℕ) (ttl : Option Duration) → h ≡ H key → h < 2 ^ 64
       → Holds H (push_step w c key value h ttl).after (heard k (push key value h ttl, (push_step w c key value h ttl).accepted))
   push_holds w k m idle ok key value h ttl hash bound = m
   push_holds w k m (rebuilding r a) ok key value h ttl hash bound = m
@@ -141,10 +141,10 @@ module _ (H : List ℕ → ℕ) where
 
   -- ---- lookup, peek, mark clearing
 
-  lookup_holds : (w : World) (k : Book) → Holds H w k → (j : ℕ) (o : Option FinishedSet) → get_elem? w.sets j ≡ o → (key : List ℕ) (h tick : ℕ) → h < 2 ^ 64
+  lookup_holds : (w : World) (k : Book) → Holds H w k → (j : ℕ) (o : Option FinishedSet) → slice_get w.sets j ≡ o → (key : List ℕ) (h tick : ℕ) → h < 2 ^ 64
       → Holds H (lookup_step w j o key h tick).after k
-  lookup_holds w k m j none e key h tick bound = m
-  lookup_holds w k m j (some s) e key h tick bound =
+  lookup_holds w k m j None e key h tick bound = m
+  lookup_holds w k m j (Some s) e key h tick bound =
       record {
         memory = m.memory;
         top = m.top;
@@ -153,17 +153,17 @@ module _ (H : List ℕ → ℕ) where
         files = m.files;
       }
 
-  peek_holds : (w : World) (k : Book) → Holds H w k → (j : ℕ) (o : Option FinishedSet) → get_elem? w.sets j ≡ o → (key : List ℕ) (h tick : ℕ)
+  peek_holds : (w : World) (k : Book) → Holds H w k → (j : ℕ) (o : Option FinishedSet) → slice_get w.sets j ≡ o → (key : List ℕ) (h tick : ℕ)
       → Holds H (peek_step w j o key h tick).after k
   unfolding after_peek
-  peek_holds w k m j none e key h tick = m
-  peek_holds w k m j (some s) e key h tick =
+  peek_holds w k m j None e key h tick = m
+  peek_holds w k m j (Some s) e key h tick =
       record { memory = m.memory; top = m.top; current = m.current; sets = pairs_put j s _ e (λ l ok. ok) m.sets; files = m.files }
 
-  clear_holds : (w : World) (k : Book) → Holds H w k → (j : ℕ) (o : Option FinishedSet) → get_elem? w.sets j ≡ o → (key : List ℕ) (h : ℕ) → h < 2 ^ 64
+  clear_holds : (w : World) (k : Book) → Holds H w k → (j : ℕ) (o : Option FinishedSet) → slice_get w.sets j ≡ o → (key : List ℕ) (h : ℕ) → h < 2 ^ 64
       → Holds H (clear_step w j o key h).after k
-  clear_holds w k m j none e key h bound = m
-  clear_holds w k m j (some s) e key h bound =
+  clear_holds w k m j None e key h bound = m
+  clear_holds w k m j (Some s) e key h bound =
       record {
         memory = m.memory;
         top = m.top;
@@ -175,16 +175,16 @@ module _ (H : List ℕ → ℕ) where
   -- ---- probe, walk, statistics
 
   probe_holds : (w : World) (k : Book) → Holds H w k → (o : Option FinishedSet) (key : List ℕ) (h tick : ℕ) → Holds H (probe_step w o key h tick).after k
-  probe_holds w k m none key h tick = m
-  probe_holds w k m (some s) key h tick = m
+  probe_holds w k m None key h tick = m
+  probe_holds w k m (Some s) key h tick = m
 
   walk_holds : (w : World) (k : Book) → Holds H w k → (o : Option FinishedSet) (slot tick : ℕ) → Holds H (walk_step w o slot tick).after k
-  walk_holds w k m none slot tick = m
-  walk_holds w k m (some s) slot tick = m
+  walk_holds w k m None slot tick = m
+  walk_holds w k m (Some s) slot tick = m
 
   stats_holds : (w : World) (k : Book) → Holds H w k → (o : Option FinishedSet) → Holds H (stats_step w o).after k
-  stats_holds w k m none = m
-  stats_holds w k m (some s) = m
+  stats_holds w k m None = m
+  stats_holds w k m (Some s) = m
 
   -- ---- answers
 
@@ -247,7 +247,7 @@ module _ (H : List ℕ → ℕ) where
   write_holds w k m both_none out = m
   write_holds w k m (both_some {a = s} {b = l} ok) out = go (write_in w s out).answer refl
     where
-      go : (r : Reply ℕ (Unit {0})) → (write_in w s out).answer ≡ r → Holds H (filed_as w (write_in w s out).file r) (cond (is_accepted r) (filed k (some l)) k)
+      go : (r : Reply ℕ (Unit {0})) → (write_in w s out).answer ≡ r → Holds H (filed_as w (write_in w s out).file r) (cond (is_accepted r) (filed k (Some l)) k)
       go (refuse n u) e = m
       go (accept n) e =
           record {
@@ -265,7 +265,7 @@ module _ (H : List ℕ → ℕ) where
   load_holds below w k m both_none arena a = m
   load_holds below w k m (both_some {a = file} {b = l} ok) arena a = go (load_in file arena a).answer refl
     where
-      go : (r : Reply FrozenSegmentCache (Unit {0})) → (load_in file arena a).answer ≡ r → Holds H (loaded_as w (load_in file arena a) r) (cond (is_accepted r) (unfiled k (some l) file) k)
+      go : (r : Reply FrozenSegmentCache (Unit {0})) → (load_in file arena a).answer ≡ r → Holds H (loaded_as w (load_in file arena a) r) (cond (is_accepted r) (unfiled k (Some l) file) k)
       go (refuse n u) e = m
       go (accept s) e =
           let y = loads H below file l ok arena a s e in
@@ -298,14 +298,14 @@ module _ (H : List ℕ → ℕ) where
   step_holds below w k m (push key value h ttl) hs = push_holds w k m w.current m.current key value h ttl hs.0 hs.1
   step_holds below w k m (finish target scratch) hs = finish_holds w k m w.current m.current target scratch
   step_holds below w k m (lookup j key h tick) hs =
-      rw (same_heard k (lookup_step w j (get_elem? w.sets j) key h tick).accepted) (lookup_holds w k m j (get_elem? w.sets j) refl key h tick hs.1)
+      rw (same_heard k (lookup_step w j (slice_get w.sets j) key h tick).accepted) (lookup_holds w k m j (slice_get w.sets j) refl key h tick hs.1)
   step_holds below w k m (peek j key h tick) hs =
-      rw (same_heard k (peek_step w j (get_elem? w.sets j) key h tick).accepted) (peek_holds w k m j (get_elem? w.sets j) refl key h tick)
-  step_holds below w k m (clear j key h) hs = rw (same_heard k (clear_step w j (get_elem? w.sets j) key h).accepted) (clear_holds w k m j (get_elem? w.sets j) refl key h hs.1)
+      rw (same_heard k (peek_step w j (slice_get w.sets j) key h tick).accepted) (peek_holds w k m j (slice_get w.sets j) refl key h tick)
+  step_holds below w k m (clear j key h) hs = rw (same_heard k (clear_step w j (slice_get w.sets j) key h).accepted) (clear_holds w k m j (slice_get w.sets j) refl key h hs.1)
   step_holds below w k m (probe j key h tick) hs =
-      rw (same_heard k (probe_step w (get_elem? w.sets j) key h tick).accepted) (probe_holds w k m (get_elem? w.sets j) key h tick)
-  step_holds below w k m (walk j slot tick) hs = rw (same_heard k (walk_step w (get_elem? w.sets j) slot tick).accepted) (walk_holds w k m (get_elem? w.sets j) slot tick)
-  step_holds below w k m (stats j) hs = rw (same_heard k (stats_step w (get_elem? w.sets j)).accepted) (stats_holds w k m (get_elem? w.sets j))
+      rw (same_heard k (probe_step w (slice_get w.sets j) key h tick).accepted) (probe_holds w k m (slice_get w.sets j) key h tick)
+  step_holds below w k m (walk j slot tick) hs = rw (same_heard k (walk_step w (slice_get w.sets j) slot tick).accepted) (walk_holds w k m (slice_get w.sets j) slot tick)
+  step_holds below w k m (stats j) hs = rw (same_heard k (stats_step w (slice_get w.sets j)).accepted) (stats_holds w k m (slice_get w.sets j))
   step_holds below w k m (reopen records copied flags tick index filter starts lengths) hs = reopen_holds H w k m records copied flags tick index filter starts lengths
   step_holds below w k m (reuse key value h location header) hs =
       reuse_holds H w k m w.current m.current key value h record { location = location; header_bytes = header } hs.0 hs.1

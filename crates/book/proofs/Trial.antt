@@ -1,5 +1,6 @@
 -- The definitions run: lists of calls, from nothing on, computed. Each of the must-fail edits that changes an answer of a list breaks one of these equations.
 -- Assumes nothing.
+use Rattle.std.specs.Prelude.{None, Some}
 use mathlib.Core.Path.{◌≡◌, refl}
 use mathlib.Core.Bool.{Bool, true, false}
 use mathlib.Core.List.{List, [], ◌∷◌, ◌++◌, flat_map, map}
@@ -9,7 +10,6 @@ use Rattle.hash_parts.specs.Duration as duration
 use Rattle.hash_parts.specs.Hash as hash
 use Rattle.hash_parts.specs.Setting.{without_expiry, with_relative_expiry}
 use Rattle.hash_parts.specs.ZeroBytes as bytes
-use Rattle.hash_parts.specs.declared.duration.Lifetime.TheVariants.{Never, For}
 use Rattle.hash_parts.specs.declared.setting.SegmentCacheConfig.{SegmentCacheConfig}
 use Rattle.hash_parts.specs.declared.setting.SegmentExpiry.TheVariants.{Relative16}
 use Rattle.records.specs.Area as area
@@ -82,12 +82,12 @@ abbrev build_calls : Bool → List (Call (List ℕ) ℕ)
 build_calls packed =
     opens (setting 0 packed) 3
     ∷ opens (setting 1 packed) 3
-    ∷ push (1 ∷ []) (65 ∷ 66 ∷ []) 3 (For record { secs = 9; nanos = 500_000_000 })
-    ∷ push (1 ∷ []) (67 ∷ []) 3 Never
-    ∷ push [] [] (2 ^ 63) Never
+    ∷ push (1 ∷ []) (65 ∷ 66 ∷ []) 3 (Some record { secs = 9; nanos = 500_000_000 })
+    ∷ push (1 ∷ []) (67 ∷ []) 3 None
+    ∷ push [] [] (2 ^ 63) None
     ∷ finish 8 (1 ∷ 2 ∷ 3 ∷ 4 ∷ [])
-    ∷ push (3 ∷ []) (68 ∷ []) 5 (For record { secs = 0; nanos = 0 })
-    ∷ push (4 ∷ []) [] 6 Never
+    ∷ push (3 ∷ []) (68 ∷ []) 5 (Some record { secs = 0; nanos = 0 })
+    ∷ push (4 ∷ []) [] 6 None
     ∷ finish 0 (1 ∷ 2 ∷ 3 ∷ 4 ∷ [])
     ∷ lookup 0 (1 ∷ []) 3 9
     ∷ finish 8 (1 ∷ 2 ∷ 3 ∷ 4 ∷ [])
@@ -98,7 +98,7 @@ build_calls packed =
     ∷ lookup 0 (9 ∷ []) 3 0
     ∷ clear 0 (1 ∷ []) 3
     ∷ peek 0 (1 ∷ []) 3 0
-    ∷ push (4 ∷ []) [] 6 Never
+    ∷ push (4 ∷ []) [] 6 None
     ∷ lookup 1 (1 ∷ []) 3 0
     ∷ probe 0 (9 ∷ []) 4 0
     ∷ walk 0 0 0
@@ -116,21 +116,21 @@ build_answers = absent ∷ value (65 ∷ 66 ∷ []) ∷ nothing ∷ value [] ∷
 abbrev rebuild_calls : Bool → List (Call (List ℕ) ℕ)
 rebuild_calls packed =
     opens (setting 1 packed) 2
-    ∷ push (2 ∷ []) [] (2 ^ 63) Never
+    ∷ push (2 ∷ []) [] (2 ^ 63) None
     ∷ reopens 1 0 [] 0
-    ∷ push (1 ∷ []) (65 ∷ 66 ∷ []) 3 (For record { secs = 9; nanos = 500_000_000 })
+    ∷ push (1 ∷ []) (65 ∷ 66 ∷ []) 3 (Some record { secs = 9; nanos = 500_000_000 })
     ∷ finish 5 (1 ∷ 2 ∷ 3 ∷ [])
     ∷ reopens 1 1 (1 ∷ 1 ∷ []) 3
-    ∷ copy (9 ∷ []) [] 7 Never
+    ∷ copy (9 ∷ []) [] 7 None
     ∷ reopens 3 1 (0 ∷ 4 ∷ []) 5
     ∷ reopens 3 1 (1 ∷ []) 5
     ∷ reuse (2 ∷ []) [] (2 ^ 63) 0 4
     ∷ reuse (1 ∷ []) (65 ∷ 67 ∷ []) 3 (2 ^ 32) 4
     ∷ reuse (1 ∷ []) (65 ∷ 66 ∷ []) 3 (2 ^ 32) 4
-    ∷ copy (1 ∷ []) (67 ∷ []) 3 Never
+    ∷ copy (1 ∷ []) (67 ∷ []) 3 None
     ∷ refinish (1 ∷ 2 ∷ 3 ∷ [])
-    ∷ copy (4 ∷ []) (68 ∷ []) 6 (For record { secs = 1; nanos = 0 })
-    ∷ copy (5 ∷ []) [] 8 Never
+    ∷ copy (4 ∷ []) (68 ∷ []) 6 (Some record { secs = 1; nanos = 0 })
+    ∷ copy (5 ∷ []) [] 8 None
     ∷ refinish (1 ∷ 2 ∷ 3 ∷ [])
     ∷ lookup 1 (1 ∷ []) 3 9
     ∷ lookup 1 (1 ∷ []) 3 10
@@ -170,7 +170,7 @@ rebuild_answers =
 -- third, and a lookup of it goes on after its second bucket only by the mark in the filter.
 abbrev displaced_calls : Bool → List (Call (List ℕ) ℕ)
 displaced_calls packed =
-    (opens (setting 7 packed) 2 ∷ push (1 ∷ []) [] 0 Never ∷ push (2 ∷ []) (65 ∷ []) 0 Never ∷ finish 4096 (1 ∷ []) ∷ reopens 17 0 (1 ∷ []) 0 ∷ [])
+    (opens (setting 7 packed) 2 ∷ push (1 ∷ []) [] 0 None ∷ push (2 ∷ []) (65 ∷ []) 0 None ∷ finish 4096 (1 ∷ []) ∷ reopens 17 0 (1 ∷ []) 0 ∷ [])
     ++ (replicate 16 (reuse (1 ∷ []) [] 0 0 4)
     ++ (reuse (2 ∷ []) (65 ∷ []) 0 5 4 ∷ refinish (1 ∷ 2 ∷ 3 ∷ []) ∷ lookup 1 (2 ∷ []) 0 0 ∷ lookup 1 (3 ∷ []) 0 0 ∷ []))
 
@@ -182,11 +182,11 @@ displaced_answers = value (65 ∷ []) ∷ nothing ∷ []
 abbrev example_calls : List (Call (List ℕ) ℕ)
 example_calls =
     opens (setting 1 false) 1
-    ∷ push (0x61 ∷ []) [] 1 Never
+    ∷ push (0x61 ∷ []) [] 1 None
     ∷ finish 1 []
     ∷ opening (with_relative_expiry record { secs = 1; nanos = 0 }) 2 (replicate 20 0) areas.index areas.filter areas.starts areas.lengths
-    ∷ push (0x61 ∷ []) (0x41 ∷ 0x42 ∷ []) 1 (For record { secs = 9; nanos = 500_000_000 })
-    ∷ push (0x62 ∷ []) [] 2 Never
+    ∷ push (0x61 ∷ []) (0x41 ∷ 0x42 ∷ []) 1 (Some record { secs = 9; nanos = 500_000_000 })
+    ∷ push (0x62 ∷ []) [] 2 None
     ∷ finish 4096 (0 ∷ [])
     ∷ lookup 0 (0x61 ∷ []) 1 9
     ∷ lookup 0 (0x61 ∷ []) 1 10

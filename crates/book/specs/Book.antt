@@ -2,13 +2,11 @@
 -- was accepted. It cites what the paper names, the deadline by Setting and the stored bytes, and nothing of how a lookup works. Of files it is document 02's,
 -- Change 2: a load's argument is the file's bytes, which the book reads by itself.
 -- Assumes nothing.
-use Rattle.std.specs.Prelude.{Bool, true, false, cond, List, [], ◌∷◌, ◌++◌, ℕ, zero, suc, ◌+◌, ◌*◌, ◌/◌, ◌%◌, ◌^◌, min, eqb, leb, ltb, length, take, drop, get_or}
-use Rattle.std.proofs.Math.Option.{Option, none, some}
-use Rattle.std.proofs.Math.ListN.{get_elem?}
+use Rattle.std.specs.Prelude.{Bool, true, false, cond, List, [], ◌∷◌, ◌++◌, ℕ, zero, suc, ◌+◌, ◌*◌, ◌/◌, ◌%◌, ◌^◌, min, eqb, leb, ltb, length, take, drop, get_or, None, Option, Some, slice_get}
 use Rattle.hash_parts.specs.Duration.{encoded_expiry}
 use Rattle.hash_parts.specs.declared.setting.SegmentCacheConfig.{SegmentCacheConfig}
 use Rattle.hash_parts.specs.declared.setting.SegmentExpiry.{SegmentExpiry}
-use Rattle.hash_parts.specs.declared.setting.SegmentExpiry.TheVariants.{None, Relative16}
+use Rattle.hash_parts.specs.declared.setting.SegmentExpiry.TheVariants as setting
 use Rattle.records.specs.Record.{record_bytes}
 use Rattle.book.specs.Calls.{Call, opening, push, finish, lookup, peek, clear, probe, walk, stats, reopen, reuse, copy, refinish, write, load, Answer, value, nothing, absent, newest}
 
@@ -51,34 +49,34 @@ blank config = record { expiry = config.expiry; tape = []; list = []; tick = 0; 
 -- none, no more."
 
 abbrev pub lower : ℕ → Option ℕ → Option ℕ
-lower a none = some a
-lower a (some b) = some (min a b)
+lower a None = Some a
+lower a (Some b) = Some (min a b)
 
 -- the lowest location of a list that is not below a bound
 abbrev pub lowest_from : ℕ → List Entry → Option ℕ
-lowest_from bound [] = none
+lowest_from bound [] = None
 lowest_from bound (e ∷ l) = cond (leb bound e.at) (lower e.at (lowest_from bound l)) (lowest_from bound l)
 
 -- the starts from one on, at most so many after it
 unfoldable pub starts_from : ℕ → ℕ → List Entry → Option ℕ → List ℕ
-starts_from zero target l none = []
-starts_from zero target l (some start) = start ∷ []
-starts_from (suc n) target l none = []
-starts_from (suc n) target l (some start) = start ∷ starts_from n target l (lowest_from (start + target) l)
+starts_from zero target l None = []
+starts_from zero target l (Some start) = start ∷ []
+starts_from (suc n) target l None = []
+starts_from (suc n) target l (Some start) = start ∷ starts_from n target l (lowest_from (start + target) l)
 
 -- the starts of a set's segments, at most 256
 unfoldable pub book_starts : ℕ → ℕ → List Entry → List ℕ
-book_starts filled target l = cond (leb filled target) (0 ∷ []) (starts_from 255 target l (some 0))
+book_starts filled target l = cond (leb filled target) (0 ∷ []) (starts_from 255 target l (Some 0))
 
 -- ---- the newest set
 
 abbrev pub starts_in : Option ListedSet → List ℕ
-starts_in none = []
-starts_in (some s) = s.starts
+starts_in None = []
+starts_in (Some s) = s.starts
 
 abbrev pub filled_in : Option ListedSet → ℕ
-filled_in none = 0
-filled_in (some s) = s.filled
+filled_in None = 0
+filled_in (Some s) = s.filled
 
 -- Questions: "keep flags .. (0 drops, else kept)"
 unfoldable pub kept_by : List ℕ → List ℕ → List ℕ
@@ -110,8 +108,8 @@ two_bytes tape at = get_or tape at 0 + 256 * get_or tape (at + 1) 0
 
 -- "65,535 with expiry off"
 abbrev pub deadline_on : SegmentExpiry → List ℕ → ℕ → ℕ
-deadline_on None tape at = 65535
-deadline_on (Relative16 tick) tape at = two_bytes tape (past_prefix tape (past_prefix tape at))
+deadline_on setting.None tape at = 65535
+deadline_on (setting.Relative16 tick) tape at = two_bytes tape (past_prefix tape (past_prefix tape at))
 
 -- ---- a file's bytes. Document 02, Change 2: "blocks, each a 4-byte length of its content, then a 2-byte kind, then the content, all little-endian. Kinds come
 -- once each, in order".
@@ -201,8 +199,8 @@ anew b config = record { expiry = config.expiry; tape = []; list = []; tick = 0;
 
 -- Document 02, Change 2: "Lookups in a loaded set are held to the list that its writer was given": at a write that list is noted, with the expiry
 abbrev pub filed : Book → Option ListedSet → Book
-filed b none = b
-filed b (some l) =
+filed b None = b
+filed b (Some l) =
     record {
       expiry = b.expiry;
       tape = b.tape;
@@ -215,8 +213,8 @@ filed b (some l) =
 
 -- "the load then stands in the build's place, and its book has kind 5 as tape, starts by kind 2"
 abbrev pub unfiled : Book → Option ListedFile → List ℕ → Book
-unfiled b none file = b
-unfiled b (some l) file =
+unfiled b None file = b
+unfiled b (Some l) file =
     record {
       expiry = l.expiry;
       tape = kind_content 4 file;
@@ -242,8 +240,8 @@ noted b (reopen records copied flags tick index filter starts lengths) = reopene
 noted b (reuse key v h location header) = rejoined b key v (place_of (starts_in (newest b.sets)) location)
 noted b (copy key v h lifetime) = joined b key v (encoded_expiry b.expiry lifetime b.tick).value
 noted b (refinish scratch) = closed b (rebuilt_starts b.kept (filled_in (newest b.sets)) (length b.tape))
-noted b (write j file) = filed b (get_elem? b.sets j)
-noted b (load file arena index filter starts lengths) = unfiled b (get_elem? b.written file.0) file.1
+noted b (write j file) = filed b (slice_get b.sets j)
+noted b (load file arena index filter starts lengths) = unfiled b (slice_get b.written file.0) file.1
 
 -- "Other and refused calls: nothing."
 abbrev pub heard : Book → Call (Unit {0}) (ℕ × List ℕ) × Bool → Book
@@ -265,25 +263,25 @@ same_key (x ∷ a) (y ∷ b) = cond (eqb x y) (same_key a b) false
 
 -- the first entry of a list that has the key
 abbrev pub first_of : List ℕ → List Entry → Option Entry
-first_of key [] = none
-first_of key (e ∷ l) = cond (same_key e.key key) (some e) (first_of key l)
+first_of key [] = None
+first_of key (e ∷ l) = cond (same_key e.key key) (Some e) (first_of key l)
 
 -- its value before its deadline, else nothing; "65,535 is no deadline, an empty value an answer"
 abbrev pub ruled : ℕ → Option Entry → Answer
-ruled tick none = nothing
-ruled tick (some e) = cond (eqb e.deadline 65535) (value e.value) (cond (ltb tick e.deadline) (value e.value) nothing)
+ruled tick None = nothing
+ruled tick (Some e) = cond (eqb e.deadline 65535) (value e.value) (cond (ltb tick e.deadline) (value e.value) nothing)
 
 -- the answer to a lookup or a peek in a set
 abbrev pub reply_from : Option ListedSet → List ℕ → ℕ → Answer
-reply_from none key tick = absent
-reply_from (some s) key tick = ruled tick (first_of key s.list)
+reply_from None key tick = absent
+reply_from (Some s) key tick = ruled tick (first_of key s.list)
 
 abbrev pub replied : Book → Call (Unit {0}) (ℕ × List ℕ) → List Answer
 replied b (opening config records arena index filter starts lengths) = []
 replied b (push key v h lifetime) = []
 replied b (finish target scratch) = []
-replied b (lookup j key h tick) = reply_from (get_elem? b.sets j) key tick ∷ []
-replied b (peek j key h tick) = reply_from (get_elem? b.sets j) key tick ∷ []
+replied b (lookup j key h tick) = reply_from (slice_get b.sets j) key tick ∷ []
+replied b (peek j key h tick) = reply_from (slice_get b.sets j) key tick ∷ []
 replied b (clear j key h) = []
 replied b (probe j key h tick) = []
 replied b (walk j slot tick) = []

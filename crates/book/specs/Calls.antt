@@ -1,10 +1,8 @@
 -- The calls that a list is made of, all of document 01's, peek, and document 02's writing and loading of a file; and what a lookup or a peek answers.
 -- Assumes nothing.
-use Rattle.std.specs.Prelude.{List, [], ◌∷◌, ℕ}
-use Rattle.std.proofs.Math.Option.{Option, none, some}
-use Rattle.std.proofs.Math.ListN.{get_elem?}
-use Rattle.hash_parts.specs.declared.duration.Lifetime.{Lifetime}
+use Rattle.std.specs.Prelude.{List, [], ◌∷◌, ℕ, None, Option, Some, slice_get}
 use Rattle.hash_parts.specs.declared.setting.SegmentCacheConfig.{SegmentCacheConfig}
+use Rattle.hash_parts.specs.declared.duration.Duration.{Duration}
 
 -- A call by its arguments, and the areas that are lent afresh with it, of any content; sets are numbered from 0, the oldest first. `Area` is what is known of
 -- an area: its content in the world, nothing in the book, whose calls have the type of one element there. `File` is what is known of the file that a load is
@@ -13,7 +11,7 @@ pub data Call (Area File : Type 0) : Type 0 where
   -- a builder is opened: setting, records, and the arena of a new line of sets; then index, filter, starts, lengths
   opening : SegmentCacheConfig → ℕ → Area → Area → Area → Area → Area → Call Area File
   -- key, value, hash, lifetime
-  push : List ℕ → List ℕ → ℕ → Lifetime → Call Area File
+  push : List ℕ → List ℕ → ℕ → Option Duration → Call Area File
   -- target, scratch
   finish : ℕ → Area → Call Area File
   -- set, key, hash, tick
@@ -33,7 +31,7 @@ pub data Call (Area File : Type 0) : Type 0 where
   -- a record of a kept segment: key, value, hash, location, header bytes
   reuse : List ℕ → List ℕ → ℕ → ℕ → ℕ → Call Area File
   -- a copied record: key, value, hash, lifetime
-  copy : List ℕ → List ℕ → ℕ → Lifetime → Call Area File
+  copy : List ℕ → List ℕ → ℕ → Option Duration → Call Area File
   -- the rebuild is finished: scratch
   refinish : Area → Call Area File
   -- a set is written as a file: set, the area for the file
@@ -43,8 +41,8 @@ pub data Call (Area File : Type 0) : Type 0 where
 
 -- the bytes of a file; none where there is no such file
 abbrev pub bytes_in : Option (List ℕ) → List ℕ
-bytes_in none = []
-bytes_in (some file) = file
+bytes_in None = []
+bytes_in (Some file) = file
 
 -- a call without its areas, a load with the bytes of its file
 abbrev pub bare : List (List ℕ) → Call (List ℕ) ℕ → Call (Unit {0}) (ℕ × List ℕ)
@@ -62,7 +60,7 @@ bare files (reuse key value hash location header) = reuse key value hash locatio
 bare files (copy key value hash lifetime) = copy key value hash lifetime
 bare files (refinish scratch) = refinish tt
 bare files (write set file) = write set tt
-bare files (load i arena index filter starts lengths) = load (i, bytes_in (get_elem? files i)) tt tt tt tt tt
+bare files (load i arena index filter starts lengths) = load (i, bytes_in (slice_get files i)) tt tt tt tt tt
 
 -- what a lookup or a peek answers: "the value's bytes or nothing"; or it is refused, or there is no such set
 pub data Answer : Type 0 where
@@ -73,6 +71,6 @@ pub data Answer : Type 0 where
 
 -- the newest of some sets, the last
 abbrev pub newest : {A : Type 0} → List A → Option A
-newest [] = none
-newest (a ∷ []) = some a
+newest [] = None
+newest (a ∷ []) = Some a
 newest (a ∷ b ∷ l) = newest (b ∷ l)

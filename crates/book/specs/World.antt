@@ -5,10 +5,7 @@
 -- area is shared. There is one line of rebuilds: each is opened from the newest set, and opening another ends an unfinished one. An open or a load begins
 -- another line; the files that were written stay.
 -- Assumes nothing.
-use Rattle.std.specs.Prelude.{Bool, true, false, List, [], ◌∷◌, ◌++◌, ℕ, take, set}
-use Rattle.std.proofs.Math.Option.{Option, none, some}
-use Rattle.std.proofs.Math.ListN.{get_elem?}
-use Rattle.hash_parts.specs.declared.duration.Lifetime.{Lifetime}
+use Rattle.std.specs.Prelude.{Bool, true, false, List, [], ◌∷◌, ◌++◌, ℕ, take, set, None, Option, Some, slice_get}
 use Rattle.hash_parts.specs.declared.setting.SegmentCacheConfig.{SegmentCacheConfig}
 use Rattle.records.specs.Area.{spanned}
 use Rattle.records.specs.declared.record.Span.{Span}
@@ -25,6 +22,7 @@ use Rattle.files.specs.Load.{Loaded, after_load}
 use Rattle.files.specs.Write.{FileWritten, after_write}
 use Rattle.book.specs.Calls.{Call, opening, push, finish, lookup, peek, clear, probe, walk, stats, reopen, reuse, copy, refinish, write, load, bare, Answer, value, nothing, denied, absent}
 use Rattle.book.specs.Calls.{newest}
+use Rattle.hash_parts.specs.declared.duration.Duration.{Duration}
 
 -- ---- states with their areas
 
@@ -126,7 +124,7 @@ push_leaves w a p =
       accepted = is_accepted p.answer;
     }
 
-abbrev pub push_step : World → Current → List ℕ → List ℕ → ℕ → Lifetime → Step
+abbrev pub push_step : World → Current → List ℕ → List ℕ → ℕ → Option Duration → Step
 push_step w idle key v h ttl = out_of_turn w
 push_step w (building b a) key v h ttl = push_leaves w a (after_push b h key v ttl a.index a.filter w.arena)
 push_step w (rebuilding r a) key v h ttl = out_of_turn w
@@ -176,33 +174,33 @@ abbrev pub take_from : World → FinishedSet → List ℕ → ℕ → Taken
 take_from w s key h = after_take s.cache h key s.areas.index s.areas.filter s.areas.starts s.areas.lengths w.arena
 
 abbrev pub lookup_step : World → ℕ → Option FinishedSet → List ℕ → ℕ → ℕ → Step
-lookup_step w j none key h tick = out_of_turn w
-lookup_step w j (some s) key h tick = set_leaves w j s (get_from w s key h tick).index (is_accepted (get_from w s key h tick).answer)
+lookup_step w j None key h tick = out_of_turn w
+lookup_step w j (Some s) key h tick = set_leaves w j s (get_from w s key h tick).index (is_accepted (get_from w s key h tick).answer)
 
 abbrev pub peek_step : World → ℕ → Option FinishedSet → List ℕ → ℕ → ℕ → Step
-peek_step w j none key h tick = out_of_turn w
-peek_step w j (some s) key h tick = set_leaves w j s (peek_from w s key h tick).index (is_accepted (peek_from w s key h tick).answer)
+peek_step w j None key h tick = out_of_turn w
+peek_step w j (Some s) key h tick = set_leaves w j s (peek_from w s key h tick).index (is_accepted (peek_from w s key h tick).answer)
 
 abbrev pub clear_step : World → ℕ → Option FinishedSet → List ℕ → ℕ → Step
-clear_step w j none key h = out_of_turn w
-clear_step w j (some s) key h = set_leaves w j s (take_from w s key h).index (is_accepted (take_from w s key h).answer)
+clear_step w j None key h = out_of_turn w
+clear_step w j (Some s) key h = set_leaves w j s (take_from w s key h).index (is_accepted (take_from w s key h).answer)
 
 -- ---- probe, a step of the walk, statistics: they have no area to write
 
 abbrev pub probe_step : World → Option FinishedSet → List ℕ → ℕ → ℕ → Step
-probe_step w none key h tick = out_of_turn w
-probe_step w (some s) key h tick =
+probe_step w None key h tick = out_of_turn w
+probe_step w (Some s) key h tick =
     unchanged w
     (is_accepted (probe_answer s.cache h key tick s.areas.index s.areas.filter s.areas.starts s.areas.lengths w.arena))
 
 abbrev pub walk_step : World → Option FinishedSet → ℕ → ℕ → Step
-walk_step w none slot tick = out_of_turn w
-walk_step w (some s) slot tick =
+walk_step w None slot tick = out_of_turn w
+walk_step w (Some s) slot tick =
     unchanged w (is_accepted (walk_answer s.cache slot tick s.areas.index s.areas.starts s.areas.lengths w.arena))
 
 abbrev pub stats_step : World → Option FinishedSet → Step
-stats_step w none = out_of_turn w
-stats_step w (some s) = unchanged w (is_accepted (stats_answer s.cache))
+stats_step w None = out_of_turn w
+stats_step w (Some s) = unchanged w (is_accepted (stats_answer s.cache))
 
 -- ---- rebuild open: refused, it leaves an unfinished rebuild open
 
@@ -225,8 +223,8 @@ reopen_leaves w o =
 
 -- of the newest set; before the first is finished there is none
 abbrev pub reopen_step : World → Option FinishedSet → ℕ → ℕ → List ℕ → ℕ → List ℕ → List ℕ → List ℕ → List ℕ → Step
-reopen_step w none records copied flags tick index filter starts lengths = out_of_turn w
-reopen_step w (some s) records copied flags tick index filter starts lengths =
+reopen_step w None records copied flags tick index filter starts lengths = out_of_turn w
+reopen_step w (Some s) records copied flags tick index filter starts lengths =
     reopen_leaves w
     (after_rebuild_open s.cache s.areas.starts s.areas.lengths w.arena records copied flags tick index filter starts lengths)
 
@@ -268,7 +266,7 @@ copy_leaves w a p =
       accepted = is_accepted p.answer;
     }
 
-abbrev pub copy_step : World → Current → List ℕ → List ℕ → ℕ → Lifetime → Step
+abbrev pub copy_step : World → Current → List ℕ → List ℕ → ℕ → Option Duration → Step
 copy_step w idle key v h ttl = out_of_turn w
 copy_step w (building b a) key v h ttl = out_of_turn w
 copy_step w (rebuilding r a) key v h ttl = copy_leaves w a (after_copied r h key v ttl a.index a.filter a.starts a.lengths w.arena)
@@ -302,8 +300,8 @@ filed_as w area (accept n) = record { arena = w.arena; current = w.current; sets
 filed_as w area (refuse n u) = w
 
 abbrev pub write_step : World → Option FinishedSet → List ℕ → Step
-write_step w none out = out_of_turn w
-write_step w (some s) out =
+write_step w None out = out_of_turn w
+write_step w (Some s) out =
     record { after = filed_as w (write_in w s out).file (write_in w s out).answer; accepted = is_accepted (write_in w s out).answer }
 
 -- a load of a file that was written: accepted, another line of sets begins, in the arena and areas lent with it, and "the load then stands in the build's
@@ -322,8 +320,8 @@ loaded_as w o (accept s) =
 loaded_as w o (refuse n u) = w
 
 abbrev pub load_step : World → Option (List ℕ) → List ℕ → Areas → Step
-load_step w none arena a = out_of_turn w
-load_step w (some file) arena a =
+load_step w None arena a = out_of_turn w
+load_step w (Some file) arena a =
     record { after = loaded_as w (load_in file arena a) (load_in file arena a).answer; accepted = is_accepted (load_in file arena a).answer }
 
 -- ---- a list of calls
@@ -333,20 +331,20 @@ step w (opening config records arena index filter starts lengths) =
     opening_step w config records arena record { index = index; filter = filter; starts = starts; lengths = lengths }
 step w (push key v h ttl) = push_step w w.current key v h ttl
 step w (finish target scratch) = finish_step w w.current target scratch
-step w (lookup j key h tick) = lookup_step w j (get_elem? w.sets j) key h tick
-step w (peek j key h tick) = peek_step w j (get_elem? w.sets j) key h tick
-step w (clear j key h) = clear_step w j (get_elem? w.sets j) key h
-step w (probe j key h tick) = probe_step w (get_elem? w.sets j) key h tick
-step w (walk j slot tick) = walk_step w (get_elem? w.sets j) slot tick
-step w (stats j) = stats_step w (get_elem? w.sets j)
+step w (lookup j key h tick) = lookup_step w j (slice_get w.sets j) key h tick
+step w (peek j key h tick) = peek_step w j (slice_get w.sets j) key h tick
+step w (clear j key h) = clear_step w j (slice_get w.sets j) key h
+step w (probe j key h tick) = probe_step w (slice_get w.sets j) key h tick
+step w (walk j slot tick) = walk_step w (slice_get w.sets j) slot tick
+step w (stats j) = stats_step w (slice_get w.sets j)
 step w (reopen records copied flags tick index filter starts lengths) =
     reopen_step w (newest w.sets) records copied flags tick index filter starts lengths
 step w (reuse key v h location header) = reuse_step w w.current key v h record { location = location; header_bytes = header }
 step w (copy key v h ttl) = copy_step w w.current key v h ttl
 step w (refinish scratch) = refinish_step w w.current scratch
-step w (write j out) = write_step w (get_elem? w.sets j) out
+step w (write j out) = write_step w (slice_get w.sets j) out
 step w (load i arena index filter starts lengths) =
-    load_step w (get_elem? w.files i) arena record { index = index; filter = filter; starts = starts; lengths = lengths }
+    load_step w (slice_get w.files i) arena record { index = index; filter = filter; starts = starts; lengths = lengths }
 
 -- the world after a list of calls
 abbrev pub world_after : World → List (Call (List ℕ) ℕ) → World
@@ -360,25 +358,25 @@ told w (c ∷ cs) = (bare w.files c, (step w c).accepted) ∷ told (step w c).af
 
 -- the bytes of a value are those that `value_slice` hands out of the arena as it is at that moment
 abbrev pub answer_of : List ℕ → Reply (Option Span) (Unit {0}) → Answer
-answer_of arena (accept none) = nothing
-answer_of arena (accept (some span)) = value (spanned arena span)
+answer_of arena (accept None) = nothing
+answer_of arena (accept (Some span)) = value (spanned arena span)
 answer_of arena (refuse n u) = denied
 
 abbrev pub answer_from : World → Option FinishedSet → List ℕ → ℕ → ℕ → Answer
-answer_from w none key h tick = absent
-answer_from w (some s) key h tick = answer_of w.arena (get_from w s key h tick).answer
+answer_from w None key h tick = absent
+answer_from w (Some s) key h tick = answer_of w.arena (get_from w s key h tick).answer
 
 abbrev pub peeked_from : World → Option FinishedSet → List ℕ → ℕ → ℕ → Answer
-peeked_from w none key h tick = absent
-peeked_from w (some s) key h tick = answer_of w.arena (peek_from w s key h tick).answer
+peeked_from w None key h tick = absent
+peeked_from w (Some s) key h tick = answer_of w.arena (peek_from w s key h tick).answer
 
 -- lookups and peeks answer by the book, of other calls it says nothing
 abbrev pub answered : World → Call (List ℕ) ℕ → List Answer
 answered w (opening config records arena index filter starts lengths) = []
 answered w (push key v h ttl) = []
 answered w (finish target scratch) = []
-answered w (lookup j key h tick) = answer_from w (get_elem? w.sets j) key h tick ∷ []
-answered w (peek j key h tick) = peeked_from w (get_elem? w.sets j) key h tick ∷ []
+answered w (lookup j key h tick) = answer_from w (slice_get w.sets j) key h tick ∷ []
+answered w (peek j key h tick) = peeked_from w (slice_get w.sets j) key h tick ∷ []
 answered w (clear j key h) = []
 answered w (probe j key h tick) = []
 answered w (walk j slot tick) = []

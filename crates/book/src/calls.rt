@@ -4,7 +4,7 @@
 // what `step` leaves, and accepted is what `step` accepts. So the definitions that contracts cite and
 // those that the claim on lists is made of are held together by proof. Areas that a call does not take
 // are lent all the same, for the contract to name them.
-ghost use Rattle.std.specs.Prelude.{◌≡◌, List, ℕ};
+ghost use Rattle.std.specs.Prelude.{◌≡◌, List, ℕ, is_ok};
 ghost use Rattle.sets.specs.Answers.{probe_reply, walk_reply, stats_reply};
 ghost use Rattle.sets.specs.Build.{open_result, after_open, push_result, after_push, finish_result, after_finish};
 ghost use Rattle.sets.specs.Lookup.{get_result, after_get, after_peek, take_result, after_take, probe_answer, walk_answer, stats_answer};
@@ -13,57 +13,57 @@ ghost use Rattle.files.specs.Load.{load_result, after_load};
 ghost use Rattle.files.specs.Write.{write_result, after_write};
 ghost use Rattle.book.specs.Calls.{opening, push, finish, lookup, peek, clear, probe, walk, stats, reopen, reuse, copy, refinish, write, load};
 ghost use Rattle.book.specs.World.{building, rebuilding, FinishedSet, World, step, answered};
-ghost use Rattle.book.specs.Made.{areas_of, set_with, world_of, left, Wherever, WhereNewest, open_left, push_left, finish_left, set_left, get_accepted, get_gives, take_accepted, probe_accepted, walk_accepted, stats_accepted, reopen_left, repush_left, refinish_left, WhereWritten, write_left, load_left};
+ghost use Rattle.book.specs.Made.{areas_of, set_with, world_of, left, Wherever, WhereNewest, open_left, push_left, finish_left, set_left, get_gives, reopen_left, repush_left, refinish_left, WhereWritten, write_left, load_left};
 
-use files::load::{LoadFileAnswer, load_file};
-use files::write::{WriteFileAnswer, write_file};
-use hash_parts::duration::Lifetime;
+use files::load::load_file;
+use files::write::write_file;
+use hash_parts::duration::Duration;
+use hash_parts::error::SegmentCacheBuildError;
 use hash_parts::setting::SegmentCacheConfig;
-use sets::builder::{FinishAnswer, OpenAnswer, PushAnswer, SegmentCacheBuilder};
-use sets::cache::{
-    FrozenSegmentCache, GetAnswer, ProbeAnswer, StatsAnswer, TakeAnswer, WalkAnswer,
-};
-use sets::rebuild::{
-    RebuildFinishAnswer, RebuildOpenAnswer, RebuildPushAnswer, SegmentRecordLocation,
-    SharedSegmentCacheBuilder,
-};
+use index::view::SegmentAreas;
+use records::record::Span;
+use sets::builder::{PushedRecord, SegmentCacheBuilder};
+use sets::cache::{FrozenSegmentCache, SegmentBaseRecord};
+use sets::rebuild::{SegmentRecordLocation, SharedSegmentCacheBuild, SharedSegmentCacheBuilder};
+use sets::stats::SegmentCacheStats;
 
 // Open, in any world.
+#[tactic(auto, using(crate::proofs::Making::make_open))]
 pub fn make_open(
     config: SegmentCacheConfig,
     entry_count: usize,
     index: &mut [u64],
     filter: &mut [u64],
-    starts: &[u64],
-    lengths: &[u64],
-    arena: &[u8],
-) -> OpenAnswer
-    ensures filter_after { open_result result index.new filter.new ≡ after_open config entry_count index.old filter.old starts.now lengths.now arena.now }
-    ensures result_after { (w : World) → open_left w arena.now (areas_of index.new filter.new starts.now lengths.now) result ≡ step w (opening config entry_count arena.now index.old filter.old starts.now lengths.now) }
+    areas: SegmentAreas<'_>,
+) -> Result<SegmentCacheBuilder, SegmentCacheBuildError>
+    ensures filter_after { open_result result index.new filter.new ≡ after_open config entry_count index.old filter.old areas.entry.starts.now areas.entry.lengths.now areas.entry.arena.now }
+    ensures result_after { (w : World) → open_left w areas.entry.arena.now (areas_of index.new filter.new areas.entry.starts.now areas.entry.lengths.now) result ≡ step w (opening config entry_count areas.entry.arena.now index.old filter.old areas.entry.starts.now areas.entry.lengths.now) }
 {
-    SegmentCacheBuilder::try_new(config, entry_count, index, filter, starts, lengths, arena)
+    SegmentCacheBuilder::try_new(config, entry_count, index, filter, areas)
 }
 
 // Push, whatever sets are finished. The segment areas are only named.
+#[tactic(auto, using(crate::proofs::Making::make_push))]
 pub fn make_push(
-    builder: SegmentCacheBuilder,
+    builder: &mut SegmentCacheBuilder,
     hash: u64,
     key: &[u8],
     value: &[u8],
-    ttl: Lifetime,
+    ttl: Option<Duration>,
     index: &mut [u64],
     filter: &mut [u64],
     starts: &[u64],
     lengths: &[u64],
     arena: &mut [u8],
-) -> PushAnswer
-    ensures arena_after { push_result result index.new filter.new arena.new ≡ after_push builder hash key.now value.now ttl index.old filter.old arena.old }
-    ensures result_after { (sets : List FinishedSet) (files : List (List ℕ)) → push_left sets files arena.new (areas_of index.new filter.new starts.now lengths.now) result ≡ step (world_of arena.old (building builder (areas_of index.old filter.old starts.now lengths.now)) sets files) (push key.now value.now hash ttl) }
+) -> Result<PushedRecord, SegmentCacheBuildError>
+    ensures arena_after { push_result result builder.new index.new filter.new arena.new ≡ after_push builder.old hash key.now value.now ttl index.old filter.old arena.old }
+    ensures result_after { (sets : List FinishedSet) (files : List (List ℕ)) → push_left sets files arena.new (areas_of index.new filter.new starts.now lengths.now) builder.new result ≡ step (world_of arena.old (building builder.old (areas_of index.old filter.old starts.now lengths.now)) sets files) (push key.now value.now hash ttl) }
 {
     builder.push(hash, key, value, ttl, index, filter, arena)
 }
 
 // Finish, whatever sets are finished. The filter is only named.
+#[tactic(auto, using(crate::proofs::Making::make_finish))]
 pub fn make_finish(
     builder: SegmentCacheBuilder,
     target: usize,
@@ -73,14 +73,15 @@ pub fn make_finish(
     lengths: &mut [u64],
     scratch: &mut [u64],
     arena: &[u8],
-) -> FinishAnswer
-    ensures scratch_after { finish_result result index.new starts.new lengths.new scratch.new ≡ after_finish builder target index.old starts.old lengths.old scratch.old arena.now }
-    ensures result_after { (sets : List FinishedSet) (files : List (List ℕ)) → finish_left sets files arena.now (areas_of index.new filter.now starts.new lengths.new) result ≡ step (world_of arena.now (building builder (areas_of index.old filter.now starts.old lengths.old)) sets files) (finish target scratch.old) }
+) -> Result<FrozenSegmentCache, SegmentCacheBuildError>
+    ensures scratch_after { finish_result result builder index.new starts.new lengths.new scratch.new ≡ after_finish builder target index.old starts.old lengths.old scratch.old arena.now }
+    ensures result_after { (sets : List FinishedSet) (files : List (List ℕ)) → finish_left sets files arena.now (areas_of index.new filter.now starts.new lengths.new) builder result ≡ step (world_of arena.now (building builder (areas_of index.old filter.now starts.old lengths.old)) sets files) (finish target scratch.old) }
 {
     builder.finish(target, index, starts, lengths, scratch, arena)
 }
 
 // Lookup, in a set anywhere among others; what it gives is what the world answers.
+#[tactic(auto, using(crate::proofs::Making::make_lookup))]
 pub fn make_lookup(
     cache: FrozenSegmentCache,
     hash: u64,
@@ -88,17 +89,16 @@ pub fn make_lookup(
     now_tick: u64,
     index: &mut [u64],
     filter: &[u64],
-    starts: &[u64],
-    lengths: &[u64],
-    arena: &[u8],
-) -> GetAnswer
-    ensures index_after { get_result result index.new ≡ after_get cache hash key.now now_tick index.old filter.now starts.now lengths.now arena.now }
-    ensures wherever { Wherever (set_with cache (areas_of index.old filter.now starts.now lengths.now)) arena.now (λ w j. (set_left w j (set_with cache (areas_of index.new filter.now starts.now lengths.now)) (get_accepted result) ≡ step w (lookup j key.now hash now_tick)) × (get_gives arena.now result ≡ answered w (lookup j key.now hash now_tick))) }
+    areas: SegmentAreas<'_>,
+) -> Result<Option<Span>, SegmentCacheBuildError>
+    ensures index_after { get_result result index.new ≡ after_get cache hash key.now now_tick index.old filter.now areas.entry.starts.now areas.entry.lengths.now areas.entry.arena.now }
+    ensures wherever { Wherever (set_with cache (areas_of index.old filter.now areas.entry.starts.now areas.entry.lengths.now)) areas.entry.arena.now (λ w j. (set_left w j (set_with cache (areas_of index.new filter.now areas.entry.starts.now areas.entry.lengths.now)) (is_ok result) ≡ step w (lookup j key.now hash now_tick)) × (get_gives areas.entry.arena.now result ≡ answered w (lookup j key.now hash now_tick))) }
 {
-    cache.get_at_tick(hash, key, now_tick, index, filter, starts, lengths, arena)
+    cache.get_at_tick(hash, key, now_tick, index, filter, areas)
 }
 
 // Peek.
+#[tactic(auto, using(crate::proofs::Making::make_peek))]
 pub fn make_peek(
     cache: FrozenSegmentCache,
     hash: u64,
@@ -106,34 +106,32 @@ pub fn make_peek(
     now_tick: u64,
     index: &[u64],
     filter: &[u64],
-    starts: &[u64],
-    lengths: &[u64],
-    arena: &[u8],
-) -> GetAnswer
-    ensures index_value { get_result result index.now ≡ after_peek cache hash key.now now_tick index.now filter.now starts.now lengths.now arena.now }
-    ensures wherever { Wherever (set_with cache (areas_of index.now filter.now starts.now lengths.now)) arena.now (λ w j. (set_left w j (set_with cache (areas_of index.now filter.now starts.now lengths.now)) (get_accepted result) ≡ step w (peek j key.now hash now_tick)) × (get_gives arena.now result ≡ answered w (peek j key.now hash now_tick))) }
+    areas: SegmentAreas<'_>,
+) -> Result<Option<Span>, SegmentCacheBuildError>
+    ensures index_value { get_result result index.now ≡ after_peek cache hash key.now now_tick index.now filter.now areas.entry.starts.now areas.entry.lengths.now areas.entry.arena.now }
+    ensures wherever { Wherever (set_with cache (areas_of index.now filter.now areas.entry.starts.now areas.entry.lengths.now)) areas.entry.arena.now (λ w j. (set_left w j (set_with cache (areas_of index.now filter.now areas.entry.starts.now areas.entry.lengths.now)) (is_ok result) ≡ step w (peek j key.now hash now_tick)) × (get_gives areas.entry.arena.now result ≡ answered w (peek j key.now hash now_tick))) }
 {
-    cache.peek_at_tick(hash, key, now_tick, index, filter, starts, lengths, arena)
+    cache.peek_at_tick(hash, key, now_tick, index, filter, areas)
 }
 
 // Mark clearing.
+#[tactic(auto, using(crate::proofs::Making::make_clear))]
 pub fn make_clear(
     cache: FrozenSegmentCache,
     hash: u64,
     key: &[u8],
     index: &mut [u64],
     filter: &[u64],
-    starts: &[u64],
-    lengths: &[u64],
-    arena: &[u8],
-) -> TakeAnswer
-    ensures index_after { take_result result index.new ≡ after_take cache hash key.now index.old filter.now starts.now lengths.now arena.now }
-    ensures wherever { Wherever (set_with cache (areas_of index.old filter.now starts.now lengths.now)) arena.now (λ w j. set_left w j (set_with cache (areas_of index.new filter.now starts.now lengths.now)) (take_accepted result) ≡ step w (clear j key.now hash)) }
+    areas: SegmentAreas<'_>,
+) -> Result<bool, SegmentCacheBuildError>
+    ensures index_after { take_result result index.new ≡ after_take cache hash key.now index.old filter.now areas.entry.starts.now areas.entry.lengths.now areas.entry.arena.now }
+    ensures wherever { Wherever (set_with cache (areas_of index.old filter.now areas.entry.starts.now areas.entry.lengths.now)) areas.entry.arena.now (λ w j. set_left w j (set_with cache (areas_of index.new filter.now areas.entry.starts.now areas.entry.lengths.now)) (is_ok result) ≡ step w (clear j key.now hash)) }
 {
-    cache.take_accessed(hash, key, index, filter, starts, lengths, arena)
+    cache.take_accessed(hash, key, index, filter, areas)
 }
 
 // Probe.
+#[tactic(auto, using(crate::proofs::Making::make_probe))]
 pub fn make_probe(
     cache: FrozenSegmentCache,
     hash: u64,
@@ -141,56 +139,51 @@ pub fn make_probe(
     now_tick: u64,
     index: &[u64],
     filter: &[u64],
-    starts: &[u64],
-    lengths: &[u64],
-    arena: &[u8],
-) -> ProbeAnswer
-    ensures result_value { (probe_reply result ≡ probe_answer cache hash key.now now_tick index.now filter.now starts.now lengths.now arena.now) × (index.now ≡ index.now) }
-    ensures wherever { Wherever (set_with cache (areas_of index.now filter.now starts.now lengths.now)) arena.now (λ w j. left (probe_accepted result) w ≡ step w (probe j key.now hash now_tick)) }
+    areas: SegmentAreas<'_>,
+) -> Result<Option<SegmentBaseRecord>, SegmentCacheBuildError>
+    ensures result_value { (probe_reply result ≡ probe_answer cache hash key.now now_tick index.now filter.now areas.entry.starts.now areas.entry.lengths.now areas.entry.arena.now) × (index.now ≡ index.now) }
+    ensures wherever { Wherever (set_with cache (areas_of index.now filter.now areas.entry.starts.now areas.entry.lengths.now)) areas.entry.arena.now (λ w j. left (is_ok result) w ≡ step w (probe j key.now hash now_tick)) }
 {
-    cache.probe_hashed_at_tick(hash, key, now_tick, index, filter, starts, lengths, arena)
+    cache.probe_hashed_at_tick(hash, key, now_tick, index, filter, areas)
 }
 
 // A step of the walk. The filter is only named.
+#[tactic(auto, using(crate::proofs::Making::make_walk))]
 pub fn make_walk(
     cache: FrozenSegmentCache,
     from: usize,
     now_tick: u64,
     index: &[u64],
     filter: &[u64],
-    starts: &[u64],
-    lengths: &[u64],
-    arena: &[u8],
-) -> WalkAnswer
-    ensures result_value { (walk_reply result ≡ walk_answer cache from now_tick index.now starts.now lengths.now arena.now) × (index.now ≡ index.now) }
-    ensures wherever { Wherever (set_with cache (areas_of index.now filter.now starts.now lengths.now)) arena.now (λ w j. left (walk_accepted result) w ≡ step w (walk j from now_tick)) }
+    areas: SegmentAreas<'_>,
+) -> Result<Option<SegmentBaseRecord>, SegmentCacheBuildError>
+    ensures result_value { (walk_reply result ≡ walk_answer cache from now_tick index.now areas.entry.starts.now areas.entry.lengths.now areas.entry.arena.now) × (index.now ≡ index.now) }
+    ensures wherever { Wherever (set_with cache (areas_of index.now filter.now areas.entry.starts.now areas.entry.lengths.now)) areas.entry.arena.now (λ w j. left (is_ok result) w ≡ step w (walk j from now_tick)) }
 {
-    cache.next_physical_entry_at_tick(from, now_tick, index, starts, lengths, arena)
+    cache.next_physical_entry_at_tick(from, now_tick, index, areas)
 }
 
 // Statistics. All areas are only named.
+#[tactic(auto, using(crate::proofs::Making::make_stats))]
 pub fn make_stats(
     cache: FrozenSegmentCache,
     index: &[u64],
     filter: &[u64],
-    starts: &[u64],
-    lengths: &[u64],
-    arena: &[u8],
-) -> StatsAnswer
+    areas: SegmentAreas<'_>,
+) -> Result<SegmentCacheStats, SegmentCacheBuildError>
     ensures result_value { stats_reply result ≡ stats_answer cache }
-    ensures wherever { Wherever (set_with cache (areas_of index.now filter.now starts.now lengths.now)) arena.now (λ w j. left (stats_accepted result) w ≡ step w (stats j)) }
+    ensures wherever { Wherever (set_with cache (areas_of index.now filter.now areas.entry.starts.now areas.entry.lengths.now)) areas.entry.arena.now (λ w j. left (is_ok result) w ≡ step w (stats j)) }
 {
     cache.stats()
 }
 
 // Rebuild open, of the newest set, whatever is open. The source's index and filter are only named.
+#[tactic(auto, using(crate::proofs::Making::make_reopen))]
 pub fn make_reopen(
     source: FrozenSegmentCache,
     source_index: &[u64],
     source_filter: &[u64],
-    source_starts: &[u64],
-    source_lengths: &[u64],
-    arena: &[u8],
+    source_areas: SegmentAreas<'_>,
     entry_count: usize,
     copied_record_capacity: usize,
     used_source_segments: &[u8],
@@ -199,15 +192,13 @@ pub fn make_reopen(
     filter: &mut [u64],
     starts: &mut [u64],
     lengths: &mut [u64],
-) -> RebuildOpenAnswer
-    ensures lengths_after { rebuild_open_result result index.new filter.new starts.new lengths.new ≡ after_rebuild_open source source_starts.now source_lengths.now arena.now entry_count copied_record_capacity used_source_segments.now source_now_tick index.old filter.old starts.old lengths.old }
-    ensures where_newest { WhereNewest (set_with source (areas_of source_index.now source_filter.now source_starts.now source_lengths.now)) arena.now (λ w. reopen_left w (areas_of index.new filter.new starts.new lengths.new) result ≡ step w (reopen entry_count copied_record_capacity used_source_segments.now source_now_tick index.old filter.old starts.old lengths.old)) }
+) -> Result<SharedSegmentCacheBuilder, SegmentCacheBuildError>
+    ensures lengths_after { rebuild_open_result result source index.new filter.new starts.new lengths.new ≡ after_rebuild_open source source_areas.entry.starts.now source_areas.entry.lengths.now source_areas.entry.arena.now entry_count copied_record_capacity used_source_segments.now source_now_tick index.old filter.old starts.old lengths.old }
+    ensures where_newest { WhereNewest (set_with source (areas_of source_index.now source_filter.now source_areas.entry.starts.now source_areas.entry.lengths.now)) source_areas.entry.arena.now (λ w. reopen_left w (areas_of index.new filter.new starts.new lengths.new) result ≡ step w (reopen entry_count copied_record_capacity used_source_segments.now source_now_tick index.old filter.old starts.old lengths.old)) }
 {
     SharedSegmentCacheBuilder::try_new(
         source,
-        source_starts,
-        source_lengths,
-        arena,
+        source_areas,
         entry_count,
         copied_record_capacity,
         used_source_segments,
@@ -220,46 +211,45 @@ pub fn make_reopen(
 }
 
 // Reused push.
+#[tactic(auto, using(crate::proofs::Making::make_reuse))]
 pub fn make_reuse(
-    builder: SharedSegmentCacheBuilder,
+    builder: &mut SharedSegmentCacheBuilder,
     hash: u64,
     key: &[u8],
     value: &[u8],
     source: SegmentRecordLocation,
     index: &mut [u64],
     filter: &mut [u64],
-    starts: &[u64],
-    lengths: &[u64],
-    arena: &[u8],
-) -> RebuildPushAnswer
-    ensures filter_after { reused_result result index.new filter.new ≡ after_reused builder hash key.now value.now source index.old filter.old starts.now lengths.now arena.now }
-    ensures result_after { (sets : List FinishedSet) (files : List (List ℕ)) → repush_left sets files arena.now (areas_of index.new filter.new starts.now lengths.now) result ≡ step (world_of arena.now (rebuilding builder (areas_of index.old filter.old starts.now lengths.now)) sets files) (reuse key.now value.now hash source.location source.header_bytes) }
+    areas: SegmentAreas<'_>,
+) -> Result<PushedRecord, SegmentCacheBuildError>
+    ensures filter_after { reused_result result builder.new index.new filter.new ≡ after_reused builder.old hash key.now value.now source index.old filter.old areas.entry.starts.now areas.entry.lengths.now areas.entry.arena.now }
+    ensures result_after { (sets : List FinishedSet) (files : List (List ℕ)) → repush_left sets files areas.entry.arena.now (areas_of index.new filter.new areas.entry.starts.now areas.entry.lengths.now) builder.new result ≡ step (world_of areas.entry.arena.now (rebuilding builder.old (areas_of index.old filter.old areas.entry.starts.now areas.entry.lengths.now)) sets files) (reuse key.now value.now hash source.location source.header_bytes) }
 {
-    builder.push_reused(
-        hash, key, value, source, index, filter, starts, lengths, arena,
-    )
+    builder.push_reused(hash, key, value, source, index, filter, areas)
 }
 
 // Copied push.
+#[tactic(auto, using(crate::proofs::Making::make_copy))]
 pub fn make_copy(
-    builder: SharedSegmentCacheBuilder,
+    builder: &mut SharedSegmentCacheBuilder,
     hash: u64,
     key: &[u8],
     value: &[u8],
-    ttl: Lifetime,
+    ttl: Option<Duration>,
     index: &mut [u64],
     filter: &mut [u64],
     starts: &[u64],
     lengths: &[u64],
     arena: &mut [u8],
-) -> RebuildPushAnswer
-    ensures arena_after { copied_result result index.new filter.new arena.new ≡ after_copied builder hash key.now value.now ttl index.old filter.old starts.now lengths.now arena.old }
-    ensures result_after { (sets : List FinishedSet) (files : List (List ℕ)) → repush_left sets files arena.new (areas_of index.new filter.new starts.now lengths.now) result ≡ step (world_of arena.old (rebuilding builder (areas_of index.old filter.old starts.now lengths.now)) sets files) (copy key.now value.now hash ttl) }
+) -> Result<PushedRecord, SegmentCacheBuildError>
+    ensures arena_after { copied_result result builder.new index.new filter.new arena.new ≡ after_copied builder.old hash key.now value.now ttl index.old filter.old starts.now lengths.now arena.old }
+    ensures result_after { (sets : List FinishedSet) (files : List (List ℕ)) → repush_left sets files arena.new (areas_of index.new filter.new starts.now lengths.now) builder.new result ≡ step (world_of arena.old (rebuilding builder.old (areas_of index.old filter.old starts.now lengths.now)) sets files) (copy key.now value.now hash ttl) }
 {
     builder.push_copied(hash, key, value, ttl, index, filter, starts, lengths, arena)
 }
 
 // Rebuild finish. The filter is only named.
+#[tactic(auto, using(crate::proofs::Making::make_refinish))]
 pub fn make_refinish(
     builder: SharedSegmentCacheBuilder,
     index: &mut [u64],
@@ -268,30 +258,30 @@ pub fn make_refinish(
     lengths: &mut [u64],
     scratch: &mut [u64],
     arena: &[u8],
-) -> RebuildFinishAnswer
-    ensures scratch_after { rebuild_finish_result result index.new starts.new lengths.new scratch.new ≡ after_rebuild_finish builder index.old starts.old lengths.old scratch.old arena.now }
-    ensures result_after { (sets : List FinishedSet) (files : List (List ℕ)) → refinish_left sets files arena.now (areas_of index.new filter.now starts.new lengths.new) result ≡ step (world_of arena.now (rebuilding builder (areas_of index.old filter.now starts.old lengths.old)) sets files) (refinish scratch.old) }
+) -> Result<SharedSegmentCacheBuild, SegmentCacheBuildError>
+    ensures scratch_after { rebuild_finish_result result builder index.new starts.new lengths.new scratch.new ≡ after_rebuild_finish builder index.old starts.old lengths.old scratch.old arena.now }
+    ensures result_after { (sets : List FinishedSet) (files : List (List ℕ)) → refinish_left sets files arena.now (areas_of index.new filter.now starts.new lengths.new) builder result ≡ step (world_of arena.now (rebuilding builder (areas_of index.old filter.now starts.old lengths.old)) sets files) (refinish scratch.old) }
 {
     builder.finish(index, starts, lengths, scratch, arena)
 }
 
 // A set is written as a file, to the front of an area.
+#[tactic(auto, using(crate::proofs::Making::make_write))]
 pub fn make_write(
     cache: FrozenSegmentCache,
     index: &[u64],
     filter: &[u64],
-    starts: &[u64],
-    lengths: &[u64],
-    arena: &[u8],
+    areas: SegmentAreas<'_>,
     file: &mut [u8],
-) -> WriteFileAnswer
-    ensures file_after { write_result result file.new ≡ after_write cache index.now filter.now starts.now lengths.now arena.now file.old }
-    ensures wherever { Wherever (set_with cache (areas_of index.now filter.now starts.now lengths.now)) arena.now (λ w j. write_left w file.new result ≡ step w (write j file.old)) }
+) -> Result<usize, SegmentCacheBuildError>
+    ensures file_after { write_result result file.new ≡ after_write cache index.now filter.now areas.entry.starts.now areas.entry.lengths.now areas.entry.arena.now file.old }
+    ensures wherever { Wherever (set_with cache (areas_of index.now filter.now areas.entry.starts.now areas.entry.lengths.now)) areas.entry.arena.now (λ w j. write_left w file.new result ≡ step w (write j file.old)) }
 {
-    write_file(cache, index, filter, starts, lengths, arena, file)
+    write_file(cache, index, filter, areas, file)
 }
 
 // A file that was written is loaded, in any world.
+#[tactic(auto, using(crate::proofs::Making::make_load))]
 pub fn make_load(
     file: &[u8],
     index: &mut [u64],
@@ -299,7 +289,7 @@ pub fn make_load(
     starts: &mut [u64],
     lengths: &mut [u64],
     arena: &mut [u8],
-) -> LoadFileAnswer
+) -> Result<FrozenSegmentCache, SegmentCacheBuildError>
     ensures arena_after { load_result result index.new filter.new starts.new lengths.new arena.new ≡ after_load file.now index.old filter.old starts.old lengths.old arena.old }
     ensures where_written { WhereWritten file.now (λ w i. load_left w arena.new (areas_of index.new filter.new starts.new lengths.new) result ≡ step w (load i arena.old index.old filter.old starts.old lengths.old)) }
 {

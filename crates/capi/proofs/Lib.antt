@@ -1,3 +1,3 @@
 pub mod Back
-pub mod Sizes
+pub mod Replies
 pub mod Stores

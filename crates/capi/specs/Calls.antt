@@ -1,58 +1,29 @@
 -- The exported calls: the number that each gives and the content of every lent area that it may write, out of the calls on sets.
 -- Assumes nothing.
-use Rattle.std.specs.Prelude.{Bool, cond, List, [], ◌∷◌, ℕ, ◌+◌, ◌-◌, ◌%◌, ◌^◌, eqb, length}
-use Rattle.std.proofs.Math.Option.{Option, none, some}
-use Rattle.hash_parts.specs.declared.duration.Lifetime.{Lifetime}
+use Rattle.std.specs.Prelude.{◌≡◌, Bool, cond, List, [], ◌∷◌, ℕ, ◌+◌, ◌-◌, ◌%◌, ◌^◌, Option, Some, None, Result, Ok, Err, replicate, eqb, length}
+use Rattle.hash_parts.specs.Error.{error_number}
 use Rattle.hash_parts.specs.declared.duration.SegmentRemainingTtl.{SegmentRemainingTtl}
-use Rattle.hash_parts.specs.declared.duration.SegmentRemainingTtl.TheVariants as left
-use Rattle.hash_parts.specs.declared.setting.SegmentCacheConfig.{SegmentCacheConfig}
+use Rattle.hash_parts.specs.declared.duration.SegmentRemainingTtl.TheVariants.{Never, Finite}
+use Rattle.hash_parts.specs.declared.error.SegmentCacheBuildError.{SegmentCacheBuildError}
 use Rattle.records.specs.declared.record.Span.{Span}
-use Rattle.sets.specs.Answers.{Reply, accept, refuse, Placed}
+use Rattle.sets.specs.Answers.{Reply, accept, refuse, replied, Placed}
 use Rattle.sets.specs.Areas.{area_words_for}
 use Rattle.sets.specs.Build.{Opened, Pushed, Finished, after_open, after_push, after_finish}
 use Rattle.sets.specs.Lookup.{after_get, after_peek, after_take, probe_answer, stats_answer, walk_answer}
 use Rattle.sets.specs.Questions.{all}
 use Rattle.sets.specs.Stats.{load_of}
 use Rattle.sets.specs.declared.areas.AreaWords.{AreaWords}
+use Rattle.sets.specs.declared.builder.PushedRecord.{PushedRecord}
 use Rattle.sets.specs.declared.builder.SegmentCacheBuilder.{SegmentCacheBuilder}
 use Rattle.sets.specs.declared.cache.FrozenSegmentCache.{FrozenSegmentCache}
 use Rattle.sets.specs.declared.cache.SegmentBaseRecord.{SegmentBaseRecord}
 use Rattle.sets.specs.declared.stats.SegmentCacheStats.{SegmentCacheStats}
 use Rattle.capi.specs.Words.{builder_in, builder_words, flag_of, lifetime_in, set_in, set_words, setting_alone, stats_in, stats_words, stored}
-use Rattle.capi.specs.declared.stats_calls.StatsNumber.{StatsNumber}
-use Rattle.capi.specs.declared.stats_calls.StatsNumber.TheVariants.{RetainedBytes, OverheadBytes, IndexLoad}
-use Rattle.capi.specs.declared.words.LoadedBuilder.{LoadedBuilder}
-use Rattle.capi.specs.declared.words.LoadedBuilder.TheVariants as builder
-use Rattle.capi.specs.declared.words.LoadedLifetime.{LoadedLifetime}
-use Rattle.capi.specs.declared.words.LoadedLifetime.TheVariants as lifetime
-use Rattle.capi.specs.declared.words.LoadedSet.{LoadedSet}
-use Rattle.capi.specs.declared.words.LoadedSet.TheVariants as set
-use Rattle.capi.specs.declared.words.LoadedSetting.{LoadedSetting}
-use Rattle.capi.specs.declared.words.LoadedSetting.TheVariants as setting
-use Rattle.capi.specs.declared.words.LoadedStats.{LoadedStats}
-use Rattle.capi.specs.declared.words.LoadedStats.TheVariants as stats
 
--- ---- what words give, where they have the form; else what is left without it
-
-abbrev pub on_setting : {A : Type 0} → LoadedSetting → (SegmentCacheConfig → A) → A → A
-on_setting (setting.Is c) f other = f c
-on_setting setting.Malformed f other = other
-
-abbrev pub on_builder : {A : Type 0} → LoadedBuilder → (SegmentCacheBuilder → A) → A → A
-on_builder (builder.Is b) f other = f b
-on_builder builder.Malformed f other = other
-
-abbrev pub on_set : {A : Type 0} → LoadedSet → (FrozenSegmentCache → A) → A → A
-on_set (set.Is s) f other = f s
-on_set set.Malformed f other = other
-
-abbrev pub on_lifetime : {A : Type 0} → LoadedLifetime → (Lifetime → A) → A → A
-on_lifetime (lifetime.Is l) f other = f l
-on_lifetime lifetime.Malformed f other = other
-
-abbrev pub on_stats : {A : Type 0} → LoadedStats → (SegmentCacheStats → A) → A → A
-on_stats (stats.Is s) f other = f s
-on_stats stats.Malformed f other = other
+-- what words give, where they have the form; else what is left without it
+abbrev pub on_loaded : {S A : Type 0} → Option S → (S → A) → A → A
+on_loaded (Some s) f other = f s
+on_loaded None f other = other
 
 -- ---- a number, and lent words
 
@@ -63,12 +34,29 @@ pub record Told : Type 0 where
 abbrev pub told : ℕ → List ℕ → Told
 told number words = record { number = number; words = words }
 
+-- a call's result, where a refusal hands nothing back
+abbrev pub answered : {A : Type 0} → Result A SegmentCacheBuildError → Reply A (Unit {0})
+answered r = replied tt r
+
+-- what C is told of a reply: 0 and its words, stored over lent ones; or the refusal's number, and the lent words as they were
+abbrev pub told_by : {A B : Type 0} → (A → List ℕ) → Reply A B → List ℕ → Told
+told_by words (accept a) old = told 0 (stored (words a) old)
+told_by words (refuse n back) old = told n old
+
+-- one number
+abbrev pub number_words : ℕ → List ℕ
+number_words n = n ∷ []
+
+-- the words of what was found; of nothing so many zeros
+abbrev pub found_words : {A : Type 0} → ℕ → (A → List ℕ) → Option A → List ℕ
+found_words count words (Some a) = words a
+found_words count words None = replicate count 0
+
 -- ---- open
 
 -- the builder's words after a call that makes a builder; a refusal leaves them as they were
 abbrev pub state_told : Reply SegmentCacheBuilder (Unit {0}) → List ℕ → Told
-state_told (accept b) old = told 0 (stored (builder_words b) old)
-state_told (refuse n u) old = told n old
+state_told = told_by builder_words
 
 pub record OpenWords : Type 0 where
   pub number : ℕ
@@ -85,7 +73,7 @@ open_left o old = open_words (state_told o.answer old).number (state_told o.answ
 unfoldable pub exported_open : List ℕ → ℕ → List ℕ → List ℕ → List ℕ → List ℕ → List ℕ → List ℕ → OpenWords
 exported_open w records old index filter starts lengths arena =
     cond (eqb (length old) 13)
-    (on_setting (setting_alone w) (λ c. open_left (after_open c records index filter starts lengths arena) old) (open_words 11 old index filter))
+    (on_loaded (setting_alone w) (λ c. open_left (after_open c records index filter starts lengths arena) old) (open_words 11 old index filter))
     (open_words 11 old index filter)
 
 -- ---- push
@@ -123,9 +111,9 @@ push_left p old place =
 unfoldable pub exported_push : List ℕ → ℕ → List ℕ → List ℕ → List ℕ → List ℕ → List ℕ → List ℕ → List ℕ → PushWords
 exported_push old h key value ttl index filter arena place =
     cond (all (eqb (length old) 13 ∷ eqb (length place) 2 ∷ []))
-    (on_builder (builder_in old)
+    (on_loaded (builder_in old)
     (λ b.
-    on_lifetime (lifetime_in ttl) (λ l. push_left (after_push b h key value l index filter arena) old place)
+    on_loaded (lifetime_in ttl) (λ l. push_left (after_push b h key value l index filter arena) old place)
     (push_words 11 old index filter arena place))
     (push_words 11 old index filter arena place))
     (push_words 11 old index filter arena place)
@@ -133,8 +121,7 @@ exported_push old h key value ttl index filter arena place =
 -- ---- finish
 
 abbrev pub set_told : Reply FrozenSegmentCache SegmentCacheBuilder → List ℕ → Told
-set_told (accept s) old = told 0 (stored (set_words s) old)
-set_told (refuse n b) old = told n old
+set_told = told_by set_words
 
 pub record FinishWords : Type 0 where
   pub number : ℕ
@@ -155,26 +142,29 @@ finish_left f old =
 unfoldable pub exported_finish : List ℕ → ℕ → List ℕ → List ℕ → List ℕ → List ℕ → List ℕ → List ℕ → FinishWords
 exported_finish w target index starts lengths scratch arena old =
     cond (eqb (length old) 15)
-    (on_builder (builder_in w) (λ b. finish_left (after_finish b target index starts lengths scratch arena) old)
+    (on_loaded (builder_in w) (λ b. finish_left (after_finish b target index starts lengths scratch arena) old)
     (finish_words 11 index starts lengths scratch old))
     (finish_words 11 index starts lengths scratch old)
 
 -- ---- the words of areas: index, filter, starts, lengths, scratch
 
+abbrev pub area_numbers : AreaWords → List ℕ
+area_numbers w = w.index ∷ w.filter ∷ w.starts ∷ w.lengths ∷ w.scratch ∷ []
+
 abbrev pub area_words_told : Reply AreaWords (Unit {0}) → List ℕ → Told
-area_words_told (accept w) old = told 0 (stored (w.index ∷ w.filter ∷ w.starts ∷ w.lengths ∷ w.scratch ∷ []) old)
-area_words_told (refuse n u) old = told n old
+area_words_told = told_by area_numbers
 
 unfoldable pub exported_area_words : List ℕ → ℕ → List ℕ → Told
 exported_area_words w records old =
-    cond (eqb (length old) 5) (on_setting (setting_alone w) (λ c. area_words_told (area_words_for c records) old) (told 11 old)) (told 11 old)
+    cond (eqb (length old) 5) (on_loaded (setting_alone w) (λ c. area_words_told (area_words_for c records) old) (told 11 old)) (told 11 old)
 
 -- ---- get and peek: 1, place and length of the value; three zeros for nothing
 
+abbrev pub span_words : Span → List ℕ
+span_words v = 1 ∷ v.at ∷ v.len ∷ []
+
 abbrev pub span_told : Reply (Option Span) (Unit {0}) → List ℕ → Told
-span_told (accept (some v)) old = told 0 (stored (1 ∷ v.at ∷ v.len ∷ []) old)
-span_told (accept none) old = told 0 (stored (0 ∷ 0 ∷ 0 ∷ []) old)
-span_told (refuse n u) old = told n old
+span_told = told_by (found_words 3 span_words)
 
 -- a number, the index and lent words
 pub record IndexTold : Type 0 where
@@ -191,25 +181,27 @@ with_index t index = index_told t.number index t.words
 unfoldable pub exported_get : List ℕ → ℕ → List ℕ → ℕ → List ℕ → List ℕ → List ℕ → List ℕ → List ℕ → List ℕ → IndexTold
 exported_get w h key tick index filter starts lengths arena old =
     cond (eqb (length old) 3)
-    (on_set (set_in w)
+    (on_loaded (set_in w)
     (λ s. with_index (span_told (after_get s h key tick index filter starts lengths arena).answer old) (after_get s h key tick index filter starts lengths arena).index)
     (index_told 11 index old))
     (index_told 11 index old)
 
 unfoldable pub exported_peek : List ℕ → ℕ → List ℕ → ℕ → List ℕ → List ℕ → List ℕ → List ℕ → List ℕ → List ℕ → Told
 exported_peek w h key tick index filter starts lengths arena old =
-    cond (eqb (length old) 3) (on_set (set_in w) (λ s. span_told (after_peek s h key tick index filter starts lengths arena).answer old) (told 11 old)) (told 11 old)
+    cond (eqb (length old) 3) (on_loaded (set_in w) (λ s. span_told (after_peek s h key tick index filter starts lengths arena).answer old) (told 11 old)) (told 11 old)
 
 -- ---- mark clearing: 1 where the mark was set, else 0
 
+abbrev pub flag_words : Bool → List ℕ
+flag_words was = flag_of was ∷ []
+
 abbrev pub accessed_told : Reply Bool (Unit {0}) → List ℕ → Told
-accessed_told (accept b) old = told 0 (stored (flag_of b ∷ []) old)
-accessed_told (refuse n u) old = told n old
+accessed_told = told_by flag_words
 
 unfoldable pub exported_take : List ℕ → ℕ → List ℕ → List ℕ → List ℕ → List ℕ → List ℕ → List ℕ → List ℕ → IndexTold
 exported_take w h key index filter starts lengths arena old =
     cond (eqb (length old) 1)
-    (on_set (set_in w)
+    (on_loaded (set_in w)
     (λ s. with_index (accessed_told (after_take s h key index filter starts lengths arena).answer old) (after_take s h key index filter starts lengths arena).index)
     (index_told 11 index old))
     (index_told 11 index old)
@@ -217,20 +209,23 @@ exported_take w h key index filter starts lengths arena old =
 -- ---- probe and walk: twelve words of a record, twelve zeros for nothing
 
 -- 0: it never lapses; 1: seconds and nanoseconds; 2: nothing is left
-abbrev pub left_kind : SegmentRemainingTtl → ℕ
-left_kind left.Never = 0
-left_kind (left.Finite d) = 1
-left_kind left.Nothing = 2
+abbrev pub left_kind : Option SegmentRemainingTtl → ℕ
+left_kind (Some Never) = 0
+left_kind (Some (Finite d)) = 1
+left_kind None = 2
 
-abbrev pub left_secs : SegmentRemainingTtl → ℕ
-left_secs left.Never = 0
-left_secs (left.Finite d) = d.secs
-left_secs left.Nothing = 0
+abbrev pub left_secs : Option SegmentRemainingTtl → ℕ
+left_secs (Some Never) = 0
+left_secs (Some (Finite d)) = d.secs
+left_secs None = 0
 
-abbrev pub left_nanos : SegmentRemainingTtl → ℕ
-left_nanos left.Never = 0
-left_nanos (left.Finite d) = d.nanos
-left_nanos left.Nothing = 0
+abbrev pub left_nanos : Option SegmentRemainingTtl → ℕ
+left_nanos (Some Never) = 0
+left_nanos (Some (Finite d)) = d.nanos
+left_nanos None = 0
+
+abbrev pub left_words : Option SegmentRemainingTtl → List ℕ
+left_words left = left_kind left ∷ left_secs left ∷ left_nanos left ∷ []
 
 abbrev pub record_words : SegmentBaseRecord → List ℕ
 record_words r =
@@ -249,26 +244,23 @@ record_words r =
     ∷ []
 
 abbrev pub record_told : Reply (Option SegmentBaseRecord) (Unit {0}) → List ℕ → Told
-record_told (accept (some r)) old = told 0 (stored (record_words r) old)
-record_told (accept none) old = told 0 (stored (0 ∷ 0 ∷ 0 ∷ 0 ∷ 0 ∷ 0 ∷ 0 ∷ 0 ∷ 0 ∷ 0 ∷ 0 ∷ 0 ∷ []) old)
-record_told (refuse n u) old = told n old
+record_told = told_by (found_words 12 record_words)
 
 unfoldable pub exported_probe : List ℕ → ℕ → List ℕ → ℕ → List ℕ → List ℕ → List ℕ → List ℕ → List ℕ → List ℕ → Told
 exported_probe w h key tick index filter starts lengths arena old =
-    cond (eqb (length old) 12) (on_set (set_in w) (λ s. record_told (probe_answer s h key tick index filter starts lengths arena) old) (told 11 old)) (told 11 old)
+    cond (eqb (length old) 12) (on_loaded (set_in w) (λ s. record_told (probe_answer s h key tick index filter starts lengths arena) old) (told 11 old)) (told 11 old)
 
 unfoldable pub exported_walk : List ℕ → ℕ → ℕ → List ℕ → List ℕ → List ℕ → List ℕ → List ℕ → Told
 exported_walk w from tick index starts lengths arena old =
-    cond (eqb (length old) 12) (on_set (set_in w) (λ s. record_told (walk_answer s from tick index starts lengths arena) old) (told 11 old)) (told 11 old)
+    cond (eqb (length old) 12) (on_loaded (set_in w) (λ s. record_told (walk_answer s from tick index starts lengths arena) old) (told 11 old)) (told 11 old)
 
 -- ---- statistics
 
 abbrev pub stats_told : Reply SegmentCacheStats (Unit {0}) → List ℕ → Told
-stats_told (accept s) old = told 0 (stored (stats_words s) old)
-stats_told (refuse n u) old = told n old
+stats_told = told_by stats_words
 
 unfoldable pub exported_stats : List ℕ → List ℕ → Told
-exported_stats w old = cond (eqb (length old) 8) (on_set (set_in w) (λ s. stats_told (stats_answer s) old) (told 11 old)) (told 11 old)
+exported_stats w old = cond (eqb (length old) 8) (on_loaded (set_in w) (λ s. stats_told (stats_answer s) old) (told 11 old)) (told 11 old)
 
 -- sums of free numbers wrap at 64 bits
 abbrev pub retained_in : SegmentCacheStats → ℕ
@@ -280,11 +272,25 @@ overhead_in s = retained_in s - (s.logical_key_bytes + s.logical_value_bytes) % 
 abbrev pub load_in : SegmentCacheStats → ℕ
 load_in s = load_of s.entries s.index_slots
 
-abbrev pub number_in : StatsNumber → SegmentCacheStats → ℕ
-number_in RetainedBytes = retained_in
-number_in OverheadBytes = overhead_in
-number_in IndexLoad = load_in
-
 -- one number of statistics
 unfoldable pub exported_number : (SegmentCacheStats → ℕ) → List ℕ → List ℕ → Told
-exported_number f w old = cond (eqb (length old) 1) (on_stats (stats_in w) (λ s. told 0 (stored (f s ∷ []) old)) (told 11 old)) (told 11 old)
+exported_number f w old = cond (eqb (length old) 1) (on_loaded (stats_in w) (λ s. told 0 (stored (number_words (f s)) old)) (told 11 old)) (told 11 old)
+
+-- ---- for functions below the exports alone
+
+abbrev pub placed_words : PushedRecord → List ℕ
+placed_words p = p.slot ∷ p.location ∷ []
+
+-- a push as C is told of it, of any builder and by the push's own result
+abbrev pub pushed_told : {S : Type 0} → (S → List ℕ) → S → Result PushedRecord SegmentCacheBuildError → List ℕ → List ℕ → PlaceTold
+pushed_told words s (Ok p) old place = place_told 0 (stored (words s) old) (stored (placed_words p) place)
+pushed_told words s (Err e) old place = place_told (error_number e) old place
+
+-- what C is told of a call on the state in lent words, by which results the call may have
+abbrev pub call_told : {S A : Type 0} → (S → Result A SegmentCacheBuildError → Type 0) → (A → List ℕ) → Option S → List ℕ → Told → Type 0
+call_told may words (Some s) old t = (r : Result _ SegmentCacheBuildError) × may s r × (t ≡ told_by words (answered r) old)
+call_told may words None old t = t ≡ told 11 old
+
+-- the same, where the words for the answer are so many
+abbrev pub asked : {S A : Type 0} → (S → Result A SegmentCacheBuildError → Type 0) → (A → List ℕ) → ℕ → Option S → List ℕ → Told → Type 0
+asked may words count state old t = cond (eqb (length old) count) (call_told may words state old t) (t ≡ told 11 old)

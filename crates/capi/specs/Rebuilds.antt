@@ -8,22 +8,14 @@ use Rattle.sets.specs.declared.cache.FrozenSegmentCache.{FrozenSegmentCache}
 use Rattle.sets.specs.declared.rebuild.SegmentRecordLocation.{SegmentRecordLocation}
 use Rattle.sets.specs.declared.rebuild.SharedSegmentCacheBuild.{SharedSegmentCacheBuild}
 use Rattle.sets.specs.declared.rebuild.SharedSegmentCacheBuilder.{SharedSegmentCacheBuilder}
-use Rattle.capi.specs.Calls.{PlaceTold, PushWords, Told, on_lifetime, on_set, place_told, push_words, told}
+use Rattle.capi.specs.Calls.{PlaceTold, PushWords, Told, on_loaded, place_told, push_words, told_by}
 use Rattle.capi.specs.Words.{lifetime_in, rebuild_in, rebuild_words, set_in, set_words, stored}
-use Rattle.capi.specs.declared.words.LoadedRebuild.{LoadedRebuild}
-use Rattle.capi.specs.declared.words.LoadedRebuild.TheVariants as rebuild
-
--- what words give, where they have the form of a rebuild; else what is left without it
-abbrev pub on_rebuild : {A : Type 0} → LoadedRebuild → (SharedSegmentCacheBuilder → A) → A → A
-on_rebuild (rebuild.Is r) f other = f r
-on_rebuild rebuild.Malformed f other = other
 
 -- ---- rebuild open
 
 -- the rebuild's words after a call that makes a rebuild; a refusal leaves them as they were
 abbrev pub rebuild_told : Reply SharedSegmentCacheBuilder FrozenSegmentCache → List ℕ → Told
-rebuild_told (accept r) old = told 0 (stored (rebuild_words r) old)
-rebuild_told (refuse n source) old = told n old
+rebuild_told = told_by rebuild_words
 
 pub record RebuildOpenWords : Type 0 where
   pub number : ℕ
@@ -44,7 +36,7 @@ rebuild_open_left o old =
 unfoldable pub exported_rebuild_open : List ℕ → List ℕ → List ℕ → List ℕ → ℕ → ℕ → List ℕ → ℕ → List ℕ → List ℕ → List ℕ → List ℕ → List ℕ → RebuildOpenWords
 exported_rebuild_open w source_starts source_lengths arena records copied flags tick old index filter starts lengths =
     cond (eqb (length old) 22)
-    (on_set (set_in w)
+    (on_loaded (set_in w)
     (λ s. rebuild_open_left (after_rebuild_open s source_starts source_lengths arena records copied flags tick index filter starts lengths) old)
     (rebuild_open_words 11 old index filter starts lengths))
     (rebuild_open_words 11 old index filter starts lengths)
@@ -77,7 +69,7 @@ location_of location header = record { location = location; header_bytes = heade
 unfoldable pub exported_reused : List ℕ → ℕ → List ℕ → List ℕ → ℕ → ℕ → List ℕ → List ℕ → List ℕ → List ℕ → List ℕ → List ℕ → ReusedWords
 exported_reused old h key value location header index filter starts lengths arena place =
     cond (all (eqb (length old) 22 ∷ eqb (length place) 2 ∷ []))
-    (on_rebuild (rebuild_in old)
+    (on_loaded (rebuild_in old)
     (λ r. reused_left (after_reused r h key value (location_of location header) index filter starts lengths arena) old place)
     (reused_words 11 old index filter place))
     (reused_words 11 old index filter place)
@@ -92,9 +84,9 @@ copied_left p old place =
 unfoldable pub exported_copied : List ℕ → ℕ → List ℕ → List ℕ → List ℕ → List ℕ → List ℕ → List ℕ → List ℕ → List ℕ → List ℕ → PushWords
 exported_copied old h key value ttl index filter starts lengths arena place =
     cond (all (eqb (length old) 22 ∷ eqb (length place) 2 ∷ []))
-    (on_rebuild (rebuild_in old)
+    (on_loaded (rebuild_in old)
     (λ r.
-    on_lifetime (lifetime_in ttl) (λ l. copied_left (after_copied r h key value l index filter starts lengths arena) old place)
+    on_loaded (lifetime_in ttl) (λ l. copied_left (after_copied r h key value l index filter starts lengths arena) old place)
     (push_words 11 old index filter arena place))
     (push_words 11 old index filter arena place))
     (push_words 11 old index filter arena place)
@@ -139,6 +131,6 @@ rebuild_finish_left f old totals =
 unfoldable pub exported_rebuild_finish : List ℕ → List ℕ → List ℕ → List ℕ → List ℕ → List ℕ → List ℕ → List ℕ → RebuildFinishWords
 exported_rebuild_finish w index starts lengths scratch arena old totals =
     cond (all (eqb (length old) 15 ∷ eqb (length totals) 4 ∷ []))
-    (on_rebuild (rebuild_in w) (λ r. rebuild_finish_left (after_rebuild_finish r index starts lengths scratch arena) old totals)
+    (on_loaded (rebuild_in w) (λ r. rebuild_finish_left (after_rebuild_finish r index starts lengths scratch arena) old totals)
     (rebuild_finish_words 11 index starts lengths scratch old totals))
     (rebuild_finish_words 11 index starts lengths scratch old totals)

@@ -1,11 +1,9 @@
 -- Settings, states, lifetimes and statistics as words. Assumes nothing.
-use Rattle.std.specs.Prelude.{Bool, true, cond, List, [], ◌∷◌, ℕ, ◌-◌, ◌^◌, min, eqb, leb, length, get_or}
+use Rattle.std.specs.Prelude.{Bool, true, cond, List, [], ◌∷◌, ℕ, ◌-◌, ◌^◌, min, Option, Some, None, option_map, eqb, leb, length, get_or}
 use Rattle.hash_parts.specs.declared.duration.Duration.{Duration}
-use Rattle.hash_parts.specs.declared.duration.Lifetime.{Lifetime}
-use Rattle.hash_parts.specs.declared.duration.Lifetime.TheVariants as life
 use Rattle.hash_parts.specs.declared.setting.SegmentCacheConfig.{SegmentCacheConfig}
 use Rattle.hash_parts.specs.declared.setting.SegmentExpiry.{SegmentExpiry}
-use Rattle.hash_parts.specs.declared.setting.SegmentExpiry.TheVariants.{None, Relative16}
+use Rattle.hash_parts.specs.declared.setting.SegmentExpiry.TheVariants as setting
 use Rattle.records.specs.Area.{written}
 use Rattle.sets.specs.Questions.{all}
 use Rattle.sets.specs.declared.builder.SegmentCacheBuilder.{SegmentCacheBuilder}
@@ -13,18 +11,6 @@ use Rattle.sets.specs.declared.cache.FrozenSegmentCache.{FrozenSegmentCache}
 use Rattle.sets.specs.declared.kept.KeptSegments.{KeptSegments}
 use Rattle.sets.specs.declared.rebuild.SharedSegmentCacheBuilder.{SharedSegmentCacheBuilder}
 use Rattle.sets.specs.declared.stats.SegmentCacheStats.{SegmentCacheStats}
-use Rattle.capi.specs.declared.words.LoadedBuilder.{LoadedBuilder}
-use Rattle.capi.specs.declared.words.LoadedBuilder.TheVariants as builder
-use Rattle.capi.specs.declared.words.LoadedLifetime.{LoadedLifetime}
-use Rattle.capi.specs.declared.words.LoadedLifetime.TheVariants as lifetime
-use Rattle.capi.specs.declared.words.LoadedRebuild.{LoadedRebuild}
-use Rattle.capi.specs.declared.words.LoadedRebuild.TheVariants as rebuild
-use Rattle.capi.specs.declared.words.LoadedSet.{LoadedSet}
-use Rattle.capi.specs.declared.words.LoadedSet.TheVariants as set
-use Rattle.capi.specs.declared.words.LoadedSetting.{LoadedSetting}
-use Rattle.capi.specs.declared.words.LoadedSetting.TheVariants as setting
-use Rattle.capi.specs.declared.words.LoadedStats.{LoadedStats}
-use Rattle.capi.specs.declared.words.LoadedStats.TheVariants as stats
 
 -- lent words with others stored over the front, where they fit; else as they were. Words of the same number are then all there is (`stored_whole` of
 -- proofs/Stores.antt).
@@ -37,7 +23,7 @@ abbrev pub duration_of : ℕ → ℕ → Duration
 duration_of secs nanos = record { secs = secs; nanos = nanos }
 
 abbrev pub expiry_of : ℕ → ℕ → ℕ → SegmentExpiry
-expiry_of flag secs nanos = cond (eqb flag 1) (Relative16 (duration_of secs nanos)) None
+expiry_of flag secs nanos = cond (eqb flag 1) (setting.Relative16 (duration_of secs nanos)) setting.None
 
 -- nanoseconds of more than 32 bits stay too many for a second, so that question 2 refuses them at its place; an occupancy of more than 8 bits stays more
 -- than 7, for question 3
@@ -56,16 +42,19 @@ setting_of w =
       negative_filter_bits_per_entry = get_or w 5 0;
     }
 
--- flags are 0 or 1, filter bits have 8 bits: of these document 01 asks nothing; with no expiry the tick's words may be any
+-- flags are 0 or 1, filter bits have 8 bits: no question asks of these; with no expiry the tick's words may be any
 unfoldable pub setting_form : List ℕ → Bool
 setting_form w = all (leb (get_or w 0 0) 1 ∷ leb (get_or w 4 0) 1 ∷ leb (get_or w 5 0) 255 ∷ [])
 
 -- the setting in the first six words
-unfoldable pub setting_in : List ℕ → LoadedSetting
-setting_in w = cond (setting_form w) (setting.Is (setting_of w)) setting.Malformed
+unfoldable pub setting_in : List ℕ → Option SegmentCacheConfig
+setting_in w = cond (setting_form w) (Some (setting_of w)) None
 
--- the size of a record depends on no question of document 01; words that no setting can hold are refused all the same, with the numbers of questions 2
--- and 3
+-- the same, where there are so many words in all
+unfoldable pub setting_among : ℕ → List ℕ → Option SegmentCacheConfig
+setting_among count w = cond (eqb (length w) count) (setting_in w) None
+
+-- the size of a record depends on no question; words that no setting can hold are refused all the same, with the numbers of questions 2 and 3
 abbrev pub tick_nanos_fit : ℕ → ℕ → Bool
 tick_nanos_fit flag nanos = cond (eqb flag 1) (leb nanos 0xffff_ffff) true
 
@@ -73,23 +62,26 @@ unfoldable pub ask_widths : List ℕ → List (Bool × ℕ)
 ask_widths w = (tick_nanos_fit (get_or w 0 0) (get_or w 2 0), 9) ∷ (leb (get_or w 3 0) 255, 1) ∷ []
 
 -- a setting that is lent by itself
-unfoldable pub setting_alone : List ℕ → LoadedSetting
-setting_alone w = cond (eqb (length w) 6) (setting_in w) setting.Malformed
+abbrev pub setting_alone : List ℕ → Option SegmentCacheConfig
+setting_alone w = setting_among 6 w
 
 abbrev pub flag_of : Bool → ℕ
 flag_of b = cond b 1 0
 
 abbrev pub expiry_flag : SegmentExpiry → ℕ
-expiry_flag None = 0
-expiry_flag (Relative16 tick) = 1
+expiry_flag setting.None = 0
+expiry_flag (setting.Relative16 tick) = 1
 
 abbrev pub tick_secs : SegmentExpiry → ℕ
-tick_secs None = 0
-tick_secs (Relative16 tick) = tick.secs
+tick_secs setting.None = 0
+tick_secs (setting.Relative16 tick) = tick.secs
 
 abbrev pub tick_nanos : SegmentExpiry → ℕ
-tick_nanos None = 0
-tick_nanos (Relative16 tick) = tick.nanos
+tick_nanos setting.None = 0
+tick_nanos (setting.Relative16 tick) = tick.nanos
+
+abbrev pub expiry_words : SegmentExpiry → List ℕ
+expiry_words e = expiry_flag e ∷ tick_secs e ∷ tick_nanos e ∷ []
 
 -- the words of a setting, before other words
 abbrev pub setting_before : SegmentCacheConfig → List ℕ → List ℕ
@@ -101,6 +93,9 @@ setting_before c rest =
     ∷ flag_of c.packed_bucket_index
     ∷ c.negative_filter_bits_per_entry
     ∷ rest
+
+abbrev pub setting_words : SegmentCacheConfig → List ℕ
+setting_words c = setting_before c []
 
 -- ---- a builder: 13 words
 
@@ -117,12 +112,8 @@ builder_of c w =
       logical_value_bytes = get_or w 12 0;
     }
 
-abbrev pub builder_from : LoadedSetting → List ℕ → LoadedBuilder
-builder_from (setting.Is c) w = builder.Is (builder_of c w)
-builder_from setting.Malformed w = builder.Malformed
-
-unfoldable pub builder_in : List ℕ → LoadedBuilder
-builder_in w = cond (eqb (length w) 13) (builder_from (setting_in w) w) builder.Malformed
+unfoldable pub builder_in : List ℕ → Option SegmentCacheBuilder
+builder_in w = option_map (λ c. builder_of c w) (setting_among 13 w)
 
 abbrev pub builder_words : SegmentCacheBuilder → List ℕ
 builder_words b =
@@ -153,12 +144,8 @@ set_of c w =
       record_header_bytes = get_or w 14 0;
     }
 
-abbrev pub set_from : LoadedSetting → List ℕ → LoadedSet
-set_from (setting.Is c) w = set.Is (set_of c w)
-set_from setting.Malformed w = set.Malformed
-
-unfoldable pub set_in : List ℕ → LoadedSet
-set_in w = cond (eqb (length w) 15) (set_from (setting_in w) w) set.Malformed
+unfoldable pub set_in : List ℕ → Option FrozenSegmentCache
+set_in w = option_map (λ c. set_of c w) (setting_among 15 w)
 
 abbrev pub set_words : FrozenSegmentCache → List ℕ
 set_words s =
@@ -199,12 +186,8 @@ rebuild_of c w =
       source_now_tick = get_or w 21 0;
     }
 
-abbrev pub rebuild_from : LoadedSetting → List ℕ → LoadedRebuild
-rebuild_from (setting.Is c) w = rebuild.Is (rebuild_of c w)
-rebuild_from setting.Malformed w = rebuild.Malformed
-
-unfoldable pub rebuild_in : List ℕ → LoadedRebuild
-rebuild_in w = cond (eqb (length w) 22) (rebuild_from (setting_in w) w) rebuild.Malformed
+unfoldable pub rebuild_in : List ℕ → Option SharedSegmentCacheBuilder
+rebuild_in w = option_map (λ c. rebuild_of c w) (setting_among 22 w)
 
 abbrev pub rebuild_words : SharedSegmentCacheBuilder → List ℕ
 rebuild_words r =
@@ -229,12 +212,11 @@ rebuild_words r =
 
 -- ---- a lifetime: no words for never; seconds and nanoseconds, capped as a tick's
 
-abbrev pub finite_of : List ℕ → Lifetime
-finite_of w = life.For (duration_of (get_or w 0 0) (nanos_capped (get_or w 1 0)))
+abbrev pub finite_of : List ℕ → Option Duration
+finite_of w = Some (duration_of (get_or w 0 0) (nanos_capped (get_or w 1 0)))
 
-unfoldable pub lifetime_in : List ℕ → LoadedLifetime
-lifetime_in w =
-    cond (eqb (length w) 0) (lifetime.Is life.Never) (cond (eqb (length w) 2) (lifetime.Is (finite_of w)) lifetime.Malformed)
+unfoldable pub lifetime_in : List ℕ → Option (Option Duration)
+lifetime_in w = cond (eqb (length w) 0) (Some None) (cond (eqb (length w) 2) (Some (finite_of w)) None)
 
 -- ---- statistics: 8 words
 
@@ -251,8 +233,8 @@ stats_of w =
       record_header_bytes = get_or w 7 0;
     }
 
-unfoldable pub stats_in : List ℕ → LoadedStats
-stats_in w = cond (eqb (length w) 8) (stats.Is (stats_of w)) stats.Malformed
+unfoldable pub stats_in : List ℕ → Option SegmentCacheStats
+stats_in w = cond (eqb (length w) 8) (Some (stats_of w)) None
 
 abbrev pub stats_words : SegmentCacheStats → List ℕ
 stats_words s =

@@ -1,128 +1,167 @@
-// Answers that several crates hand back as lent words.
+// What C is told of a call's answer: a number, and lent words.
 ghost use Rattle.std.specs.Prelude.{◌≡◌};
-ghost use Rattle.sets.specs.Answers.{get_reply, probe_reply, rebuild_push_reply};
-ghost use Rattle.capi.specs.Calls.{left_kind, left_nanos, left_secs, place_told, record_told, record_words, span_told, told};
-ghost use Rattle.capi.specs.Rebuilds.{rebuild_push_told};
-ghost use Rattle.capi.specs.Words.{stored};
+ghost use Rattle.std.proofs.Common.{lit<};
+ghost use Rattle.capi.specs.Calls.{flag_words, answered, asked, found_words, left_words, number_words, place_told, placed_words, pushed_told, record_words, span_words, told, told_by};
 
-use crate::words::{copy_words, store_rebuild};
+use crate::words::{FromWords, MALFORMED, ToWords, copy_words};
 use hash_parts::duration::SegmentRemainingTtl;
-use sets::cache::{GetAnswer, ProbeAnswer, SegmentBaseRecord};
-use sets::rebuild::RebuildPushAnswer;
+use hash_parts::error::SegmentCacheBuildError;
+use records::record::Span;
+use sets::builder::PushedRecord;
+use sets::cache::SegmentBaseRecord;
 
 pub const SPAN_WORDS: usize = 3;
 
 pub const RECORD_WORDS: usize = 12;
 
-// The three words of the span: 1 and the value's place and length in the arena, or three zeros.
-pub fn tell_get(answer: GetAnswer, span: &mut [u64]) -> u64
-    ensures { told result span.new ≡ span_told (get_reply answer) span.old }
+// The place of a pushed record: slot and location.
+pub const PLACE_WORDS: usize = 2;
+
+// 0 and the words of what a call gives; or the refusal's number.
+pub fn tell<const N: usize, T: ToWords<N>>(
+    answer: Result<T, SegmentCacheBuildError>,
+    out: &mut [u64],
+) -> u64
+    ensures { told result out.new ≡ told_by T.words_of (answered answer) out.old }
 {
     match answer {
-        GetAnswer::Value(value) => {
-            copy_words(span, &[1, value.at as u64, value.len as u64]);
+        Ok(given) => {
+            copy_words(out, &given.to_words());
             0
         }
-        GetAnswer::Nothing => {
-            copy_words(span, &[0, 0, 0]);
-            0
-        }
-        GetAnswer::Refused(refusal) => refusal.number() as u64,
+        Err(refusal) => refusal.number() as u64,
     }
 }
 
-// The twelve words of a record: 1, slot, location, bytes before the key, place and length of key
-// and value, what is left of its time, and its end; or twelve zeros.
-pub fn tell_record(answer: ProbeAnswer, out: &mut [u64]) -> u64
-    ensures { told result out.new ≡ record_told (probe_reply answer) out.old }
+// The call on the state in lent words, and what it gives over other words. A call that writes to lent areas says the
+// same line by line, since what a closure writes to what it borrows is lost to the proof of its maker; and so do peek,
+// probe and the step of the walk, which would be left a goal to prove by hand.
+pub fn ask<
+    const N: usize,
+    S: FromWords,
+    T: ToWords<N>,
+    F: FnOnce(S) -> Result<T, SegmentCacheBuildError>,
+>(state: &[u64], out: &mut [u64], call: F) -> u64
+    requires { F.IsAlwaysCallable call }
+    ensures { asked (F.post call) T.words_of N (S.value_in state.now) out.old (told result out.new) }
+{
+    if out.len() != N {
+        return MALFORMED;
+    }
+    let Some(state) = S::from_words(state) else {
+        return MALFORMED;
+    };
+    tell(call(state), out)
+}
+
+// The same as tell for a push: the words of the state that it leaves, and of its record's place.
+pub fn tell_push<const N: usize, S: ToWords<N> + Drop>(
+    answer: Result<PushedRecord, SegmentCacheBuildError>,
+    state: S,
+    words: &mut [u64],
+    place: &mut [u64],
+) -> u64
+    ensures { place_told result words.new place.new ≡ pushed_told S.words_of state answer words.old place.old }
 {
     match answer {
-        ProbeAnswer::Found(found) => {
-            store_record(out, found);
+        Ok(pushed) => {
+            copy_words(words, &state.to_words());
+            copy_words(place, &pushed.to_words());
             0
         }
-        ProbeAnswer::Nothing => {
-            copy_words(out, &[0; RECORD_WORDS]);
-            0
-        }
-        ProbeAnswer::Refused(refusal) => refusal.number() as u64,
+        Err(refusal) => refusal.number() as u64,
     }
 }
 
-pub fn tell_rebuild_push(answer: RebuildPushAnswer, rebuild: &mut [u64], place: &mut [u64]) -> u64
-    ensures { place_told result rebuild.new place.new ≡ rebuild_push_told (rebuild_push_reply answer) rebuild.old place.old }
-{
-    match answer {
-        RebuildPushAnswer::Pushed {
-            builder: state,
-            slot,
-            location,
-        } => {
-            store_rebuild(rebuild, state);
-            copy_words(place, &[slot as u64, location as u64]);
-            0
+// What was found, or zeros.
+impl<const N: usize, T: ToWords<N>> ToWords<N> for Option<T> {
+    ghost words_of = { found_words N T.words_of };
+
+    ghost fits = { T.fits };
+
+    fn to_words(self) -> [u64; N] {
+        match self {
+            Some(found) => found.to_words(),
+            None => [0; N],
         }
-        RebuildPushAnswer::Refused {
-            refusal,
-            builder: _,
-        } => refusal.number() as u64,
     }
 }
 
-fn store_record(out: &mut [u64], found: SegmentBaseRecord)
-    ensures { out.new ≡ stored (record_words found) out.old }
-{
-    let key = found.key;
-    let value = found.value;
-    let left = found.remaining_ttl;
-    let kind = left_kind(left);
-    let secs = left_secs(left);
-    let nanos = left_nanos(left);
-    copy_words(
-        out,
-        &[
+impl ToWords<1> for usize {
+    ghost words_of = { number_words };
+
+    ghost fits = { lit< tt };
+
+    fn to_words(self) -> [u64; 1] {
+        [self as u64]
+    }
+}
+
+// 1 where it holds, else 0.
+impl ToWords<1> for bool {
+    ghost words_of = { flag_words };
+
+    ghost fits = { lit< tt };
+
+    fn to_words(self) -> [u64; 1] {
+        [u64::from(self)]
+    }
+}
+
+// 1, and place and length in the arena.
+impl ToWords<SPAN_WORDS> for Span {
+    ghost words_of = { span_words };
+
+    ghost fits = { lit< tt };
+
+    fn to_words(self) -> [u64; SPAN_WORDS] {
+        [1, self.at as u64, self.len as u64]
+    }
+}
+
+// 1, slot, location, bytes before the key, place and length of key and value, what is left of its
+// time, and its end.
+impl ToWords<RECORD_WORDS> for SegmentBaseRecord {
+    ghost words_of = { record_words };
+
+    ghost fits = { lit< tt };
+
+    fn to_words(self) -> [u64; RECORD_WORDS] {
+        let [kind, secs, nanos] = left_words(self.remaining_ttl);
+        [
             1,
-            found.slot as u64,
-            found.location as u64,
-            found.key_offset as u64,
-            key.at as u64,
-            key.len as u64,
-            value.at as u64,
-            value.len as u64,
+            self.slot as u64,
+            self.location as u64,
+            self.key_offset as u64,
+            self.key.at as u64,
+            self.key.len as u64,
+            self.value.at as u64,
+            self.value.len as u64,
             kind,
             secs,
             nanos,
-            found.end as u64,
-        ],
-    );
-}
-
-fn left_kind(left: SegmentRemainingTtl) -> u64
-    ensures { result ≡ left_kind left }
-{
-    match left {
-        SegmentRemainingTtl::Never => 0,
-        SegmentRemainingTtl::Finite(_) => 1,
-        SegmentRemainingTtl::Nothing => 2,
+            self.end as u64,
+        ]
     }
 }
 
-fn left_secs(left: SegmentRemainingTtl) -> u64
-    ensures { result ≡ left_secs left }
+// 0 where it never lapses; 1 and what is left; 2 where nothing is.
+fn left_words(left: Option<SegmentRemainingTtl>) -> [u64; 3]
+    ensures { result ≡ left_words left }
 {
     match left {
-        SegmentRemainingTtl::Never => 0,
-        SegmentRemainingTtl::Finite(time) => time.secs,
-        SegmentRemainingTtl::Nothing => 0,
+        Some(SegmentRemainingTtl::Never) => [0; 3],
+        Some(SegmentRemainingTtl::Finite(time)) => [1, time.secs, u64::from(time.nanos)],
+        None => [2, 0, 0],
     }
 }
 
-fn left_nanos(left: SegmentRemainingTtl) -> u64
-    ensures { result ≡ left_nanos left }
-{
-    match left {
-        SegmentRemainingTtl::Never => 0,
-        SegmentRemainingTtl::Finite(time) => time.nanos as u64,
-        SegmentRemainingTtl::Nothing => 0,
+impl ToWords<PLACE_WORDS> for PushedRecord {
+    ghost words_of = { placed_words };
+
+    ghost fits = { lit< tt };
+
+    fn to_words(self) -> [u64; PLACE_WORDS] {
+        [self.slot as u64, self.location as u64]
     }
 }

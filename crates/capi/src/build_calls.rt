@@ -1,15 +1,14 @@
 // Opening and finishing a set, and the sizes of areas.
 ghost use Rattle.std.specs.Prelude.{◌≡◌};
-ghost use Rattle.sets.specs.Answers.{finish_reply, open_reply};
-ghost use Rattle.sets.specs.Areas.{area_words_reply};
-ghost use Rattle.capi.specs.Calls.{area_words_told, exported_area_words, exported_finish, exported_open, finish_words, open_words, set_told, state_told, told};
+ghost use Rattle.std.proofs.Common.{lit<};
+ghost use Rattle.capi.specs.Calls.{area_numbers, exported_area_words, exported_finish, exported_open, finish_words, open_words, told};
 
-use crate::words::{
-    BUILDER_WORDS, LoadedBuilder, LoadedSetting, MALFORMED, SET_WORDS, copy_words, load_builder,
-    load_setting, store_builder, store_set,
-};
-use sets::areas::{AreaWordsAnswer, area_words};
-use sets::builder::{FinishAnswer, OpenAnswer, SegmentCacheBuilder};
+use crate::answers::{ask, tell};
+use crate::words::{BUILDER_WORDS, FromWords, MALFORMED, SET_WORDS, ToWords};
+use hash_parts::setting::SegmentCacheConfig;
+use index::view::SegmentAreas;
+use sets::areas::{AreaWords, area_words};
+use sets::builder::SegmentCacheBuilder;
 
 const AREAS: usize = 5;
 
@@ -27,6 +26,7 @@ pub extern "C" fn segment_cache_set_words() -> usize
     SET_WORDS
 }
 
+#[tactic(auto, unfolding(crate::specs::Calls::exported_open))]
 #[unsafe(no_mangle)]
 pub extern "C" fn segment_cache_open(
     setting: &[u64],
@@ -43,27 +43,19 @@ pub extern "C" fn segment_cache_open(
     if builder.len() != BUILDER_WORDS {
         return MALFORMED;
     }
-    let LoadedSetting::Is(config) = load_setting(setting) else {
+    let Some(config) = SegmentCacheConfig::from_words(setting) else {
         return MALFORMED;
     };
-    let answer = SegmentCacheBuilder::try_new(
-        config, records, index, filter, starts, lengths, arena,
-    );
-    tell_open(answer, builder)
+    let areas = SegmentAreas {
+        starts,
+        lengths,
+        arena,
+    };
+    let answer = SegmentCacheBuilder::try_new(config, records, index, filter, areas);
+    tell(answer, builder)
 }
 
-fn tell_open(answer: OpenAnswer, builder: &mut [u64]) -> u64
-    ensures { told result builder.new ≡ state_told (open_reply answer) builder.old }
-{
-    match answer {
-        OpenAnswer::Opened(state) => {
-            store_builder(builder, state);
-            0
-        }
-        OpenAnswer::Refused(refusal) => refusal.number() as u64,
-    }
-}
-
+#[tactic(auto, using(crate::proofs::Replies::told_back), unfolding(crate::specs::Calls::exported_finish))]
 #[unsafe(no_mangle)]
 pub extern "C" fn segment_cache_finish(
     builder: &[u64],
@@ -80,29 +72,15 @@ pub extern "C" fn segment_cache_finish(
     if set.len() != SET_WORDS {
         return MALFORMED;
     }
-    let LoadedBuilder::Is(state) = load_builder(builder) else {
+    let Some(state) = SegmentCacheBuilder::from_words(builder) else {
         return MALFORMED;
     };
     let answer = state.finish(target, index, starts, lengths, scratch, arena);
-    tell_finish(answer, set)
-}
-
-fn tell_finish(answer: FinishAnswer, set: &mut [u64]) -> u64
-    ensures { told result set.new ≡ set_told (finish_reply answer) set.old }
-{
-    match answer {
-        FinishAnswer::Finished(state) => {
-            store_set(set, state);
-            0
-        }
-        FinishAnswer::Refused {
-            refusal,
-            builder: _,
-        } => refusal.number() as u64,
-    }
+    tell(answer, set)
 }
 
 // How many words the areas for so many records take: index, filter, starts, lengths, scratch.
+#[tactic(auto, unfolding(crate::specs::Calls::exported_area_words))]
 #[unsafe(no_mangle)]
 pub extern "C" fn segment_cache_area_words(
     setting: &[u64],
@@ -111,33 +89,21 @@ pub extern "C" fn segment_cache_area_words(
 ) -> u64
     ensures { told result words.new ≡ exported_area_words setting.now records words.old }
 {
-    if words.len() != AREAS {
-        return MALFORMED;
-    }
-    let LoadedSetting::Is(config) = load_setting(setting) else {
-        return MALFORMED;
-    };
-    let answer = area_words(config, records);
-    tell_area_words(answer, words)
+    ask(setting, words, |config| area_words(config, records))
 }
 
-fn tell_area_words(answer: AreaWordsAnswer, words: &mut [u64]) -> u64
-    ensures { told result words.new ≡ area_words_told (area_words_reply answer) words.old }
-{
-    match answer {
-        AreaWordsAnswer::Words(needed) => {
-            copy_words(
-                words,
-                &[
-                    needed.index as u64,
-                    needed.filter as u64,
-                    needed.starts as u64,
-                    needed.lengths as u64,
-                    needed.scratch as u64,
-                ],
-            );
-            0
-        }
-        AreaWordsAnswer::Refused(refusal) => refusal.number() as u64,
+impl ToWords<AREAS> for AreaWords {
+    ghost words_of = { area_numbers };
+
+    ghost fits = { lit< tt };
+
+    fn to_words(self) -> [u64; AREAS] {
+        [
+            self.index as u64,
+            self.filter as u64,
+            self.starts as u64,
+            self.lengths as u64,
+            self.scratch as u64,
+        ]
     }
 }

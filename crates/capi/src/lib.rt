@@ -6,7 +6,9 @@
 
 pub mod answers;
 pub mod build_calls;
+pub mod load;
 pub mod rebuild_calls;
 pub mod record_calls;
 pub mod stats_calls;
+pub mod store;
 pub mod words;

@@ -1,14 +1,13 @@
 // Opening and finishing a rebuild of a set.
 ghost use Rattle.std.specs.Prelude.{◌≡◌};
-ghost use Rattle.sets.specs.Answers.{rebuild_finish_reply, rebuild_open_reply};
-ghost use Rattle.capi.specs.Calls.{told};
-ghost use Rattle.capi.specs.Rebuilds.{build_told, exported_rebuild_finish, exported_rebuild_open, rebuild_finish_words, rebuild_open_words, rebuild_told, rebuilt_told};
+ghost use Rattle.std.proofs.Common.{lit<};
+ghost use Rattle.capi.specs.Rebuilds.{exported_rebuild_finish, exported_rebuild_open, rebuild_finish_words, rebuild_open_words, totals_words};
 
-use crate::words::{
-    LoadedRebuild, LoadedSet, MALFORMED, REBUILD_WORDS, SET_WORDS, copy_words, load_rebuild,
-    load_set, store_rebuild, store_set,
-};
-use sets::rebuild::{RebuildFinishAnswer, RebuildOpenAnswer, SharedSegmentCacheBuilder};
+use crate::answers::tell;
+use crate::words::{FromWords, MALFORMED, REBUILD_WORDS, SET_WORDS, ToWords, copy_words};
+use index::view::SegmentAreas;
+use sets::cache::FrozenSegmentCache;
+use sets::rebuild::{SharedSegmentCacheBuild, SharedSegmentCacheBuilder};
 
 // The words of the totals: reused entries, reused, copied and newly allocated bytes.
 const TOTALS_WORDS: usize = 4;
@@ -20,6 +19,7 @@ pub extern "C" fn segment_cache_rebuild_words() -> usize
     REBUILD_WORDS
 }
 
+#[tactic(auto, using(crate::proofs::Replies::told_back), unfolding(crate::specs::Rebuilds::exported_rebuild_open))]
 #[unsafe(no_mangle)]
 pub extern "C" fn segment_cache_rebuild_open(
     set: &[u64],
@@ -41,14 +41,17 @@ pub extern "C" fn segment_cache_rebuild_open(
     if rebuild.len() != REBUILD_WORDS {
         return MALFORMED;
     }
-    let LoadedSet::Is(source) = load_set(set) else {
+    let Some(source) = FrozenSegmentCache::from_words(set) else {
         return MALFORMED;
+    };
+    let source_areas = SegmentAreas {
+        starts: source_starts,
+        lengths: source_lengths,
+        arena,
     };
     let answer = SharedSegmentCacheBuilder::try_new(
         source,
-        source_starts,
-        source_lengths,
-        arena,
+        source_areas,
         records,
         copied_record_capacity,
         used_source_segments,
@@ -58,21 +61,10 @@ pub extern "C" fn segment_cache_rebuild_open(
         starts,
         lengths,
     );
-    tell_rebuild_open(answer, rebuild)
+    tell(answer, rebuild)
 }
 
-fn tell_rebuild_open(answer: RebuildOpenAnswer, rebuild: &mut [u64]) -> u64
-    ensures { told result rebuild.new ≡ rebuild_told (rebuild_open_reply answer) rebuild.old }
-{
-    match answer {
-        RebuildOpenAnswer::Opened(state) => {
-            store_rebuild(rebuild, state);
-            0
-        }
-        RebuildOpenAnswer::Refused { refusal, source: _ } => refusal.number() as u64,
-    }
-}
-
+#[tactic(auto, unfolding(crate::specs::Rebuilds::exported_rebuild_finish))]
 #[unsafe(no_mangle)]
 pub extern "C" fn segment_cache_rebuild_finish(
     rebuild: &[u64],
@@ -92,34 +84,30 @@ pub extern "C" fn segment_cache_rebuild_finish(
     if totals.len() != TOTALS_WORDS {
         return MALFORMED;
     }
-    let LoadedRebuild::Is(state) = load_rebuild(rebuild) else {
+    let Some(state) = SharedSegmentCacheBuilder::from_words(rebuild) else {
         return MALFORMED;
     };
-    let answer = state.finish(index, starts, lengths, scratch, arena);
-    tell_rebuild_finish(answer, set, totals)
-}
-
-fn tell_rebuild_finish(answer: RebuildFinishAnswer, set: &mut [u64], totals: &mut [u64]) -> u64
-    ensures { build_told result set.new totals.new ≡ rebuilt_told (rebuild_finish_reply answer) set.old totals.old }
-{
-    match answer {
-        RebuildFinishAnswer::Finished(build) => {
-            let cache = build.cache;
-            store_set(set, cache);
-            copy_words(
-                totals,
-                &[
-                    build.reused_entries as u64,
-                    build.reused_record_bytes as u64,
-                    build.copied_record_bytes as u64,
-                    build.newly_allocated_bytes as u64,
-                ],
-            );
+    match state.finish(index, starts, lengths, scratch, arena) {
+        Ok(build) => {
+            copy_words(set, &build.cache.to_words());
+            copy_words(totals, &build.to_words());
             0
         }
-        RebuildFinishAnswer::Refused {
-            refusal,
-            builder: _,
-        } => refusal.number() as u64,
+        Err(refusal) => refusal.number() as u64,
+    }
+}
+
+impl ToWords<TOTALS_WORDS> for SharedSegmentCacheBuild {
+    ghost words_of = { totals_words };
+
+    ghost fits = { lit< tt };
+
+    fn to_words(self) -> [u64; TOTALS_WORDS] {
+        [
+            self.reused_entries as u64,
+            self.reused_record_bytes as u64,
+            self.copied_record_bytes as u64,
+            self.newly_allocated_bytes as u64,
+        ]
     }
 }

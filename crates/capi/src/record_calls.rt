@@ -1,39 +1,20 @@
 // Records outside of any set: the size of one, and the one at a position of lent bytes. Any setting
 // will do, but its words must be those of a setting.
 ghost use Rattle.std.specs.Prelude.{◌≡◌};
-ghost use Rattle.records.specs.Record.{size_outcome};
+ghost use Rattle.std.proofs.Common.{lit<};
 ghost use Rattle.capi.specs.Calls.{told};
-ghost use Rattle.capi.specs.Records.{exported_record_at, exported_size, read_told, read_words, setting_fitting, size_told};
-ghost use Rattle.capi.specs.Words.{stored};
+ghost use Rattle.capi.specs.Records.{exported_record_at, exported_size, read_words};
 
-use crate::words::{LoadedSetting, MALFORMED, copy_words, load_setting, width_refusal};
-use hash_parts::setting::SegmentCacheConfig;
-use records::record::{RecordAnswer, RecordRef, SizeAnswer, record_at};
+use crate::answers::tell;
+use crate::load::fitting_setting;
+use crate::words::{MALFORMED, ToWords};
+use records::record::{RecordRef, Records};
 use sets::builder::SegmentCacheBuilder;
 
 const READ_WORDS: usize = 9;
 
-#[derive(Clone, Copy)]
-pub(crate) enum FittingSetting {
-    Is(SegmentCacheConfig),
-    Refused(u64),
-}
-
-// A setting that is lent by itself, with no word that is too wide for it.
-fn fitting_setting(words: &[u64]) -> FittingSetting
-    ensures { result ≡ setting_fitting words.now }
-{
-    let LoadedSetting::Is(config) = load_setting(words) else {
-        return FittingSetting::Refused(MALFORMED);
-    };
-    let too_wide = width_refusal(words);
-    if too_wide != 0 {
-        return FittingSetting::Refused(too_wide);
-    }
-    FittingSetting::Is(config)
-}
-
 // How many bytes a record of these lengths takes.
+#[tactic(auto, using(crate::proofs::Replies::size_back), unfolding(crate::specs::Records::exported_size))]
 #[unsafe(no_mangle)]
 pub extern "C" fn segment_cache_encoded_record_bytes(
     setting: &[u64],
@@ -46,30 +27,16 @@ pub extern "C" fn segment_cache_encoded_record_bytes(
     if size.len() != 1 {
         return MALFORMED;
     }
-    match fitting_setting(setting) {
-        FittingSetting::Is(config) => {
-            let answer = SegmentCacheBuilder::encoded_record_bytes(config, key_bytes, value_bytes);
-            tell_size(answer, size)
-        }
-        FittingSetting::Refused(refusal) => refusal,
-    }
-}
-
-fn tell_size(answer: SizeAnswer, size: &mut [u64]) -> u64
-    ensures { told result size.new ≡ size_told (size_outcome answer) size.old }
-{
-    match answer {
-        SizeAnswer::Bytes(bytes) => {
-            copy_words(size, &[bytes as u64]);
-            0
-        }
-        SizeAnswer::Refused(refusal) => refusal.number() as u64,
-    }
+    let answer = fitting_setting(setting).and_then(|config| {
+        SegmentCacheBuilder::encoded_record_bytes(config, key_bytes, value_bytes)
+    });
+    tell(answer, size)
 }
 
 // The nine words of the record at a position of lent bytes: 1, the position, bytes before the key,
 // place and length of key and value, deadline, and end; or nine zeros. Going on at the end reaches the
 // next record without an index.
+#[tactic(auto, unfolding(crate::specs::Records::exported_record_at))]
 #[unsafe(no_mangle)]
 pub extern "C" fn segment_cache_record_at(
     setting: &[u64],
@@ -82,43 +49,33 @@ pub extern "C" fn segment_cache_record_at(
     if record.len() != READ_WORDS {
         return MALFORMED;
     }
-    match fitting_setting(setting) {
-        FittingSetting::Is(config) => {
-            let expiry = config.expiry;
-            let answer = record_at(records, expiry, position);
-            tell_read(answer, record)
-        }
-        FittingSetting::Refused(refusal) => refusal,
-    }
+    let answer = fitting_setting(setting).map(|config| {
+        let records = Records {
+            bytes: records,
+            expiry: config.expiry,
+        };
+        records.record_at(position)
+    });
+    tell(answer, record)
 }
 
-fn tell_read(answer: RecordAnswer, out: &mut [u64]) -> u64
-    ensures { told result out.new ≡ read_told answer out.old }
-{
-    match answer {
-        RecordAnswer::Read(read) => store_read(out, read),
-        RecordAnswer::Unreadable => copy_words(out, &[0; READ_WORDS]),
-    }
-    0
-}
+// 1, the position, bytes before the key, place and length of key and value, deadline, and end.
+impl ToWords<READ_WORDS> for RecordRef {
+    ghost words_of = { read_words };
 
-fn store_read(out: &mut [u64], read: RecordRef)
-    ensures { out.new ≡ stored (read_words read) out.old }
-{
-    let key = read.key;
-    let value = read.value;
-    copy_words(
-        out,
-        &[
+    ghost fits = { lit< tt };
+
+    fn to_words(self) -> [u64; READ_WORDS] {
+        [
             1,
-            read.location as u64,
-            read.key_offset as u64,
-            key.at as u64,
-            key.len as u64,
-            value.at as u64,
-            value.len as u64,
-            read.expires_at as u64,
-            read.end as u64,
-        ],
-    );
+            self.location as u64,
+            self.key_offset as u64,
+            self.key.at as u64,
+            self.key.len as u64,
+            self.value.at as u64,
+            self.value.len as u64,
+            u64::from(self.expires_at),
+            self.end as u64,
+        ]
+    }
 }

@@ -3,13 +3,15 @@
 
 ghost use Rattle.std.specs.Prelude.{◌≡◌};
 ghost use Rattle.capi.specs.Calls.{told};
-ghost use Rattle.charts.specs.Sheet.{sheet_reply};
-ghost use Rattle.capi_charts.specs.Charts.{exported_print_sheet, exported_sheet_pages, pages_told, sheet_words};
+ghost use Rattle.capi_charts.specs.Charts.{exported_print_sheet, exported_sheet_pages, sheet_words};
 
-use capi::words::{LoadedSet, MALFORMED, copy_words, load_set};
-use charts::sheet::{SheetAnswer, print_sheet, sheet_pages};
+use capi::answers::{ask, tell};
+use capi::words::{FromWords, MALFORMED};
+use charts::sheet::{print_sheet, sheet_pages};
+use sets::cache::FrozenSegmentCache;
 
 // How many pages a set's sheet has, to the word.
+#[tactic(auto, unfolding(crate::specs::Charts::exported_sheet_pages))]
 #[unsafe(no_mangle)]
 pub extern "C" fn segment_cache_sheet_pages(
     set: &[u64],
@@ -21,17 +23,13 @@ pub extern "C" fn segment_cache_sheet_pages(
 ) -> u64
     ensures { told result pages.new ≡ exported_sheet_pages set.now index.now starts.now lengths.now arena.now pages.old }
 {
-    if pages.len() != 1 {
-        return MALFORMED;
-    }
-    let LoadedSet::Is(state) = load_set(set) else {
-        return MALFORMED;
-    };
-    let answer = sheet_pages(state, index, starts, lengths, arena);
-    tell_pages(answer, pages)
+    ask(set, pages, |set: FrozenSegmentCache| {
+        sheet_pages(set, index, starts, lengths, arena)
+    })
 }
 
 // Prints a set's sheet to the front of the page area, and the number of its pages to the word.
+#[tactic(auto, unfolding(crate::specs::Charts::exported_print_sheet))]
 #[unsafe(no_mangle)]
 pub extern "C" fn segment_cache_print_sheet(
     set: &[u64],
@@ -47,21 +45,9 @@ pub extern "C" fn segment_cache_print_sheet(
     if pages.len() != 1 {
         return MALFORMED;
     }
-    let LoadedSet::Is(state) = load_set(set) else {
+    let Some(set) = FrozenSegmentCache::from_words(set) else {
         return MALFORMED;
     };
-    let answer = print_sheet(state, index, starts, lengths, arena, page);
-    tell_pages(answer, pages)
-}
-
-fn tell_pages(answer: SheetAnswer, pages: &mut [u64]) -> u64
-    ensures { told result pages.new ≡ pages_told (sheet_reply answer) pages.old }
-{
-    match answer {
-        SheetAnswer::Pages(count) => {
-            copy_words(pages, &[count as u64]);
-            0
-        }
-        SheetAnswer::Refused(refusal) => refusal.number() as u64,
-    }
+    let answer = print_sheet(set, index, starts, lengths, arena, page);
+    tell(answer, pages)
 }

@@ -2,18 +2,39 @@
 #![tactic(auto)]
 
 ghost use Rattle.std.specs.Prelude.{◌≡◌};
+ghost use Rattle.std.proofs.Common.{lit<};
 ghost use Rattle.capi.specs.Calls.{told};
-ghost use Rattle.files.specs.Load.{load_reply, needs_reply};
-ghost use Rattle.files.specs.Write.{size_reply, write_reply};
-ghost use Rattle.capi_files.specs.Files.{exported_file_bytes, exported_file_needs, exported_load_file, exported_write_file, load_told, load_words, needs_told, size_told, write_words};
+ghost use Rattle.capi_files.specs.Files.{exported_file_bytes, exported_file_needs, exported_load_file, exported_write_file, load_words, needs_words, write_words};
 
-use capi::words::{LoadedSet, MALFORMED, SET_WORDS, copy_words, load_set, store_set};
-use files::load::{FileNeedsAnswer, LoadFileAnswer, file_needs, load_file};
-use files::write::{FileSizeAnswer, WriteFileAnswer, file_bytes, write_file};
+use capi::answers::{ask, tell};
+use capi::words::{FromWords, MALFORMED, SET_WORDS, ToWords};
+use files::load::{FileNeeds, file_needs, load_file};
+use files::write::{file_bytes, write_file};
+use sets::cache::FrozenSegmentCache;
 
 // Words of the areas of a file's set, and the bytes of its arena.
 const NEEDS_WORDS: usize = 5;
 
+#[derive(Clone, Copy)]
+struct Needed(FileNeeds);
+
+impl ToWords<NEEDS_WORDS> for Needed {
+    ghost words_of = { λ n. needs_words n.0 };
+
+    ghost fits = { lit< tt };
+
+    fn to_words(self) -> [u64; NEEDS_WORDS] {
+        [
+            self.0.index as u64,
+            self.0.filter as u64,
+            self.0.starts as u64,
+            self.0.lengths as u64,
+            self.0.arena as u64,
+        ]
+    }
+}
+
+#[tactic(auto, unfolding(crate::specs::Files::exported_file_bytes))]
 #[unsafe(no_mangle)]
 pub extern "C" fn segment_cache_file_bytes(
     set: &[u64],
@@ -23,29 +44,13 @@ pub extern "C" fn segment_cache_file_bytes(
 ) -> u64
     ensures { told result bytes.new ≡ exported_file_bytes set.now starts.now lengths.now bytes.old }
 {
-    if bytes.len() != 1 {
-        return MALFORMED;
-    }
-    let LoadedSet::Is(state) = load_set(set) else {
-        return MALFORMED;
-    };
-    let answer = file_bytes(state, starts, lengths);
-    tell_size(answer, bytes)
-}
-
-fn tell_size(answer: FileSizeAnswer, bytes: &mut [u64]) -> u64
-    ensures { told result bytes.new ≡ size_told (size_reply answer) bytes.old }
-{
-    match answer {
-        FileSizeAnswer::Bytes(size) => {
-            copy_words(bytes, &[size as u64]);
-            0
-        }
-        FileSizeAnswer::Refused(refusal) => refusal.number() as u64,
-    }
+    ask(set, bytes, |set: FrozenSegmentCache| {
+        file_bytes(set, starts, lengths)
+    })
 }
 
 // Writes a set to the front of the file area, and the file's length to the word.
+#[tactic(auto, unfolding(crate::specs::Files::exported_write_file))]
 #[unsafe(no_mangle)]
 pub extern "C" fn segment_cache_write_file(
     set: &[u64],
@@ -62,26 +67,15 @@ pub extern "C" fn segment_cache_write_file(
     if bytes.len() != 1 {
         return MALFORMED;
     }
-    let LoadedSet::Is(state) = load_set(set) else {
+    let Some(set) = FrozenSegmentCache::from_words(set) else {
         return MALFORMED;
     };
-    let answer = write_file(state, index, filter, starts, lengths, arena, file);
-    tell_written(answer, bytes)
-}
-
-fn tell_written(answer: WriteFileAnswer, bytes: &mut [u64]) -> u64
-    ensures { told result bytes.new ≡ size_told (write_reply answer) bytes.old }
-{
-    match answer {
-        WriteFileAnswer::Written(size) => {
-            copy_words(bytes, &[size as u64]);
-            0
-        }
-        WriteFileAnswer::Refused(refusal) => refusal.number() as u64,
-    }
+    let answer = write_file(set, index, filter, starts, lengths, arena, file);
+    tell(answer, bytes)
 }
 
 // The five words: index, filter, starts, lengths, and the arena's bytes.
+#[tactic(auto, unfolding(crate::specs::Files::exported_file_needs))]
 #[unsafe(no_mangle)]
 pub extern "C" fn segment_cache_file_needs(file: &[u8], needs: &mut [u64]) -> u64
     ensures { told result needs.new ≡ exported_file_needs file.now needs.old }
@@ -89,32 +83,11 @@ pub extern "C" fn segment_cache_file_needs(file: &[u8], needs: &mut [u64]) -> u6
     if needs.len() != NEEDS_WORDS {
         return MALFORMED;
     }
-    let answer = file_needs(file);
-    tell_needs(answer, needs)
-}
-
-fn tell_needs(answer: FileNeedsAnswer, needs: &mut [u64]) -> u64
-    ensures { told result needs.new ≡ needs_told (needs_reply answer) needs.old }
-{
-    match answer {
-        FileNeedsAnswer::Needs(least) => {
-            copy_words(
-                needs,
-                &[
-                    least.index as u64,
-                    least.filter as u64,
-                    least.starts as u64,
-                    least.lengths as u64,
-                    least.arena as u64,
-                ],
-            );
-            0
-        }
-        FileNeedsAnswer::Refused(refusal) => refusal.number() as u64,
-    }
+    tell(file_needs(file).map(Needed), needs)
 }
 
 // Loads a file into the areas, and stores the set's state to the words.
+#[tactic(auto, unfolding(crate::specs::Files::exported_load_file))]
 #[unsafe(no_mangle)]
 pub extern "C" fn segment_cache_load_file(
     file: &[u8],
@@ -131,17 +104,5 @@ pub extern "C" fn segment_cache_load_file(
         return MALFORMED;
     }
     let answer = load_file(file, index, filter, starts, lengths, arena);
-    tell_loaded(answer, set)
-}
-
-fn tell_loaded(answer: LoadFileAnswer, set: &mut [u64]) -> u64
-    ensures { told result set.new ≡ load_told (load_reply answer) set.old }
-{
-    match answer {
-        LoadFileAnswer::Loaded(state) => {
-            store_set(set, state);
-            0
-        }
-        LoadFileAnswer::Refused(refusal) => refusal.number() as u64,
-    }
+    tell(answer, set)
 }

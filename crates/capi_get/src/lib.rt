@@ -5,10 +5,13 @@
 ghost use Rattle.std.specs.Prelude.{◌≡◌};
 ghost use Rattle.capi.specs.Calls.{exported_get, index_told};
 
-use capi::answers::{SPAN_WORDS, tell_get};
-use capi::words::{LoadedSet, MALFORMED, load_set};
+use capi::answers::{SPAN_WORDS, tell};
+use capi::words::{FromWords, MALFORMED};
+use index::view::SegmentAreas;
+use sets::cache::FrozenSegmentCache;
 
 // The three words of the span: 1 and the value's place and length in the arena, or three zeros.
+#[tactic(auto, unfolding(capi::specs::Calls::exported_get))]
 #[unsafe(no_mangle)]
 pub extern "C" fn segment_cache_get(
     set: &[u64],
@@ -27,9 +30,13 @@ pub extern "C" fn segment_cache_get(
     if span.len() != SPAN_WORDS {
         return MALFORMED;
     }
-    let LoadedSet::Is(state) = load_set(set) else {
+    let Some(set) = FrozenSegmentCache::from_words(set) else {
         return MALFORMED;
     };
-    let answer = state.get_at_tick(hash, key, tick, index, filter, starts, lengths, arena);
-    tell_get(answer, span)
+    let areas = SegmentAreas {
+        starts,
+        lengths,
+        arena,
+    };
+    tell(set.get_at_tick(hash, key, tick, index, filter, areas), span)
 }

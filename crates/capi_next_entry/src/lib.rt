@@ -3,14 +3,15 @@
 #![tactic(auto)]
 
 ghost use Rattle.std.specs.Prelude.{◌≡◌};
-ghost use Rattle.sets.specs.Answers.{probe_reply, walk_reply};
 ghost use Rattle.capi.specs.Calls.{exported_walk, told};
 
-use capi::answers::{RECORD_WORDS, tell_record};
-use capi::words::{LoadedSet, MALFORMED, load_set};
-use sets::cache::{ProbeAnswer, WalkAnswer};
+use capi::answers::{RECORD_WORDS, tell};
+use capi::words::{FromWords, MALFORMED};
+use index::view::SegmentAreas;
+use sets::cache::FrozenSegmentCache;
 
 // A step of the walk: the first record from a slot on, in the words of segment_cache_probe.
+#[tactic(auto, unfolding(capi::specs::Calls::exported_walk))]
 #[unsafe(no_mangle)]
 pub extern "C" fn segment_cache_next_entry(
     set: &[u64],
@@ -27,21 +28,16 @@ pub extern "C" fn segment_cache_next_entry(
     if record.len() != RECORD_WORDS {
         return MALFORMED;
     }
-    let LoadedSet::Is(state) = load_set(set) else {
+    let Some(set) = FrozenSegmentCache::from_words(set) else {
         return MALFORMED;
     };
-    let answer = state.next_physical_entry_at_tick(from, tick, index, starts, lengths, arena);
-    let found = as_probe(answer);
-    tell_record(found, record)
-}
-
-// A step of the walk as an answer of probe: both hand out a record or none.
-fn as_probe(answer: WalkAnswer) -> ProbeAnswer
-    ensures { probe_reply result ≡ walk_reply answer }
-{
-    match answer {
-        WalkAnswer::Entry(found) => ProbeAnswer::Found(found),
-        WalkAnswer::End => ProbeAnswer::Nothing,
-        WalkAnswer::Refused(refusal) => ProbeAnswer::Refused(refusal),
-    }
+    let areas = SegmentAreas {
+        starts,
+        lengths,
+        arena,
+    };
+    tell(
+        set.next_physical_entry_at_tick(from, tick, index, areas),
+        record,
+    )
 }

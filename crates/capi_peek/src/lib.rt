@@ -5,10 +5,13 @@
 ghost use Rattle.std.specs.Prelude.{◌≡◌};
 ghost use Rattle.capi.specs.Calls.{exported_peek, told};
 
-use capi::answers::{SPAN_WORDS, tell_get};
-use capi::words::{LoadedSet, MALFORMED, load_set};
+use capi::answers::{SPAN_WORDS, tell};
+use capi::words::{FromWords, MALFORMED};
+use index::view::SegmentAreas;
+use sets::cache::FrozenSegmentCache;
 
 // A lookup with no mark set, in the words of segment_cache_get.
+#[tactic(auto, unfolding(capi::specs::Calls::exported_peek))]
 #[unsafe(no_mangle)]
 pub extern "C" fn segment_cache_peek(
     set: &[u64],
@@ -27,9 +30,16 @@ pub extern "C" fn segment_cache_peek(
     if span.len() != SPAN_WORDS {
         return MALFORMED;
     }
-    let LoadedSet::Is(state) = load_set(set) else {
+    let Some(set) = FrozenSegmentCache::from_words(set) else {
         return MALFORMED;
     };
-    let answer = state.peek_at_tick(hash, key, tick, index, filter, starts, lengths, arena);
-    tell_get(answer, span)
+    let areas = SegmentAreas {
+        starts,
+        lengths,
+        arena,
+    };
+    tell(
+        set.peek_at_tick(hash, key, tick, index, filter, areas),
+        span,
+    )
 }

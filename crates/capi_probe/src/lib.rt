@@ -5,11 +5,14 @@
 ghost use Rattle.std.specs.Prelude.{◌≡◌};
 ghost use Rattle.capi.specs.Calls.{exported_probe, told};
 
-use capi::answers::{RECORD_WORDS, tell_record};
-use capi::words::{LoadedSet, MALFORMED, load_set};
+use capi::answers::{RECORD_WORDS, tell};
+use capi::words::{FromWords, MALFORMED};
+use index::view::SegmentAreas;
+use sets::cache::FrozenSegmentCache;
 
 // The twelve words of a record: 1, slot, location, bytes before the key, place and length of key
 // and value, what is left of its time, and its end; or twelve zeros.
+#[tactic(auto, unfolding(capi::specs::Calls::exported_probe))]
 #[unsafe(no_mangle)]
 pub extern "C" fn segment_cache_probe(
     set: &[u64],
@@ -28,9 +31,16 @@ pub extern "C" fn segment_cache_probe(
     if record.len() != RECORD_WORDS {
         return MALFORMED;
     }
-    let LoadedSet::Is(state) = load_set(set) else {
+    let Some(set) = FrozenSegmentCache::from_words(set) else {
         return MALFORMED;
     };
-    let answer = state.probe_hashed_at_tick(hash, key, tick, index, filter, starts, lengths, arena);
-    tell_record(answer, record)
+    let areas = SegmentAreas {
+        starts,
+        lengths,
+        arena,
+    };
+    tell(
+        set.probe_hashed_at_tick(hash, key, tick, index, filter, areas),
+        record,
+    )
 }

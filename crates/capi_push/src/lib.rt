@@ -3,16 +3,15 @@
 #![tactic(auto)]
 
 ghost use Rattle.std.specs.Prelude.{◌≡◌};
-ghost use Rattle.sets.specs.Answers.{push_reply};
-ghost use Rattle.capi.specs.Calls.{exported_push, place_told, push_told, push_words};
+ghost use Rattle.capi.specs.Calls.{exported_push, push_words};
 
-use capi::words::{
-    BUILDER_WORDS, LoadedBuilder, LoadedLifetime, MALFORMED, PLACE_WORDS, copy_words, load_builder,
-    load_lifetime, store_builder,
-};
-use sets::builder::PushAnswer;
+use capi::answers::{PLACE_WORDS, tell_push};
+use capi::words::{BUILDER_WORDS, FromWords, MALFORMED};
+use hash_parts::duration::Duration;
+use sets::builder::SegmentCacheBuilder;
 
 // The two words of the place: slot and location.
+#[tactic(auto, using(capi::proofs::Replies::push_back), unfolding(capi::specs::Calls::exported_push))]
 #[unsafe(no_mangle)]
 pub extern "C" fn segment_cache_push(
     builder: &mut [u64],
@@ -33,32 +32,12 @@ pub extern "C" fn segment_cache_push(
     if place.len() != PLACE_WORDS {
         return MALFORMED;
     }
-    let LoadedBuilder::Is(state) = load_builder(&builder[..]) else {
+    let Some(mut state) = SegmentCacheBuilder::from_words(builder) else {
         return MALFORMED;
     };
-    let LoadedLifetime::Is(ttl) = load_lifetime(lifetime) else {
+    let Some(ttl) = Option::<Duration>::from_words(lifetime) else {
         return MALFORMED;
     };
     let answer = state.push(hash, key, value, ttl, index, filter, arena);
-    tell_push(answer, builder, place)
-}
-
-fn tell_push(answer: PushAnswer, builder: &mut [u64], place: &mut [u64]) -> u64
-    ensures { place_told result builder.new place.new ≡ push_told (push_reply answer) builder.old place.old }
-{
-    match answer {
-        PushAnswer::Pushed {
-            builder: state,
-            slot,
-            location,
-        } => {
-            store_builder(builder, state);
-            copy_words(place, &[slot as u64, location as u64]);
-            0
-        }
-        PushAnswer::Refused {
-            refusal,
-            builder: _,
-        } => refusal.number() as u64,
-    }
+    tell_push(answer, state, builder, place)
 }

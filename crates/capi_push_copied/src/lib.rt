@@ -6,13 +6,13 @@ ghost use Rattle.std.specs.Prelude.{◌≡◌};
 ghost use Rattle.capi.specs.Calls.{push_words};
 ghost use Rattle.capi.specs.Rebuilds.{exported_copied};
 
-use capi::answers::tell_rebuild_push;
-use capi::words::{
-    LoadedLifetime, LoadedRebuild, MALFORMED, PLACE_WORDS, REBUILD_WORDS, load_lifetime,
-    load_rebuild,
-};
+use capi::answers::{PLACE_WORDS, tell_push};
+use capi::words::{FromWords, MALFORMED, REBUILD_WORDS};
+use hash_parts::duration::Duration;
+use sets::rebuild::SharedSegmentCacheBuilder;
 
 // The two words of the place: slot and location in the rebuild.
+#[tactic(auto, using(capi::proofs::Replies::rebuild_push_back), unfolding(capi::specs::Rebuilds::exported_copied))]
 #[unsafe(no_mangle)]
 pub extern "C" fn segment_cache_push_copied(
     rebuild: &mut [u64],
@@ -35,12 +35,12 @@ pub extern "C" fn segment_cache_push_copied(
     if place.len() != PLACE_WORDS {
         return MALFORMED;
     }
-    let LoadedRebuild::Is(state) = load_rebuild(&rebuild[..]) else {
+    let Some(mut state) = SharedSegmentCacheBuilder::from_words(rebuild) else {
         return MALFORMED;
     };
-    let LoadedLifetime::Is(ttl) = load_lifetime(lifetime) else {
+    let Some(ttl) = Option::<Duration>::from_words(lifetime) else {
         return MALFORMED;
     };
     let answer = state.push_copied(hash, key, value, ttl, index, filter, starts, lengths, arena);
-    tell_rebuild_push(answer, rebuild, place)
+    tell_push(answer, state, rebuild, place)
 }

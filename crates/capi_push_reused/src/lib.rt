@@ -5,12 +5,14 @@
 ghost use Rattle.std.specs.Prelude.{◌≡◌};
 ghost use Rattle.capi.specs.Rebuilds.{exported_reused, reused_words};
 
-use capi::answers::tell_rebuild_push;
-use capi::words::{LoadedRebuild, MALFORMED, PLACE_WORDS, REBUILD_WORDS, load_rebuild};
-use sets::rebuild::SegmentRecordLocation;
+use capi::answers::{PLACE_WORDS, tell_push};
+use capi::words::{FromWords, MALFORMED, REBUILD_WORDS};
+use index::view::SegmentAreas;
+use sets::rebuild::{SegmentRecordLocation, SharedSegmentCacheBuilder};
 
 // Location and header bytes are those of the record in the source; the two words of the place are
 // slot and location in the rebuild.
+#[tactic(auto, using(capi::proofs::Replies::rebuild_push_back), unfolding(capi::specs::Rebuilds::exported_reused))]
 #[unsafe(no_mangle)]
 pub extern "C" fn segment_cache_push_reused(
     rebuild: &mut [u64],
@@ -34,13 +36,18 @@ pub extern "C" fn segment_cache_push_reused(
     if place.len() != PLACE_WORDS {
         return MALFORMED;
     }
-    let LoadedRebuild::Is(state) = load_rebuild(&rebuild[..]) else {
+    let Some(mut state) = SharedSegmentCacheBuilder::from_words(rebuild) else {
         return MALFORMED;
     };
-    let at = SegmentRecordLocation {
+    let source = SegmentRecordLocation {
         location,
         header_bytes,
     };
-    let answer = state.push_reused(hash, key, value, at, index, filter, starts, lengths, arena);
-    tell_rebuild_push(answer, rebuild, place)
+    let areas = SegmentAreas {
+        starts,
+        lengths,
+        arena,
+    };
+    let answer = state.push_reused(hash, key, value, source, index, filter, areas);
+    tell_push(answer, state, rebuild, place)
 }

@@ -3,13 +3,15 @@
 #![tactic(auto)]
 
 ghost use Rattle.std.specs.Prelude.{◌≡◌};
-ghost use Rattle.sets.specs.Answers.{take_reply};
-ghost use Rattle.capi.specs.Calls.{accessed_told, exported_take, index_told, told};
+ghost use Rattle.capi.specs.Calls.{exported_take, index_told};
 
-use capi::words::{LoadedSet, MALFORMED, copy_words, flag_of, load_set};
-use sets::cache::TakeAnswer;
+use capi::answers::tell;
+use capi::words::{FromWords, MALFORMED};
+use index::view::SegmentAreas;
+use sets::cache::FrozenSegmentCache;
 
 // The word: 1 where the mark was set, else 0.
+#[tactic(auto, unfolding(capi::specs::Calls::exported_take))]
 #[unsafe(no_mangle)]
 pub extern "C" fn segment_cache_take_accessed(
     set: &[u64],
@@ -27,22 +29,13 @@ pub extern "C" fn segment_cache_take_accessed(
     if accessed.len() != 1 {
         return MALFORMED;
     }
-    let LoadedSet::Is(state) = load_set(set) else {
+    let Some(set) = FrozenSegmentCache::from_words(set) else {
         return MALFORMED;
     };
-    let answer = state.take_accessed(hash, key, index, filter, starts, lengths, arena);
-    tell_take(answer, accessed)
-}
-
-fn tell_take(answer: TakeAnswer, accessed: &mut [u64]) -> u64
-    ensures { told result accessed.new ≡ accessed_told (take_reply answer) accessed.old }
-{
-    match answer {
-        TakeAnswer::Accessed(was) => {
-            let flag = flag_of(was);
-            copy_words(accessed, &[flag]);
-            0
-        }
-        TakeAnswer::Refused(refusal) => refusal.number() as u64,
-    }
+    let areas = SegmentAreas {
+        starts,
+        lengths,
+        arena,
+    };
+    tell(set.take_accessed(hash, key, index, filter, areas), accessed)
 }

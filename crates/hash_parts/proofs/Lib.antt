@@ -3,6 +3,7 @@ pub mod Deadlines
 pub mod LowestSet
 pub mod Products
 pub mod Refusals
+pub mod Rotation
 pub mod Table
 pub mod Visit
 pub mod ZeroBytes

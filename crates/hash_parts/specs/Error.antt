@@ -1,4 +1,4 @@
--- The numbers of the refusals: 1 to 12 are document 01's, those from 13 on document 02's.
+-- The numbers of the refusals: 1 to 12 are those of sets, 13 to 15 those of files, 16 that of a sheet.
 -- Assumes nothing.
 use Rattle.std.specs.Prelude.{ℕ}
 use Rattle.hash_parts.specs.declared.error.SegmentCacheBuildError.{SegmentCacheBuildError}

@@ -1,4 +1,4 @@
--- What a call answers, as document 01 counts it. Assumes nothing.
+-- What a call answers, as numbers. Assumes nothing.
 use Rattle.std.specs.Prelude.{ℕ}
 use Rattle.hash_parts.specs.Error.{error_number}
 use Rattle.hash_parts.specs.declared.error.SegmentCacheBuildError.{SegmentCacheBuildError}

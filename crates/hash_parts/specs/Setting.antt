@@ -1,4 +1,4 @@
--- Document 01, Setting: "The expiry kind stands inside the setting: none, or a tick length. .. Each change of a setting takes the old one
+-- "The expiry kind stands inside the setting: none, or a tick length. .. Each change of a setting takes the old one
 -- and hands back the new. Start values: no expiry, occupancy 7, packed, filter bits 0."
 -- Assumes nothing.
 use Rattle.std.specs.Prelude.{ℕ, Bool, true}

@@ -1,20 +1,20 @@
-// Durations of whole seconds and nanoseconds, deadlines in ticks and the time that is left,
-// with no number wider than 64 bits.
-ghost use Rattle.std.specs.Prelude.{◌≡◌, ◌+◌, ◌*◌, ◌^◌, ◌<◌, ◌≤◌, min, ◌==◌, nat_le};
-ghost use Rattle.hash_parts.specs.Duration.{nanos_of, nanos_in, nanos_words, ceil_div, deadline_at, encoded_expiry, expiry_outcome, lives_at, product, remaining};
+// Durations of whole seconds and nanoseconds, deadlines in ticks and the time that is left.
+ghost use Rattle.std.specs.Prelude.{◌≡◌, ◌<◌, ◌==◌, Option};
+ghost use Rattle.hash_parts.specs.Duration.{nanos_of, deadline_at, encoded_expiry, expiry_outcome, lives_at, product, remaining};
 
 use crate::error::SegmentCacheBuildError;
-use crate::hash::{upper_product, wrapping_mul};
 use crate::setting::SegmentExpiry;
 
 // The deadline of a record that never lapses.
 pub const NEVER_EXPIRES: u16 = 65_535;
 
-const MAX_EXPIRY_TICK: u64 = 65_534;
+const MAX_EXPIRY_TICK: u128 = 65_534;
 
 const NANOS_PER_SEC: u64 = 1_000_000_000;
 
-#[derive(Clone, Copy)]
+// Not the library's, which takes a second or more in the nanoseconds only where the seconds hold it too: here every
+// pair of numbers is a duration.
+#[derive(Clone, Copy, Debug, PartialEq, Eq)]
 pub struct Duration {
     pub secs: u64,
     pub nanos: u32,
@@ -24,182 +24,100 @@ impl Duration {
     pub const fn is_zero(self) -> bool
         ensures { result ≡ (nanos_of self == 0) }
     {
-        if self.secs > 0 {
-            return false;
-        }
-        self.nanos == 0
+        self.secs == 0 && self.nanos == 0
     }
 
-    // All of it in nanoseconds, which pass one word after some 584 years.
-    pub fn as_nanos(self) -> Nanoseconds
-        ensures { result ≡ nanos_words (nanos_of self) }
+    // All of it in nanoseconds, which pass 64 bits after some 584 years and never need more than 94.
+    pub const fn as_nanos(self) -> u128
+        ensures { result ≡ nanos_of self }
     {
-        let high = upper_product(self.secs, NANOS_PER_SEC);
-        let whole = wrapping_mul(self.secs, NANOS_PER_SEC);
-        let low = std::num::wrapping_add_u64(whole, self.nanos as u64);
-        if low < whole {
-            return Nanoseconds {
-                high: high + 1,
-                low,
-            };
-        }
-        Nanoseconds { high, low }
+        self.secs as u128 * NANOS_PER_SEC as u128 + self.nanos as u128
+    }
+
+    // So many times this duration, where its seconds fit 64 bits.
+    #[tactic(auto, using(crate::proofs::Deadlines::secs_are, crate::proofs::Deadlines::nanos_are), unfolding(crate::specs::Duration::product))]
+    fn checked_mul(self, times: u16) -> Option<Duration>
+        ensures { result ≡ product self times }
+    {
+        let nanos = self.nanos as u64 * times as u64;
+        let whole = self.secs.checked_mul(times as u64)?;
+        let secs = whole.checked_add(nanos / NANOS_PER_SEC)?;
+        Some(Duration {
+            secs,
+            nanos: (nanos % NANOS_PER_SEC) as u32,
+        })
     }
 }
 
-// A number of nanoseconds in two words, high × 2^64 + low: the Rust's u128.
-#[derive(Clone, Copy)]
-pub struct Nanoseconds {
-    pub high: u64,
-    pub low: u64,
-}
-
-// How long a record lives: the Rust's Option<Duration>.
-#[derive(Clone, Copy)]
-pub enum Lifetime {
-    Never,
-    For(Duration),
-}
-
-#[derive(Clone, Copy)]
-pub enum EncodedExpiry {
-    At(u16),
-    Refused(SegmentCacheBuildError),
-}
-
-#[derive(Clone, Copy)]
+// How long a record still lives, for ever or for a while: the Rust's own type, plainer than an Option in an Option.
+#[derive(Clone, Copy, Debug, PartialEq, Eq)]
 pub enum SegmentRemainingTtl {
     Never,
     Finite(Duration),
-    // Lapsed, or longer than the largest duration.
-    Nothing,
 }
 
 // The tick at which a record lapses whose lifetime starts at tick now_tick.
-pub fn encode_expiry_at_tick(expiry: SegmentExpiry, ttl: Lifetime, now_tick: u64) -> EncodedExpiry
+#[tactic(auto, unfolding(crate::specs::Duration::encoded_expiry))]
+pub fn encode_expiry_at_tick(
+    expiry: SegmentExpiry,
+    ttl: Option<Duration>,
+    now_tick: u64,
+) -> Result<u16, SegmentCacheBuildError>
     ensures { expiry_outcome result ≡ encoded_expiry expiry ttl now_tick }
 {
-    let Lifetime::For(lifetime) = ttl else {
-        return EncodedExpiry::At(NEVER_EXPIRES);
+    let Some(lifetime) = ttl else {
+        return Ok(NEVER_EXPIRES);
     };
     let SegmentExpiry::Relative16 { tick } = expiry else {
-        return EncodedExpiry::Refused(SegmentCacheBuildError::ExpiryDisabled);
+        return Err(SegmentCacheBuildError::ExpiryDisabled);
     };
     if tick.is_zero() {
-        return EncodedExpiry::Refused(SegmentCacheBuildError::ZeroExpiryTick);
+        return Err(SegmentCacheBuildError::ZeroExpiryTick);
     }
-    deadline_at(now_tick, tick.as_nanos(), lifetime)
+    deadline_at(now_tick, lifetime, tick.as_nanos())
 }
 
-// The tick length comes worked out: no turn of the search does it again. An upper word below 2^30,
-// as every duration's is, keeps the products of the search in 64 bits.
-fn deadline_at(base: u64, tick: Nanoseconds, lifetime: Duration) -> EncodedExpiry
-    requires { (0 < nanos_in tick) × (tick.high < 2 ^ 30) }
-    ensures { expiry_outcome result ≡ deadline_at base (nanos_of lifetime) (nanos_in tick) }
+// The lifetime in ticks of so many nanoseconds, rounded up, after tick base.
+#[tactic(auto, using(crate::proofs::Deadlines::rounded_up), unfolding(crate::specs::Duration::deadline_at))]
+fn deadline_at(base: u64, lifetime: Duration, tick: u128) -> Result<u16, SegmentCacheBuildError>
+    requires { 0 < tick }
+    ensures { expiry_outcome result ≡ deadline_at base (nanos_of lifetime) tick }
 {
-    if base > MAX_EXPIRY_TICK {
-        return EncodedExpiry::Refused(SegmentCacheBuildError::ExpiryOutOfRange);
+    let ticks = lifetime.as_nanos().div_ceil(tick);
+    let deadline = base as u128 + ticks;
+    if deadline > MAX_EXPIRY_TICK {
+        return Err(SegmentCacheBuildError::ExpiryOutOfRange);
     }
-    let limit = MAX_EXPIRY_TICK - base;
-    let ticks = ticks_of(lifetime.as_nanos(), tick, limit);
-    if ticks > limit {
-        return EncodedExpiry::Refused(SegmentCacheBuildError::ExpiryOutOfRange);
-    }
-    EncodedExpiry::At((base + ticks) as u16)
-}
-
-// The lifetime in ticks, rounded up, and limit + 1 for all above limit. Where both have one word they
-// are divided; a tick of two words is longer than any lifetime of one.
-fn ticks_of(lifetime: Nanoseconds, tick: Nanoseconds, limit: u64) -> u64
-    requires { (0 < nanos_in tick) × (tick.high < 2 ^ 30) × (limit ≤ 65534) }
-    ensures { result ≡ min (ceil_div (nanos_in lifetime) (nanos_in tick)) (limit + 1) }
-{
-    if lifetime.high > 0 {
-        return search_ticks(lifetime, tick, limit);
-    }
-    if lifetime.low == 0 {
-        return 0;
-    }
-    if tick.high > 0 {
-        return 1;
-    }
-    let before = (lifetime.low - 1) / tick.low;
-    if before > limit {
-        return limit + 1;
-    }
-    before + 1
-}
-
-// The same for any lifetime above zero: halves the range in which the answer lies, at most 16 times.
-fn search_ticks(lifetime: Nanoseconds, tick: Nanoseconds, limit: u64) -> u64
-    requires { (0 < nanos_in lifetime) × (0 < nanos_in tick) × (tick.high < 2 ^ 30) × (limit ≤ 65534) }
-    ensures { result ≡ min (ceil_div (nanos_in lifetime) (nanos_in tick)) (limit + 1) }
-{
-    let mut short: u64 = 0;
-    let mut enough = limit + 1;
-    while short + 1 < enough {
-        let middle = (short + enough) / 2;
-        if covers(middle, tick, lifetime) {
-            enough = middle;
-        } else {
-            short = middle;
-        }
-    }
-    enough
-}
-
-// Whether so many ticks are at least as long as a lifetime. Their product has two words again; the
-// upper ones decide unless they are the same.
-fn covers(ticks: u64, tick: Nanoseconds, lifetime: Nanoseconds) -> bool
-    requires { (ticks ≤ 65534) × (tick.high < 2 ^ 30) }
-    ensures { result ≡ nat_le (nanos_in lifetime) (nanos_in tick * ticks) }
-{
-    let high = tick.high * ticks + upper_product(tick.low, ticks);
-    if lifetime.high != high {
-        return lifetime.high < high;
-    }
-    lifetime.low <= wrapping_mul(tick.low, ticks)
+    Ok(deadline as u16)
 }
 
 // Whether a record with this deadline is live.
+#[tactic(auto, unfolding(crate::specs::Duration::lives_at))]
 pub const fn lives_at_tick(expires_at: u16, now_tick: u64) -> bool
     ensures { result ≡ lives_at expires_at now_tick }
 {
-    if expires_at == NEVER_EXPIRES {
-        return true;
-    }
-    now_tick < (expires_at as u64)
+    expires_at == NEVER_EXPIRES || now_tick < (expires_at as u64)
 }
 
-// How long a record with this deadline still lives.
-pub fn remaining_ttl(expiry: SegmentExpiry, expires_at: u16, now_tick: u64) -> SegmentRemainingTtl
+// How long a record with this deadline still lives; nothing where it has lapsed, or where that is longer than the
+// largest duration.
+#[tactic(auto, unfolding(crate::specs::Duration::remaining))]
+pub fn remaining_ttl(
+    expiry: SegmentExpiry,
+    expires_at: u16,
+    now_tick: u64,
+) -> Option<SegmentRemainingTtl>
     ensures { result ≡ remaining expiry expires_at now_tick }
 {
     if expires_at == NEVER_EXPIRES {
-        return SegmentRemainingTtl::Never;
+        return Some(SegmentRemainingTtl::Never);
     }
-    if (expires_at as u64) <= now_tick {
-        return SegmentRemainingTtl::Nothing;
+    if now_tick >= (expires_at as u64) {
+        return None;
     }
     let SegmentExpiry::Relative16 { tick } = expiry else {
-        return SegmentRemainingTtl::Never;
+        return Some(SegmentRemainingTtl::Never);
     };
-    checked_mul(tick, (expires_at as u64) - now_tick)
-}
-
-// So many times a duration, where its seconds fit 64 bits.
-fn checked_mul(duration: Duration, times: u64) -> SegmentRemainingTtl
-    requires { (0 < times) × (times < 2 ^ 32) }
-    ensures { result ≡ product duration times }
-{
-    let part = (duration.nanos as u64) * times;
-    let carry = part / NANOS_PER_SEC;
-    let secs = duration.secs;
-    if secs > (u64::MAX - carry) / times {
-        return SegmentRemainingTtl::Nothing;
-    }
-    SegmentRemainingTtl::Finite(Duration {
-        secs: secs * times + carry,
-        nanos: (part % NANOS_PER_SEC) as u32,
-    })
+    let left = tick.checked_mul(expires_at - now_tick as u16)?;
+    Some(SegmentRemainingTtl::Finite(left))
 }

@@ -2,43 +2,46 @@
 ghost use Rattle.std.specs.Prelude.{◌≡◌};
 ghost use Rattle.hash_parts.specs.Error.{error_number};
 
-#[derive(Clone, Copy)]
+use std::error::Error;
+use std::fmt;
+
+#[derive(Clone, Copy, Debug, PartialEq, Eq)]
 pub enum SegmentCacheBuildError {
     // Target bucket occupancy is not from one to seven.
-    InvalidBucketOccupancy,
+    InvalidBucketOccupancy = 1,
     // A tick of no length cannot count deadlines.
-    ZeroExpiryTick,
+    ZeroExpiryTick = 2,
     // More records than were announced or than a set holds, or fewer than were announced; no empty slot;
     // a size past 64 bits; of a rebuild, keep flags of another number than the source's segments, or a
     // segment that is not kept.
-    CapacityOverflow,
+    CapacityOverflow = 3,
     // The key is in the set already.
-    DuplicateKey,
+    DuplicateKey = 4,
     // A lifetime was given to a set whose records keep no deadline.
-    ExpiryDisabled,
+    ExpiryDisabled = 5,
     // The deadline is past the last tick that a record can keep.
-    ExpiryOutOfRange,
+    ExpiryOutOfRange = 6,
     // The records need more segments than a location can number.
-    ArenaTooLarge,
+    ArenaTooLarge = 7,
     // The segment target is zero or above the largest.
-    InvalidSegmentTarget,
+    InvalidSegmentTarget = 8,
     // A duration has a whole second or more in its nanoseconds.
-    InvalidNanoseconds,
+    InvalidNanoseconds = 9,
     // A lent area, or the arena's rest, is too short, where in the Rust an allocation fails; or at open the
     // arena is too long.
-    AreaTooShort,
+    AreaTooShort = 10,
     // State and areas don't belong together.
-    InvalidState,
+    InvalidState = 11,
     // The location does not hold the record that is to be reused.
-    RecordMismatch,
+    RecordMismatch = 12,
     // A block of the file runs past its end, or bytes follow the fifth.
-    FileFraming,
+    FileFraming = 13,
     // A kind of block is missing, unknown or out of place.
-    FileKinds,
+    FileKinds = 14,
     // A number in the file is out of its bounds, or the numbers don't fit together.
-    FileContent,
+    FileContent = 15,
     // A key or value has more bytes than its columns of a chart room sheet show.
-    FieldTooLong,
+    FieldTooLong = 16,
 }
 
 impl SegmentCacheBuildError {
@@ -46,23 +49,31 @@ impl SegmentCacheBuildError {
     pub const fn number(self) -> u8
         ensures { result ≡ error_number self }
     {
-        match self {
-            SegmentCacheBuildError::InvalidBucketOccupancy => 1,
-            SegmentCacheBuildError::ZeroExpiryTick => 2,
-            SegmentCacheBuildError::CapacityOverflow => 3,
-            SegmentCacheBuildError::DuplicateKey => 4,
-            SegmentCacheBuildError::ExpiryDisabled => 5,
-            SegmentCacheBuildError::ExpiryOutOfRange => 6,
-            SegmentCacheBuildError::ArenaTooLarge => 7,
-            SegmentCacheBuildError::InvalidSegmentTarget => 8,
-            SegmentCacheBuildError::InvalidNanoseconds => 9,
-            SegmentCacheBuildError::AreaTooShort => 10,
-            SegmentCacheBuildError::InvalidState => 11,
-            SegmentCacheBuildError::RecordMismatch => 12,
-            SegmentCacheBuildError::FileFraming => 13,
-            SegmentCacheBuildError::FileKinds => 14,
-            SegmentCacheBuildError::FileContent => 15,
-            SegmentCacheBuildError::FieldTooLong => 16,
-        }
+        self as u8
     }
 }
+
+impl fmt::Display for SegmentCacheBuildError {
+    fn fmt<W: fmt::Write>(&self, f: &mut fmt::Formatter<W>) -> fmt::Result {
+        f.write_str(match self {
+            Self::InvalidBucketOccupancy => "a bucket is to hold from one to seven records",
+            Self::ZeroExpiryTick => "a tick of no length counts no deadlines",
+            Self::CapacityOverflow => "the number of records or bytes does not fit",
+            Self::DuplicateKey => "the key is in the set already",
+            Self::ExpiryDisabled => "the set keeps no deadlines, so a record can have no lifetime",
+            Self::ExpiryOutOfRange => "the deadline is past the last tick",
+            Self::ArenaTooLarge => "the records need too many segments",
+            Self::InvalidSegmentTarget => "the segment target is zero or too large",
+            Self::InvalidNanoseconds => "the nanoseconds make a second or more",
+            Self::AreaTooShort => "an area has the wrong length",
+            Self::InvalidState => "the state and the areas do not belong together",
+            Self::RecordMismatch => "the location holds another record",
+            Self::FileFraming => "the file's blocks do not end where the file does",
+            Self::FileKinds => "the file's blocks are not those of a set",
+            Self::FileContent => "the file's numbers do not fit together",
+            Self::FieldTooLong => "a key or value is too long for its columns",
+        })
+    }
+}
+
+impl Error for SegmentCacheBuildError {}

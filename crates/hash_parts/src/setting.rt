@@ -1,13 +1,13 @@
 // The setting of a set. Each change takes the old setting and hands back the new one.
 ghost use Rattle.std.specs.Prelude.{◌≡◌, ◌≤◌, true, false};
-ghost use Rattle.hash_parts.specs.Setting.{without_expiry, with_relative_expiry, with_occupancy, with_packed_index, with_filter_bits, bytes_per_record};
+ghost use Rattle.hash_parts.specs.Setting.{started, without_expiry, with_relative_expiry, with_occupancy, with_packed_index, with_filter_bits, bytes_per_record};
 
 use crate::duration::Duration;
 
 const DEFAULT_TARGET_OCCUPIED_SLOTS: u8 = 7;
 
-// Whether records keep a deadline, and the length of the ticks that it counts.
-#[derive(Clone, Copy)]
+// Whether records keep a deadline, and the length of the ticks that it counts: the Rust's own public type.
+#[derive(Clone, Copy, Debug, PartialEq, Eq)]
 pub enum SegmentExpiry {
     // Records keep no deadline.
     None,
@@ -26,7 +26,7 @@ impl SegmentExpiry {
     }
 }
 
-#[derive(Clone, Copy)]
+#[derive(Clone, Copy, Debug, PartialEq, Eq)]
 pub struct SegmentCacheConfig {
     pub expiry: SegmentExpiry,
     pub target_occupied_slots: u8,
@@ -38,19 +38,21 @@ impl SegmentCacheConfig {
     pub const fn without_expiry() -> Self
         ensures { result ≡ without_expiry }
     {
-        Self {
-            expiry: SegmentExpiry::None,
-            target_occupied_slots: DEFAULT_TARGET_OCCUPIED_SLOTS,
-            packed_bucket_index: true,
-            negative_filter_bits_per_entry: 0,
-        }
+        Self::started(SegmentExpiry::None)
     }
 
     pub const fn with_relative_expiry(tick: Duration) -> Self
         ensures { result ≡ with_relative_expiry tick }
     {
+        Self::started(SegmentExpiry::Relative16 { tick })
+    }
+
+    // The start values with this expiry.
+    const fn started(expiry: SegmentExpiry) -> Self
+        ensures { result ≡ started expiry }
+    {
         Self {
-            expiry: SegmentExpiry::Relative16 { tick },
+            expiry,
             target_occupied_slots: DEFAULT_TARGET_OCCUPIED_SLOTS,
             packed_bucket_index: true,
             negative_filter_bits_per_entry: 0,
@@ -105,5 +107,13 @@ impl SegmentCacheConfig {
         ensures { result ≡ self.negative_filter_bits_per_entry }
     {
         self.negative_filter_bits_per_entry
+    }
+}
+
+impl Default for SegmentCacheConfig {
+    ghost is_default = { λ config. config ≡ without_expiry };
+
+    fn default() -> Self {
+        Self::without_expiry()
     }
 }

@@ -8,22 +8,23 @@ pub const BYTE_HIGH_BITS: u64 = 0x8080_8080_8080_8080;
 const BYTE_LOW_SEVEN_BITS: u64 = 0x7f7f_7f7f_7f7f_7f7f;
 
 // Marks the zero bytes. No byte's sum carries into the next, so that every byte is judged alone.
-pub fn zero_byte_high_bits(value: u64) -> u64
+pub const fn zero_byte_high_bits(value: u64) -> u64
     ensures { result ≡ zero_marks value }
 {
-    let sums = std::num::wrapping_add_u64(value & BYTE_LOW_SEVEN_BITS, BYTE_LOW_SEVEN_BITS);
+    let sums = (value & BYTE_LOW_SEVEN_BITS).wrapping_add(BYTE_LOW_SEVEN_BITS);
     !(sums | value | BYTE_LOW_SEVEN_BITS) & BYTE_HIGH_BITS
 }
 
 // The byte of the lowest set bit of a word, so of marks the lowest marked byte; 8 where there is none.
-pub fn lowest_marked_byte(word: u64) -> usize
+pub const fn lowest_marked_byte(word: u64) -> usize
     ensures { (result ≡ lowest_set word) × (result ≤ 8) }
 {
-    (u64::trailing_zeros(word) / 8) as usize
+    (word.trailing_zeros() / 8) as usize
 }
 
 // A word without its lowest set bit, so marks without the lowest.
-pub fn without_lowest_mark(word: u64) -> u64
+#[tactic(auto, using(crate::proofs::LowestSet::cleared_none, crate::proofs::LowestSet::cleared_right))]
+pub const fn without_lowest_mark(word: u64) -> u64
     ensures { result ≡ without_lowest word }
 {
     if word == 0 {

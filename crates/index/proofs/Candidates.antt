@@ -1,6 +1,8 @@
 -- The candidates of a bucket, visited from the lowest mark up: packed, the slots whose control byte has the tag; words, those from the first that
 -- is empty or has the tag on. Assumes nothing.
-use Rattle.std.proofs.Common.{◌≡◌, ℕ, zero, suc, ◌+◌, ◌-◌, ◌*◌, ◌/◌, ◌%◌, ◌^◌, ◌<◌, ◌≤◌, Bool, true, false, cond, eqb, ltb, List, [], ◌∷◌, map, length, get_or, take, drop, sym, refl, ap, ◌∙◌, subst, ap₂, add-zero, div-add-mod', zero-add, mul-suc, arith, lit<, shr_lt, le-ltb, lt-ltb, eq-eqb, ne_eqb, eqb-true}
+use Rattle.std.proofs.Common.{add-one, ◌≡◌, ℕ, zero, suc, ◌+◌, ◌*◌, ◌/◌, ◌%◌, ◌^◌, ◌<◌, ◌≤◌, Bool, true, false, cond, eqb, ltb, List, [], ◌∷◌, map, length, get_or, take, drop, sym, refl, ap, ◌∙◌, subst, ap₂, add-zero, div-add-mod', mul-suc, arith, lit<, shr_lt, le-ltb, lt-ltb, eq-eqb, ne_eqb, eqb-true}
+use Rattle.std.specs.Prelude.{Some, None, Option}
+use Rattle.records.specs.declared.record.RecordRef.{RecordRef}
 use lib.Bits.{bit_and, bit_xor, and_comm, and_block, and_mask, and_le_r, xor_block, xor_lt, xor_add_and, xor_self}
 use borrow.Author.Tests.{eqb-false}
 use native.Mathlib.Decide.{ℕ_discrete, dec_lt}
@@ -8,20 +10,15 @@ use Rattle.hash_parts.specs.ZeroBytes.{bytes_of, is_zero, marks, zero_bytes, zer
 use Rattle.hash_parts.proofs.Visit.{visited}
 use Rattle.hash_parts.proofs.ZeroBytes.{lo}
 use Rattle.records.specs.Area.{same_bytes, spanned}
-use Rattle.records.specs.declared.record.RecordAnswer.{RecordAnswer}
-use Rattle.records.specs.declared.record.RecordAnswer.TheVariants.{Read, Unreadable}
 use Rattle.index.specs.Find.{Look, empty, other, broken, match, seen, look, looks_from, scan, sweep, has_empty}
 use Rattle.index.specs.FindSteps.{step_of, has_tag, tagged, passed_over, from_on}
 use Rattle.index.specs.Packed.{packed_slot, packed_slots_of}
-use Rattle.index.specs.Slot.{word_slot}
-use Rattle.index.specs.Word.{word_tag}
+use Rattle.index.specs.Slot.{word_slot, IndexSlot}
+use Rattle.index.specs.Word.{word_tag, word_stored}
 use Rattle.index.specs.declared.find.FindStep.{FindStep}
 use Rattle.index.specs.declared.find.FindStep.TheVariants.{Next}
-use Rattle.index.specs.declared.slot.IndexSlot.{IndexSlot}
-use Rattle.index.specs.declared.slot.IndexSlot.TheVariants.{Empty, Used}
 use Rattle.index.proofs.Bytes.{below_eight}
 use Rattle.index.proofs.Finds.{and_then, scan_cons}
-use Rattle.index.proofs.Walks.{part_cons}
 
 -- ---- which control bytes have the tag
 
@@ -71,16 +68,16 @@ tagged_are c t h ht =
 
 -- ---- a used slot never says that it is empty
 
-module _ (read : ℕ → RecordAnswer) (arena key : List ℕ) (tag i : ℕ) where
-  seen_used : (a : RecordAnswer) → seen arena key i a ≡ empty → ⊥
-  seen_used Unreadable q = let z : ◌≡◌ {A = ℕ} 0 1 = cc in omega arith
-  seen_used (Read r) q = go (same_bytes (spanned arena r.key) key) q
+module _ (read : ℕ → Option RecordRef) (arena key : List ℕ) (tag i : ℕ) where
+  seen_used : (a : Option RecordRef) → seen arena key i a ≡ empty → ⊥
+  seen_used None q = let z : ◌≡◌ {A = ℕ} 0 1 = cc in omega arith
+  seen_used (Some r) q = go (same_bytes (spanned arena r.key) key) q
     where
       go : (x : Bool) → cond x (match (record { slot = i; entry = r })) other ≡ empty → ⊥
       go true q = let z : ◌≡◌ {A = ℕ} 0 1 = cc in omega arith
       go false q = let z : ◌≡◌ {A = ℕ} 0 1 = cc in omega arith
 
-  used_look : (t stored : ℕ) → look read arena key tag i (Used t stored) ≡ empty → ⊥
+  used_look : (t stored : ℕ) → look read arena key tag i (Some (t, stored)) ≡ empty → ⊥
   used_look t stored q = go (eqb t tag) q
     where
       go : (x : Bool) → cond x (seen arena key i (read stored)) other ≡ empty → ⊥
@@ -96,7 +93,7 @@ sweep_used other ls n = refl
 sweep_used broken ls n = refl
 sweep_used (match r) ls n = refl
 
-module _ (read : ℕ → RecordAnswer) (arena key : List ℕ) (tag rest : ℕ) (pos : 0 < tag) (small : tag < 128) where
+module _ (read : ℕ → Option RecordRef) (arena key : List ℕ) (tag rest : ℕ) (pos : 0 < tag) (small : tag < 128) where
   abbrev kept : ℕ
   kept = tag + 128 * rest
 
@@ -108,7 +105,7 @@ module _ (read : ℕ → RecordAnswer) (arena key : List ℕ) (tag rest : ℕ) (
   unfolding packed_slot
   used_slot i c bytes h e = go (eqb (c % 128) 0) refl e
     where
-      go : (z : Bool) → eqb (c % 128) 0 ≡ z → at i (cond z Empty (Used (c % 128 + 128 * number_of (take 2 bytes)) (number_of (drop 2 bytes)))) ≡ empty → ⊥
+      go : (z : Bool) → eqb (c % 128) 0 ≡ z → at i (cond z None (Some (c % 128 + 128 * number_of (take 2 bytes), number_of (drop 2 bytes)))) ≡ empty → ⊥
       go true z q = omega (arith, eqb-true (c % 128) 0 z, eqb-true (c % 128) tag h)
       go false z q = used_look read arena key kept i _ _ q
 
@@ -120,13 +117,13 @@ module _ (read : ℕ → RecordAnswer) (arena key : List ℕ) (tag rest : ℕ) (
       apart : c % 128 + 128 * number_of (take 2 bytes) ≡ kept → ⊥
       apart e = let m : c % 128 ≡ tag = omega arith in eqb-false (c % 128) tag h m
 
-      go : (z : Bool) → eqb (c % 128) 0 ≡ z → sweep (at i (cond z Empty (Used (c % 128 + 128 * number_of (take 2 bytes)) (number_of (drop 2 bytes)))) ∷ ls) ≡ sweep ls
+      go : (z : Bool) → eqb (c % 128) 0 ≡ z → sweep (at i (cond z None (Some (c % 128 + 128 * number_of (take 2 bytes), number_of (drop 2 bytes)))) ∷ ls) ≡ sweep ls
       go true z = refl
       go false z = rw (ne_eqb _ _ apart)
 
   -- g gives what slot j of the bucket says, counted from p
   pub sweep_visits : (cs bytes : List ℕ) (i p : ℕ) (g : ℕ → FindStep)
-      → ((j : ℕ) → j < length cs → g (p + j) ≡ step_of (at (i + j) (get_or (packed_slots_of cs bytes) j Empty)))
+      → ((j : ℕ) → j < length cs → g (p + j) ≡ step_of (at (i + j) (get_or (packed_slots_of cs bytes) j None)))
       → sweep (looks_from read arena key kept i (packed_slots_of cs bytes)) ≡ visited (λ j after. and_then (g j) after) (map (has_tag tag) cs) p Next
   unfolding packed_slots_of looks_from visited sweep
   sweep_visits [] bytes i p g says = refl
@@ -151,10 +148,10 @@ module _ (read : ℕ → RecordAnswer) (arena key : List ℕ) (tag rest : ℕ) (
 
 -- ---- a scan visits the slots that it does not pass over
 
-module _ (read : ℕ → RecordAnswer) (arena key : List ℕ) (tag : ℕ) (g : ℕ → FindStep) where
+module _ (read : ℕ → Option RecordRef) (arena key : List ℕ) (tag : ℕ) (g : ℕ → FindStep) where
   -- g gives what slot j says, counted from p
   abbrev pub Says : List IndexSlot → ℕ → ℕ → Type 0
-  Says l i p = (j : ℕ) → j < length l → g (p + j) ≡ step_of (look read arena key tag (i + j) (get_or l j Empty))
+  Says l i p = (j : ℕ) → j < length l → g (p + j) ≡ step_of (look read arena key tag (i + j) (get_or l j None))
 
   says_first : (s : IndexSlot) (l : List IndexSlot) (i p : ℕ) → Says (s ∷ l) i p → g p ≡ step_of (look read arena key tag i s)
   says_first s l i p says = rw (add-zero p, add-zero i) at (says 0 (omega arith))
@@ -176,8 +173,8 @@ module _ (read : ℕ → RecordAnswer) (arena key : List ℕ) (tag : ℕ) (g : �
       → scan (looks_from read arena key tag i l) ≡ visited (λ j after. and_then (g j) after) (from_on (passed_over tag l) (length l)) p Next
   unfolding looks_from visited from_on passed_over scan
   scan_visits [] i p says = refl
-  scan_visits (Empty ∷ l) i p says = scan_all (Empty ∷ l) i p says
-  scan_visits (Used t stored ∷ l) i p says = go (eqb t tag) refl (scan_visits l (suc i) (suc p) (says_rest (Used t stored) l i p says))
+  scan_visits (None ∷ l) i p says = scan_all (None ∷ l) i p says
+  scan_visits (Some (t, stored) ∷ l) i p says = go (eqb t tag) refl (scan_visits l (suc i) (suc p) (says_rest (Some (t, stored)) l i p says))
     where
       ls : List Look
       ls = looks_from read arena key tag (suc i) l
@@ -185,45 +182,44 @@ module _ (read : ℕ → RecordAnswer) (arena key : List ℕ) (tag : ℕ) (g : �
       go : (x : Bool) → eqb t tag ≡ x → scan ls ≡ visited (λ j after. and_then (g j) after) (from_on (passed_over tag l) (length l)) (suc p) Next
           → scan (cond x (seen arena key i (read stored)) other ∷ ls)
           ≡ visited (λ j after. and_then (g j) after) (from_on (cond x 0 (suc (passed_over tag l))) (suc (length l))) p Next
-      go true e rest = rw e at (scan_all (Used t stored ∷ l) i p says)
+      go true e rest = rw e at (scan_all (Some (t, stored) ∷ l) i p says)
       go false e rest = rest
 
--- ---- how many slots of a bucket of words are passed over, slot by slot
+-- ---- how many slots of a bucket of words are passed over
 
--- of those from an offset on
-abbrev pub passed_from : ℕ → List ℕ → ℕ → ℕ → ℕ
-passed_from tag index at offset = passed_over tag (map word_slot (take (8 - offset) (drop (at + offset) index)))
+-- a word at which they end: an empty one, or one with the tag
+abbrev pub ends : ℕ → ℕ → Bool
+ends tag w = cond (eqb w 0) true (eqb (word_tag w) tag)
 
-pub passed_begins : (tag : ℕ) (index : List ℕ) (at : ℕ) → passed_over tag (map word_slot (take 8 (drop at index))) ≡ 0 + passed_from tag index at 0
-passed_begins tag index at = rw (zero-add (passed_from tag index at 0), add-zero at)
-
-pub passed_ends : (tag : ℕ) (index : List ℕ) (at offset : ℕ) → 8 ≤ offset → passed_from tag index at offset ≡ 0
+pub passed_none : (tag : ℕ) → passed_over tag (map word_slot []) ≡ 0
 unfolding passed_over
-passed_ends tag index at offset h = let e : 8 - offset ≡ 0 = omega arith in rw e
+passed_none tag = refl
 
-module _ (tag : ℕ) (index : List ℕ) (at offset : ℕ) (some_left : offset < 8) (inside : at + offset < length index) where
-  abbrev word : ℕ
-  word = get_or index (at + offset) 0
-
-  passed_step : passed_from tag index at offset ≡ passed_over tag (word_slot word ∷ map word_slot (take (8 - (offset + 1)) (drop (at + (offset + 1)) index)))
-  passed_step =
-      let left : 8 - offset - 1 ≡ 8 - (offset + 1) = omega arith in
-      let next : at + offset + 1 ≡ at + (offset + 1) = omega arith in
-      let some : 0 < 8 - offset = omega arith in
-      rw (part_cons index (8 - offset) (at + offset) 0 some inside, left, next)
-
-  pub passed_empty : word ≡ 0 → passed_from tag index at offset ≡ 0
+module _ (tag w : ℕ) (ws : List ℕ) where
+  pub passed_hit : ends tag w ≡ true → passed_over tag (map word_slot (w ∷ ws)) ≡ 0
   unfolding passed_over word_slot
-  passed_empty e = passed_step ∙ rw (eq-eqb word 0 e)
+  passed_hit e = go (eqb w 0) e
+    where
+      go : (x : Bool) → cond x true (eqb (word_tag w) tag) ≡ true → passed_over tag (cond x None (Some (word_tag w, word_stored w)) ∷ map word_slot ws) ≡ 0
+      go true f = refl
+      go false f = rw f
 
-  module _ (used : word ≡ 0 → ⊥) where
-    pub passed_own : word_tag word ≡ tag → passed_from tag index at offset ≡ 0
-    unfolding passed_over word_slot
-    passed_own e = passed_step ∙ rw (ne_eqb word 0 used, eq-eqb (word_tag word) tag e)
+  pub passed_miss : ends tag w ≡ false → passed_over tag (map word_slot (w ∷ ws)) ≡ passed_over tag (map word_slot ws) + 1
+  unfolding passed_over word_slot
+  passed_miss e = go (eqb w 0) e
+    where
+      go : (x : Bool) → cond x true (eqb (word_tag w) tag) ≡ false
+          → passed_over tag (cond x None (Some (word_tag w, word_stored w)) ∷ map word_slot ws) ≡ passed_over tag (map word_slot ws) + 1
+      go true f = cc
+      go false f = rw f (sym (add-one (passed_over tag (map word_slot ws))))
 
-    pub passed_other : (word_tag word ≡ tag → ⊥) → passed_from tag index at offset ≡ suc (passed_from tag index at (offset + 1))
-    unfolding passed_over word_slot
-    passed_other n = passed_step ∙ rw (ne_eqb word 0 used, ne_eqb (word_tag word) tag n)
+pub passed_most : (tag : ℕ) (ws : List ℕ) → passed_over tag (map word_slot ws) ≤ length ws
+passed_most tag [] = omega (arith, passed_none tag)
+passed_most tag (w ∷ ws) = go (ends tag w) refl (passed_most tag ws)
+  where
+    go : (b : Bool) → ends tag w ≡ b → passed_over tag (map word_slot ws) ≤ length ws → passed_over tag (map word_slot (w ∷ ws)) ≤ length (w ∷ ws)
+    go true e h = omega (arith, passed_hit tag w ws e)
+    go false e h = omega (arith, passed_miss tag w ws e)
 
 pub from_length : (s n : ℕ) → length (from_on s n) ≡ n
 unfolding from_on
@@ -242,7 +238,7 @@ no_marks = refl
 
 -- ---- an empty slot
 
-module _ (read : ℕ → RecordAnswer) (arena key : List ℕ) (tag : ℕ) where
+module _ (read : ℕ → Option RecordRef) (arena key : List ℕ) (tag : ℕ) where
   -- a bucket has an empty slot exactly where a control byte has the tag 0
   pub empty_marked : (cs bytes : List ℕ) (i : ℕ) → has_empty (looks_from read arena key tag i (packed_slots_of cs bytes)) ≡ ltb 0 (marks (map (has_tag 0) cs))
   unfolding packed_slots_of looks_from has_empty marks packed_slot
@@ -269,6 +265,6 @@ module _ (read : ℕ → RecordAnswer) (arena key : List ℕ) (tag : ℕ) where
           split (no n) = le-ltb 0 m (omega arith) ∙ sym (le-ltb 0 (m * 256 + 0) (omega arith))
 
       go : (x : Bool) → has_empty ls ≡ ltb 0 m → has_empty (look read arena key tag i
-          (cond x Empty (Used (c % 128 + 128 * number_of (take 2 (take 7 bytes))) (number_of (drop 2 (take 7 bytes))))) ∷ ls) ≡ ltb 0 (m * 256 + cond x 0x80 0)
+          (cond x None (Some (c % 128 + 128 * number_of (take 2 (take 7 bytes)), number_of (drop 2 (take 7 bytes))))) ∷ ls) ≡ ltb 0 (m * 256 + cond x 0x80 0)
       go true r = sym (lt-ltb 0 (m * 256 + 0x80) (omega arith))
       go false r = used_on _ (used_look read arena key tag i _ _) ∙ r ∙ positive

@@ -1,18 +1,16 @@
 -- What a whole index and its stored locations show. Laws speak of it, and no contract does. Assumes nothing.
 use Rattle.std.proofs.Common.{ℕ, zero, suc, ◌*◌, List, [], ◌∷◌, map, take}
-use mathlib.Core.Option.{Option}
+use Rattle.std.specs.Prelude.{Some, None, Option}
 use Rattle.records.specs.Record.{Stored, contents}
 use Rattle.index.specs.Packed.{packed_bucket}
-use Rattle.index.specs.Slot.{word_slot, packed_tag}
+use Rattle.index.specs.Slot.{word_slot, packed_tag, IndexSlot}
 use Rattle.index.specs.View.{record_in}
-use Rattle.index.specs.declared.slot.IndexSlot.{IndexSlot}
-use Rattle.index.specs.declared.slot.IndexSlot.TheVariants.{Empty, Used}
 use Rattle.index.specs.declared.view.SegmentView.{SegmentView}
 
 -- a slot of the word layout as the packed layout keeps it
 abbrev pub repacked : IndexSlot → IndexSlot
-repacked Empty = Empty
-repacked (Used tag stored) = Used (packed_tag tag) stored
+repacked None = None
+repacked (Some (tag, stored)) = Some (packed_tag tag, stored)
 
 -- the slots of so many buckets of words
 abbrev pub word_slots : ℕ → List ℕ → List IndexSlot

@@ -1,6 +1,6 @@
 -- The slots of an index and the list of its entries, in the order in which they were pushed. Assumes nothing.
 use Rattle.std.proofs.Common.{◌≡◌, ℕ, ◌+◌, ◌*◌, ◌^◌, ◌<◌, ◌≤◌, Bool, false, List, [], map, length, take, replicate, arith, length-take, ne_eqb}
-use mathlib.Core.Option.{Option, none, some}
+use Rattle.std.specs.Prelude.{Some, None, Option}
 use mathlib.Core.List.{Forall₂}
 use mathlib.Mathlib.Data.List.Forall2.Forall₂
 use mathlib.Mathlib.Data.List.Forall2.{Forall₂-map_left_iff}
@@ -9,17 +9,15 @@ use Rattle.hash_parts.specs.Hash.{tag_of, first_bucket}
 use Rattle.records.specs.Area.{same_bytes}
 use Rattle.records.specs.Record.{Stored}
 use Rattle.index.specs.Filter.{filter_has}
-use Rattle.index.specs.Slot.{word_slot, kept_tag}
+use Rattle.index.specs.Slot.{word_slot, kept_tag, IndexSlot}
 use Rattle.index.specs.Word.{word_of}
-use Rattle.index.specs.declared.slot.IndexSlot.{IndexSlot}
-use Rattle.index.specs.declared.slot.IndexSlot.TheVariants.{Empty, Used}
 use Rattle.index.proofs.Contents.{word_slots}
 use Rattle.index.proofs.Pairs.{pairs_replicate, pairs_length}
 use Rattle.index.proofs.Placed.{Placed, placed_none}
 use Rattle.index.proofs.Words.{tag_back, location_back, word_taken}
 
 -- the slot of a new word
-pub new_slot : (t l : ℕ) → t < 2 ^ 23 → l + 1 < 2 ^ 40 → word_slot (word_of t l) ≡ Used t (l + 1)
+pub new_slot : (t l : ℕ) → t < 2 ^ 23 → l + 1 < 2 ^ 40 → word_slot (word_of t l) ≡ Some (t, l + 1)
 unfolding word_slot
 new_slot t l ht hl = rw (ne_eqb (word_of t l) 0 (word_taken t l ht hl), tag_back t l ht hl, location_back t l ht hl)
 
@@ -33,8 +31,8 @@ module _ {E : Type 0} (stored : E → Stored) where
 module _ {E : Type 0} (stored : E → Stored) (H : List ℕ → ℕ) where
   -- One slot in either layout. `Holds l e`: the entry e stands at the stored location l.
   pub data Cell (packed : Bool) (Holds : ℕ → E → Type 0) : IndexSlot → Option E → Type 0 where
-    cell_empty : Cell packed Holds Empty none
-    cell_used : {t l : ℕ} {e : E} → t ≡ kept_tag packed (tag_of (H (stored e).key)) → Holds l e → Cell packed Holds (Used t l) (some e)
+    cell_empty : Cell packed Holds None None
+    cell_used : {t l : ℕ} {e : E} → t ≡ kept_tag packed (tag_of (H (stored e).key)) → Holds l e → Cell packed Holds (Some (t, l)) (Some e)
 
   -- so many buckets of slots, and a filter of so many words, stand for the list r
   pub record Indexed (packed : Bool) (Holds : ℕ → E → Type 0) (buckets : ℕ) (slots : List IndexSlot) (filter : List ℕ) (words : ℕ) (r : List E) : Type 0 where
@@ -46,12 +44,12 @@ module _ {E : Type 0} (stored : E → Stored) (H : List ℕ → ℕ) where
 module _ {E : Type 0} {stored : E → Stored} {H : List ℕ → ℕ} where
   -- empty slots stand for no entries, whatever the filter holds
   pub none_indexed : {packed : Bool} {Holds : ℕ → E → Type 0} (buckets : ℕ) (filter : List ℕ) (words : ℕ)
-      → Indexed stored H packed Holds buckets (replicate (8 * buckets) Empty) filter words []
+      → Indexed stored H packed Holds buckets (replicate (8 * buckets) None) filter words []
   none_indexed buckets filter words =
       record {
-        table = replicate (8 * buckets) none;
-        size = length-replicate (8 * buckets) none;
-        cells = pairs_replicate (8 * buckets) Empty none cell_empty;
+        table = replicate (8 * buckets) None;
+        size = length-replicate (8 * buckets) None;
+        cells = pairs_replicate (8 * buckets) None None cell_empty;
         placed = placed_none (keyed stored) (λ k. 8 * first_bucket (H k) buckets) 16 (λ k. filter_has filter words (H k)) (8 * buckets);
       }
 

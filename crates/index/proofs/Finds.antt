@@ -1,47 +1,42 @@
 -- Laws of finding: one slot, the buckets of a walk. Assumes nothing.
 use Rattle.std.proofs.Common.{◌≡◌, ℕ, zero, suc, ◌+◌, ◌-◌, ◌*◌, ◌/◌, ◌<◌, ◌≤◌, Bool, true, false, cond, List, ◌∷◌, length, refl, ap, ◌∙◌, add-one, arith, eq-eqb, ne_eqb, le-leb}
+use Rattle.std.specs.Prelude.{Some, None, Option}
 use borrow.Author.Tests.{lt-leb}
 use Rattle.hash_parts.specs.Hash.{tag_of, first_bucket}
 use Rattle.records.specs.Area.{same_bytes, spanned}
-use Rattle.records.specs.declared.record.RecordAnswer.{RecordAnswer}
-use Rattle.records.specs.declared.record.RecordAnswer.TheVariants.{Read, Unreadable}
 use Rattle.records.specs.declared.record.RecordRef.{RecordRef}
 use Rattle.index.specs.Build.{next_bucket}
 use Rattle.index.specs.Find.{Look, empty, other, broken, match, look, looks_from, scan, in_bucket, followed, ends_at, found, find_in, slots_of}
 use Rattle.index.specs.FindSteps.{step_of}
 use Rattle.index.specs.Filter.{filter_has}
-use Rattle.index.specs.Slot.{kept_tag}
+use Rattle.index.specs.Slot.{kept_tag, IndexSlot}
 use Rattle.index.specs.View.{record_in}
 use Rattle.index.specs.Walk.{bucket_walk}
-use Rattle.index.specs.declared.find.FindAnswer.{FindAnswer}
-use Rattle.index.specs.declared.find.FindAnswer.TheVariants.{Found, Nothing}
 use Rattle.index.specs.declared.find.FindStep.{FindStep}
 use Rattle.index.specs.declared.find.FindStep.TheVariants.{Hit, Stop, Next}
 use Rattle.index.specs.declared.find.FoundRecord.{FoundRecord}
-use Rattle.index.specs.declared.slot.IndexSlot.{IndexSlot}
-use Rattle.index.specs.declared.slot.IndexSlot.TheVariants.{Empty, Used}
 use Rattle.index.specs.declared.view.SegmentView.{SegmentView}
 use Rattle.index.proofs.Around.{around, around_step, around_end, walk_around}
 
 -- ---- one slot
 
-module _ (read : ℕ → RecordAnswer) (arena key : List ℕ) (tag i : ℕ) (content : IndexSlot) where
+module _ (read : ℕ → Option RecordRef) (arena key : List ℕ) (tag i : ℕ) (content : IndexSlot) where
   -- what the slot says
   abbrev pub said : FindStep
   said = step_of (look read arena key tag i content)
 
-  pub slot_empty : content ≡ Empty → Stop ≡ said
+  pub slot_empty : content ≡ None → Stop ≡ said
   slot_empty e = rw e
 
-  module _ (kept stored : ℕ) (used : content ≡ Used kept stored) where
+  module _ (kept stored : ℕ) (used : content ≡ Some (kept, stored)) where
     pub slot_other : (kept ≡ tag → ⊥) → Next ≡ said
     slot_other n = rw used (simp (ne_eqb kept tag n))
 
     module _ (own : kept ≡ tag) where
-      pub slot_broken : read stored ≡ Unreadable → Stop ≡ said
+      pub slot_broken : read stored ≡ None → Stop ≡ said
       slot_broken u = rw used (simp (eq-eqb kept tag own, u))
 
-      module _ (r : RecordRef) (reads : read stored ≡ Read r) where
+      module _ (r : RecordRef) (reads : read stored ≡ Some r) where
         pub slot_match : same_bytes (spanned arena r.key) key ≡ true → Hit (record { slot = i; entry = r }) ≡ said
         slot_match t = rw used (simp (eq-eqb kept tag own, reads, t))
 
@@ -71,7 +66,7 @@ scan_cons (match r) ls = refl
 
 module _ (packed may : Bool) (looks : ℕ → List Look) (buckets : ℕ) where
   -- the answer of so many buckets from one on, the i-th of the walk
-  unfoldable pub buckets_found : ℕ → ℕ → ℕ → FindAnswer
+  unfoldable pub buckets_found : ℕ → ℕ → ℕ → Option FoundRecord
   buckets_found i left bucket = found packed may looks i (around left bucket buckets)
 
 module _ (packed may : Bool) (looks : ℕ → List Look) (buckets : ℕ) where
@@ -79,26 +74,26 @@ module _ (packed may : Bool) (looks : ℕ → List Look) (buckets : ℕ) where
   unfolding buckets_found
   found_first h first = ap (found packed may looks 0) (walk_around buckets (first_bucket h buckets) first)
 
-  pub found_end : (i left bucket : ℕ) → left ≤ 0 → buckets_found packed may looks buckets i left bucket ≡ Nothing
+  pub found_end : (i left bucket : ℕ) → left ≤ 0 → buckets_found packed may looks buckets i left bucket ≡ None
   unfolding buckets_found found
   found_end i left bucket z = ap (found packed may looks i) (around_end left bucket buckets z)
 
   module _ (i left bucket : ℕ) (some_left : 0 < left) where
-    abbrev rest : FindAnswer
+    abbrev rest : Option FoundRecord
     rest = buckets_found packed may looks buckets (i + 1) (left - 1) (next_bucket bucket buckets)
 
-    found_step : buckets_found packed may looks buckets i left bucket ≡ followed (in_bucket packed (looks bucket)) (cond (ends_at i may) Nothing rest)
+    found_step : buckets_found packed may looks buckets i left bucket ≡ followed (in_bucket packed (looks bucket)) (cond (ends_at i may) None rest)
     unfolding buckets_found found
     found_step = ap (found packed may looks i) (around_step left bucket buckets some_left) ∙ rw (add-one i)
 
-    pub found_hit : (r : FoundRecord) → in_bucket packed (looks bucket) ≡ Hit r → buckets_found packed may looks buckets i left bucket ≡ Found r
+    pub found_hit : (r : FoundRecord) → in_bucket packed (looks bucket) ≡ Hit r → buckets_found packed may looks buckets i left bucket ≡ Some r
     found_hit r e = found_step ∙ rw e
 
-    pub found_stop : in_bucket packed (looks bucket) ≡ Stop → buckets_found packed may looks buckets i left bucket ≡ Nothing
+    pub found_stop : in_bucket packed (looks bucket) ≡ Stop → buckets_found packed may looks buckets i left bucket ≡ None
     found_stop e = found_step ∙ rw e
 
     module _ (on : in_bucket packed (looks bucket) ≡ Next) where
-      pub found_filtered : ends_at i may ≡ true → buckets_found packed may looks buckets i left bucket ≡ Nothing
+      pub found_filtered : ends_at i may ≡ true → buckets_found packed may looks buckets i left bucket ≡ None
       found_filtered e = found_step ∙ rw (on, e)
 
       pub found_on : ends_at i may ≡ false → buckets_found packed may looks buckets i left bucket ≡ rest
@@ -118,7 +113,7 @@ module _ (view : SegmentView) (packed : Bool) (index : List ℕ) (buckets : ℕ)
       looks_from (record_in view arena starts lengths) arena key (kept_tag packed (tag_of h)) (8 * b) (slots_of packed buckets index b)
 
   module _ (filter : List ℕ) (words : ℕ) (starts lengths arena key : List ℕ) (h : ℕ) where
-    pub find_short : length index / 8 < buckets → find_in view packed index buckets filter words starts lengths arena key h ≡ Nothing
+    pub find_short : length index / 8 < buckets → find_in view packed index buckets filter words starts lengths arena key h ≡ None
     unfolding find_in
     find_short l = let s : length index < 8 * buckets = omega arith in simp (lt-leb _ _ s)
 
@@ -129,9 +124,3 @@ module _ (view : SegmentView) (packed : Bool) (index : List ℕ) (buckets : ℕ)
     find_walks fit first =
         let s : 8 * buckets ≤ length index = omega arith in
         simp (le-leb _ _ s) (found_first packed (filter_has filter words h) (Looks starts lengths arena key h) buckets h first)
-
--- a step that is neither a hit nor on ends the walk
-pub stops : (s : FindStep) → ((r : FoundRecord) → s ≡ Hit r → ⊥) → (s ≡ Next → ⊥) → s ≡ Stop
-stops (Hit r) n m = absurd (n r refl)
-stops Stop n m = refl
-stops Next n m = absurd (m refl)

@@ -1,11 +1,11 @@
 -- Slots in a row and slots by buckets: the buckets of a walk, one after the other, are the slots from the first bucket's on, around. Assumes nothing.
 use Rattle.std.proofs.Common.{◌≡◌, ℕ, zero, suc, ◌+◌, ◌-◌, ◌*◌, ◌<◌, ◌≤◌, Bool, true, false, cond, List, [], ◌∷◌, ◌++◌, map, length, take, drop, sym, refl, ap, ◌∙◌, ap₂, add-zero, arith, length-drop, length-take-le, take-take, drop-drop, take_at, drop_at}
+use Rattle.std.specs.Prelude.{}
 use mathlib.Core.List.{map-append, flatten}
 use Rattle.index.specs.Find.{slots_of}
 use Rattle.index.specs.Packed.{packed_bucket}
-use Rattle.index.specs.Slot.{word_slot}
+use Rattle.index.specs.Slot.{word_slot, IndexSlot}
 use Rattle.index.specs.Walk.{buckets_of, rot, up_from}
-use Rattle.index.specs.declared.slot.IndexSlot.{IndexSlot}
 use Rattle.index.proofs.Contents.{packed_buckets, word_slots}
 use Rattle.index.proofs.Around.{around, walk_around}
 use Rattle.index.proofs.PackedReads.{bucket_length}

@@ -1,13 +1,10 @@
 -- What a lookup makes of the slots of its walk is the first entry of its key in them: in both layouts, with the filter and the early stop. Assumes nothing.
 use Rattle.std.proofs.Common.{◌≡◌, ℕ, suc, ◌+◌, ◌*◌, ◌<◌, ◌≤◌, Bool, true, false, cond, not, eqb, List, [], ◌∷◌, ◌++◌, length, drop, sym, refl, ap, ◌∙◌, arith, eqb-true}
-use mathlib.Core.Option.{Option, none, some, map}
-use mathlib.Core.List.{flatten, head?, Forall₂}
+use Rattle.std.specs.Prelude.{Some, None, Option, option_map, slice_get}
+use mathlib.Core.List.{flatten, Forall₂}
 use lib.Seq.{drop-append-add}
 use Rattle.records.specs.Record.{Stored, contents}
-use Rattle.records.specs.declared.record.RecordAnswer.TheVariants.{Read}
 use Rattle.index.specs.Find.{ends_at, Look, empty, other, match, scan, sweep, has_empty, ended, in_bucket, followed, found}
-use Rattle.index.specs.declared.find.FindAnswer.{FindAnswer}
-use Rattle.index.specs.declared.find.FindAnswer.TheVariants.{Found, Nothing}
 use Rattle.index.specs.declared.find.FindStep.{FindStep}
 use Rattle.index.specs.declared.find.FindStep.TheVariants.{Hit, Stop, Next}
 use Rattle.index.specs.declared.find.FoundRecord.{FoundRecord}
@@ -16,11 +13,11 @@ use Rattle.index.proofs.Flat.{bucket_at, bucket_eight, walked, Below, no_more, o
 use Rattle.index.proofs.Table.{true≢false, nil_right, hits, past, hits_append, past_after}
 
 -- key, value and deadline of the record that a lookup answers
-abbrev pub found_stored : List ℕ → FindAnswer → Option Stored
-found_stored arena (Found x) = contents arena (Read x.entry)
-found_stored arena Nothing = none
+abbrev pub found_stored : List ℕ → Option FoundRecord → Option Stored
+found_stored arena (Some x) = contents arena (Some x.entry)
+found_stored arena None = None
 
-followed_ended : (gap : Bool) (s : FindStep) (after : FindAnswer) → followed (ended gap s) after ≡ followed s (cond gap Nothing after)
+followed_ended : (gap : Bool) (s : FindStep) (after : Option FoundRecord) → followed (ended gap s) after ≡ followed s (cond gap None after)
 followed_ended gap (Hit x) after = refl
 followed_ended gap Stop after = refl
 followed_ended true Next after = refl
@@ -31,21 +28,21 @@ followed_ended false Next after = refl
 module _ {E : Type 0} (stored : E → Stored) (arena k : List ℕ) where
   -- a slot says of its entry whether it has the key; no slot is broken
   pub data Sees : Look → Option E → Type 0 where
-    sees_empty : Sees empty none
-    sees_other : {e : E} → keyed stored k e ≡ false → Sees other (some e)
-    sees_match : {x : FoundRecord} {e : E} → keyed stored k e ≡ true → contents arena (Read x.entry) ≡ some (stored e) → Sees (match x) (some e)
+    sees_empty : Sees empty None
+    sees_other : {e : E} → keyed stored k e ≡ false → Sees other (Some e)
+    sees_match : {x : FoundRecord} {e : E} → keyed stored k e ≡ true → contents arena (Some x.entry) ≡ Some (stored e) → Sees (match x) (Some e)
 
   abbrev pub has : E → Bool
   has = keyed stored k
 
   -- an answer is the first entry of the key in the slots d
-  abbrev pub IsFirst : FindAnswer → List (Option E) → Type 0
-  IsFirst a d = found_stored arena a ≡ map stored (head? (hits has d))
+  abbrev pub IsFirst : Option FoundRecord → List (Option E) → Type 0
+  IsFirst a d = found_stored arena a ≡ option_map stored (slice_get (hits has d) 0)
 
-  match_first : (x : FoundRecord) (e : E) (d : List (Option E)) → has e ≡ true → contents arena (Read x.entry) ≡ some (stored e) → IsFirst (Found x) (some e ∷ d)
+  match_first : (x : FoundRecord) (e : E) (d : List (Option E)) → has e ≡ true → contents arena (Some x.entry) ≡ Some (stored e) → IsFirst (Some x) (Some e ∷ d)
   match_first x e d h v = rw h v
 
-  scan_first : {l : List Look} {m : List (Option E)} (d : List (Option E)) (after : FindAnswer) → Forall₂ Sees l m → hits has (past (m ++ d)) ≡ []
+  scan_first : {l : List Look} {m : List (Option E)} (d : List (Option E)) (after : Option FoundRecord) → Forall₂ Sees l m → hits has (past (m ++ d)) ≡ []
       → IsFirst after d → IsFirst (followed (scan l) after) (m ++ d)
   unfolding scan
   scan_first d after Forall₂.nil g s = s
@@ -53,7 +50,7 @@ module _ {E : Type 0} (stored : E → Stored) (arena k : List ℕ) where
   scan_first d after (Forall₂.cons (sees_other h) r) g s = rw h (scan_first d after r g s)
   scan_first d after (Forall₂.cons {l₂ = m} (sees_match {x = x} {e} h v) r) g s = match_first x e (m ++ d) h v
 
-  sweep_first : {l : List Look} {m : List (Option E)} (d : List (Option E)) (after : FindAnswer) → Forall₂ Sees l m → IsFirst after d → IsFirst (followed (sweep l) after) (m ++ d)
+  sweep_first : {l : List Look} {m : List (Option E)} (d : List (Option E)) (after : Option FoundRecord) → Forall₂ Sees l m → IsFirst after d → IsFirst (followed (sweep l) after) (m ++ d)
   unfolding sweep
   sweep_first d after Forall₂.nil s = s
   sweep_first d after (Forall₂.cons sees_empty r) s = sweep_first d after r s
@@ -68,12 +65,12 @@ module _ {E : Type 0} (stored : E → Stored) (arena k : List ℕ) where
   gap_ends d (Forall₂.cons (sees_other h) r) t g = gap_ends d r t g
   gap_ends d (Forall₂.cons (sees_match h v) r) t g = gap_ends d r t g
 
-  bucket_first : (packed : Bool) {l : List Look} {m : List (Option E)} (d : List (Option E)) (after : FindAnswer) → Forall₂ Sees l m
+  bucket_first : (packed : Bool) {l : List Look} {m : List (Option E)} (d : List (Option E)) (after : Option FoundRecord) → Forall₂ Sees l m
       → hits has (past (m ++ d)) ≡ [] → IsFirst after d → IsFirst (followed (in_bucket packed l) after) (m ++ d)
   bucket_first false d after r g s = scan_first d after r g s
-  bucket_first true {l} {m} d after r g s = rw (followed_ended (has_empty l) (sweep l) after) (sweep_first d (cond (has_empty l) Nothing after) r (go (has_empty l) refl))
+  bucket_first true {l} {m} d after r g s = rw (followed_ended (has_empty l) (sweep l) after) (sweep_first d (cond (has_empty l) None after) r (go (has_empty l) refl))
     where
-      go : (b : Bool) → has_empty l ≡ b → IsFirst (cond b Nothing after) d
+      go : (b : Bool) → has_empty l ≡ b → IsFirst (cond b None after) d
       go true t = rw (gap_ends d r t g)
       go false t = s
 
@@ -88,10 +85,10 @@ module _ {E : Type 0} (stored : E → Stored) (arena k : List ℕ) where
       let c : length m + j ≡ 8 + j = omega arith in
       ap (hits has) (sym (drop-append-add m d j) ∙ ap (λ (n : ℕ). drop n (m ++ d)) c) ∙ f (8 + j) (omega arith) q
 
-  asked_first : (may : Bool) (i : ℕ) (d : List (Option E)) (rest : FindAnswer) → Denied may (suc i) d → IsFirst rest d → IsFirst (cond (ends_at i may) Nothing rest) d
+  asked_first : (may : Bool) (i : ℕ) (d : List (Option E)) (rest : Option FoundRecord) → Denied may (suc i) d → IsFirst rest d → IsFirst (cond (ends_at i may) None rest) d
   asked_first may i d rest f s = go (eqb i 1) refl may refl
     where
-      go : (x : Bool) → eqb i 1 ≡ x → (y : Bool) → may ≡ y → IsFirst (cond (cond x (not y) false) Nothing rest) d
+      go : (x : Bool) → eqb i 1 ≡ x → (y : Bool) → may ≡ y → IsFirst (cond (cond x (not y) false) None rest) d
       go false p y q = s
       go true p true q = s
       go true p false q = rw (f 0 (omega (arith, eqb-true i 1 p)) q)
@@ -106,5 +103,5 @@ module _ {E : Type 0} (stored : E → Stored) (arena k : List ℕ) where
         let d : List (Option E) = walked t bs in
         let f' : Denied may (suc i) d = denied_next may i m d (bucket_eight t b (omega arith)) f in
         let s : IsFirst (found packed may looks (suc i) bs) d = walk_first (suc i) r (past_after has m d g) f' in
-        bucket_first packed d (cond (ends_at i may) Nothing (found packed may looks (suc i) bs)) (sees b h) g
+        bucket_first packed d (cond (ends_at i may) None (found packed may looks (suc i) bs)) (sees b h) g
         (asked_first may i d (found packed may looks (suc i) bs) f' s)

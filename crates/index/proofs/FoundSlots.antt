@@ -1,39 +1,35 @@
 -- The slot that a lookup answers is a slot in use of the index, and names the record answered. Assumes nothing.
 use Rattle.std.proofs.Common.{◌≡◌, ℕ, suc, ◌+◌, ◌-◌, ◌*◌, ◌^◌, ◌<◌, min, Bool, true, false, cond, eqb, leb, List, [], ◌∷◌, length, get_or, take, drop, sym, refl, ap, ◌∙◌, arith, length-drop, length-take, get_or-drop, get_or-take}
+use Rattle.std.specs.Prelude.{Some, None, Option}
+use Rattle.records.specs.declared.record.RecordRef.{RecordRef}
 use lib.ListN.{get_or-map}
 use borrow.Author.Tests.{eqb-false}
 use Rattle.hash_parts.specs.Hash.{tag_of, first_bucket}
 use Rattle.hash_parts.proofs.Products.{first_bucket_below}
 use Rattle.records.specs.Area.{same_bytes, spanned}
-use Rattle.records.specs.declared.record.RecordAnswer.{RecordAnswer}
-use Rattle.records.specs.declared.record.RecordAnswer.TheVariants.{Read, Unreadable}
 use Rattle.index.specs.Filter.{filter_has}
 use Rattle.index.specs.Find.{ends_at, Look, empty, other, broken, match, seen, look, looks_from, scan, sweep, has_empty, ended, in_bucket, followed, found, slots_of, find_in}
-use Rattle.index.specs.Slot.{word_slot, kept_tag}
+use Rattle.index.specs.Slot.{word_slot, kept_tag, IndexSlot}
 use Rattle.index.specs.View.{record_in}
 use Rattle.index.specs.Walk.{bucket_walk}
 use Rattle.index.specs.Word.{word_tag, word_stored}
-use Rattle.index.specs.declared.find.FindAnswer.{FindAnswer}
-use Rattle.index.specs.declared.find.FindAnswer.TheVariants.{Found, Nothing}
 use Rattle.index.specs.declared.find.FindStep.{FindStep}
 use Rattle.index.specs.declared.find.FindStep.TheVariants.{Hit, Stop, Next}
 use Rattle.index.specs.declared.find.FoundRecord.{FoundRecord}
-use Rattle.index.specs.declared.slot.IndexSlot.{IndexSlot}
-use Rattle.index.specs.declared.slot.IndexSlot.TheVariants.{Empty, Used}
 use Rattle.index.specs.declared.view.SegmentView.{SegmentView}
 use Rattle.index.proofs.Flat.{bucket_at, index_slots, index_bucket, Below, no_more, one_more, walk_below}
 
 -- a record found in one of the slots from slot i on
-pub record FoundAt (read : ℕ → RecordAnswer) (i : ℕ) (slots : List IndexSlot) (y : FoundRecord) : Type 0 where
+pub record FoundAt (read : ℕ → Option RecordRef) (i : ℕ) (slots : List IndexSlot) (y : FoundRecord) : Type 0 where
   pub place : ℕ
   pub below : place < length slots
   pub slot_is : y.slot ≡ i + place
   pub tag : ℕ
   pub location : ℕ
-  pub used : get_or slots place Empty ≡ Used tag location
-  pub reads : read location ≡ Read y.entry
+  pub used : get_or slots place None ≡ Some (tag, location)
+  pub reads : read location ≡ Some y.entry
 
-module _ (read : ℕ → RecordAnswer) (arena key : List ℕ) (tag : ℕ) where
+module _ (read : ℕ → Option RecordRef) (arena key : List ℕ) (tag : ℕ) where
   later : {i : ℕ} {s : IndexSlot} {l : List IndexSlot} {y : FoundRecord} → FoundAt read (suc i) l y → FoundAt read i (s ∷ l) y
   later f =
       record {
@@ -48,14 +44,14 @@ module _ (read : ℕ → RecordAnswer) (arena key : List ℕ) (tag : ℕ) where
 
   -- a slot says `match` only of itself
   match_at : (i : ℕ) (s : IndexSlot) (l : List IndexSlot) (y : FoundRecord) → look read arena key tag i s ≡ match y → FoundAt read i (s ∷ l) y
-  match_at i Empty l y e = absurd (let z : ◌≡◌ {A = ℕ} 0 1 = cc in omega arith)
-  match_at i (Used t stored) l y e = by_tag (eqb t tag) e
+  match_at i None l y e = absurd (let z : ◌≡◌ {A = ℕ} 0 1 = cc in omega arith)
+  match_at i (Some (t, stored)) l y e = by_tag (eqb t tag) e
     where
-      by_key : (a : RecordAnswer) → read stored ≡ a → seen arena key i a ≡ match y → FoundAt read i (Used t stored ∷ l) y
-      by_key Unreadable g f = absurd (let z : ◌≡◌ {A = ℕ} 0 1 = cc in omega arith)
-      by_key (Read r) g f = same_key_law (same_bytes (spanned arena r.key) key) f
+      by_key : (a : Option RecordRef) → read stored ≡ a → seen arena key i a ≡ match y → FoundAt read i (Some (t, stored) ∷ l) y
+      by_key None g f = absurd (let z : ◌≡◌ {A = ℕ} 0 1 = cc in omega arith)
+      by_key (Some r) g f = same_key_law (same_bytes (spanned arena r.key) key) f
         where
-          same_key_law : (b : Bool) → cond b (match (record { slot = i; entry = r })) other ≡ match y → FoundAt read i (Used t stored ∷ l) y
+          same_key_law : (b : Bool) → cond b (match (record { slot = i; entry = r })) other ≡ match y → FoundAt read i (Some (t, stored) ∷ l) y
           same_key_law false q = absurd (let z : ◌≡◌ {A = ℕ} 0 1 = cc in omega arith)
           same_key_law true q =
               let same : record { slot = i; entry = r } ≡ y = cc in
@@ -66,10 +62,10 @@ module _ (read : ℕ → RecordAnswer) (arena key : List ℕ) (tag : ℕ) where
                 tag = t;
                 location = stored;
                 used = refl;
-                reads = g ∙ ap (λ (x : FoundRecord). Read x.entry) same;
+                reads = g ∙ ap (λ (x : FoundRecord). Some x.entry) same;
               }
 
-      by_tag : (b : Bool) → cond b (seen arena key i (read stored)) other ≡ match y → FoundAt read i (Used t stored ∷ l) y
+      by_tag : (b : Bool) → cond b (seen arena key i (read stored)) other ≡ match y → FoundAt read i (Some (t, stored) ∷ l) y
       by_tag true f = by_key (read stored) refl f
       by_tag false f = absurd (let z : ◌≡◌ {A = ℕ} 0 1 = cc in omega arith)
 
@@ -116,19 +112,19 @@ module _ (read : ℕ → RecordAnswer) (arena key : List ℕ) (tag : ℕ) where
     abbrev In : Type 0
     In = (b : ℕ) × (b < buckets) × FoundAt read (8 * b) (slots b) y
 
-    walk_at : (i : ℕ) {bs : List ℕ} → Below buckets bs → found packed may looks i bs ≡ Found y → In
+    walk_at : (i : ℕ) {bs : List ℕ} → Below buckets bs → found packed may looks i bs ≡ Some y → In
     unfolding found
     walk_at i no_more e = absurd (let z : ◌≡◌ {A = ℕ} 0 1 = cc in omega arith)
     walk_at i (one_more {b = b} {l = bs} h r) e = go (in_bucket packed (looks b)) refl e (λ q. walk_at (suc i) r q)
       where
-        rest : FindAnswer
+        rest : Option FoundRecord
         rest = found packed may looks (suc i) bs
 
-        after : (x : Bool) → cond x Nothing rest ≡ Found y → rest ≡ Found y
+        after : (x : Bool) → cond x None rest ≡ Some y → rest ≡ Some y
         after false q = q
         after true q = cc
 
-        go : (s : FindStep) → in_bucket packed (looks b) ≡ s → followed s (cond (ends_at i may) Nothing rest) ≡ Found y → (rest ≡ Found y → In) → In
+        go : (s : FindStep) → in_bucket packed (looks b) ≡ s → followed s (cond (ends_at i may) None rest) ≡ Some y → (rest ≡ Some y → In) → In
         go (Hit x) g q f = let same : x ≡ y = cc in (b, h, bucket_at_law packed (8 * b) (slots b) y (g ∙ ap Hit same))
         go Stop g q f = absurd (let z : ◌≡◌ {A = ℕ} 0 1 = cc in omega arith)
         go Next g q f = f (after (ends_at i may) q)
@@ -136,7 +132,7 @@ module _ (read : ℕ → RecordAnswer) (arena key : List ℕ) (tag : ℕ) where
 -- ---- a lookup
 
 -- a slot of a bucket is one of the row
-in_row : (read : ℕ → RecordAnswer) (row : List IndexSlot) (b : ℕ) (y : FoundRecord) → FoundAt read (8 * b) (bucket_at row b) y → FoundAt read 0 row y × (y.slot < 8 * b + 8)
+in_row : (read : ℕ → Option RecordRef) (row : List IndexSlot) (b : ℕ) (y : FoundRecord) → FoundAt read (8 * b) (bucket_at row b) y → FoundAt read 0 row y × (y.slot < 8 * b + 8)
 in_row read row b y f =
     let size : length (bucket_at row b) ≡ min 8 (length row - 8 * b) = length-take 8 (drop (8 * b) row) ∙ ap (min 8) (length-drop (8 * b) row) in
     let near : f.place < 8 = omega (arith, f.below, size) in (
@@ -146,25 +142,25 @@ in_row read row b y f =
         slot_is = omega (arith, f.slot_is);
         tag = f.tag;
         location = f.location;
-        used = sym (get_or-take 8 (drop (8 * b) row) f.place Empty near ∙ get_or-drop (8 * b) row f.place Empty) ∙ f.used;
+        used = sym (get_or-take 8 (drop (8 * b) row) f.place None near ∙ get_or-drop (8 * b) row f.place None) ∙ f.used;
         reads = f.reads;
       },
       omega (arith, f.slot_is),
     )
 
 module _ (view : SegmentView) (packed : Bool) (index : List ℕ) (buckets : ℕ) (filter : List ℕ) (words : ℕ) (starts lengths arena k : List ℕ) (h : ℕ) (y : FoundRecord) (bound : h < 2 ^ 64)
-    (answer : find_in view packed index buckets filter words starts lengths arena k h ≡ Found y) where
+    (answer : find_in view packed index buckets filter words starts lengths arena k h ≡ Some y) where
   pub find_slot : FoundAt (record_in view arena starts lengths) 0 (index_slots packed buckets index) y × (y.slot < 8 * buckets)
   unfolding find_in
   find_slot = go (leb (8 * buckets) (length index)) answer
     where
-      read : ℕ → RecordAnswer
+      read : ℕ → Option RecordRef
       read = record_in view arena starts lengths
 
       tag : ℕ
       tag = kept_tag packed (tag_of h)
 
-      go : (b : Bool) → cond b (found packed (filter_has filter words h) (λ c. looks_from read arena k tag (8 * c) (slots_of packed buckets index c)) 0 (bucket_walk h buckets)) Nothing ≡ Found y
+      go : (b : Bool) → cond b (found packed (filter_has filter words h) (λ c. looks_from read arena k tag (8 * c) (slots_of packed buckets index c)) 0 (bucket_walk h buckets)) None ≡ Some y
           → FoundAt read 0 (index_slots packed buckets index) y × (y.slot < 8 * buckets)
       go false e = absurd (let z : ◌≡◌ {A = ℕ} 0 1 = cc in omega arith)
       go true e =
@@ -175,26 +171,27 @@ module _ (view : SegmentView) (packed : Bool) (index : List ℕ) (buckets : ℕ)
 
 -- its word may be marked, and its mark cleared
 pub find_word : (view : SegmentView) (index : List ℕ) (buckets : ℕ) (filter : List ℕ) (words : ℕ) (starts lengths arena k : List ℕ) (h : ℕ) (y : FoundRecord) → h < 2 ^ 64
-    → find_in view false index buckets filter words starts lengths arena k h ≡ Found y → (get_or index y.slot 0 ≡ 0 → ⊥) × (word_stored (get_or index y.slot 0) ≡ 0 → ⊥)
+    → find_in view false index buckets filter words starts lengths arena k h ≡ Some y → (get_or index y.slot 0 ≡ 0 → ⊥) × (word_stored (get_or index y.slot 0) ≡ 0 → ⊥)
 unfolding word_slot record_in
 find_word view index buckets filter words starts lengths arena k h y bound answer =
     let f = find_slot view false index buckets filter words starts lengths arena k h y bound answer in
     let at : f.0.place ≡ y.slot = omega (arith, f.0.slot_is) in
-    let slot : word_slot (get_or index y.slot 0) ≡ Used f.0.tag f.0.location =
+    let slot : word_slot (get_or index y.slot 0) ≡ Some (f.0.tag, f.0.location) =
     ap word_slot (sym (get_or-take (8 * buckets) index y.slot 0 f.1)) ∙ sym (get_or-map word_slot (take (8 * buckets) index) y.slot 0) ∙ rw at at f.0.used in
     go (eqb (get_or index y.slot 0) 0) refl slot f.0.reads
   where
     w : ℕ
     w = get_or index y.slot 0
 
-    go : (b : Bool) → eqb w 0 ≡ b → {t l : ℕ} → cond b Empty (Used (word_tag w) (word_stored w)) ≡ Used t l → record_in view arena starts lengths l ≡ Read y.entry
+    go : (b : Bool) → eqb w 0 ≡ b → {t l : ℕ} → cond {A = IndexSlot} b None (Some (word_tag w, word_stored w)) ≡ Some (t, l) → record_in view arena starts lengths l ≡ Some y.entry
         → (w ≡ 0 → ⊥) × (word_stored w ≡ 0 → ⊥)
     go true e q reads = absurd (let z : ◌≡◌ {A = ℕ} 0 1 = cc in omega arith)
-    go false e {l = l} q reads = (
+    go false e {t = t} {l = l} q reads = (
       λ (z : w ≡ 0). eqb-false w 0 e z,
       λ (z : word_stored w ≡ 0).
-          let none : l ≡ 0 = cc in
-          let n : record_in view arena starts lengths 0 ≡ Read y.entry = rw none at reads in
+          let same : ◌≡◌ {A = ℕ × ℕ} (word_tag w, word_stored w) (t, l) = cc in
+          let none : l ≡ 0 = sym (ap (λ (p : ℕ × ℕ). p.1) same) ∙ z in
+          let n : record_in view arena starts lengths 0 ≡ Some y.entry = rw none at reads in
           let c : ◌≡◌ {A = ℕ} 0 1 = cc in
           omega arith,
     )

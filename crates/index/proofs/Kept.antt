@@ -1,6 +1,6 @@
 -- What an index stands for is kept when it is packed, when its locations are split, and when marks are set or cleared. Assumes nothing.
 use Rattle.std.proofs.Common.{◌≡◌, ℕ, zero, suc, ◌+◌, ◌-◌, ◌*◌, ◌^◌, ◌<◌, ◌≤◌, Bool, true, false, cond, eqb, leb, List, [], ◌∷◌, ◌++◌, map, length, get_or, take, drop, set, replicate, sym, refl, ap, ◌∙◌, arith, length-take-le, get_or-take, take_at, ne_eqb, eqb-true, le-leb, leb-true}
-use mathlib.Core.Option.{Option}
+use Rattle.std.specs.Prelude.{Some, None, Option}
 use mathlib.Core.List.{map-map, map-append, flatten, Forall₂}
 use mathlib.Mathlib.Data.List.Forall2.Forall₂
 use mathlib.Mathlib.Data.List.Forall2.{Forall₂-map_left_iff}
@@ -11,11 +11,9 @@ use Rattle.records.specs.Record.{Stored}
 use Rattle.index.specs.Build.{cleared}
 use Rattle.index.specs.Packed.{packed, with_byte, marked_byte, unmarked_byte}
 use Rattle.index.specs.Segments.{no_start, start_after, starts_after, starts_of, segment_of, segmented, split_word, split_words}
-use Rattle.index.specs.Slot.{word_slot, packed_tag}
+use Rattle.index.specs.Slot.{word_slot, packed_tag, IndexSlot}
 use Rattle.index.specs.Walk.{buckets_of}
 use Rattle.index.specs.Word.{word_tag, word_stored, marked, unmarked}
-use Rattle.index.specs.declared.slot.IndexSlot.{IndexSlot}
-use Rattle.index.specs.declared.slot.IndexSlot.TheVariants.{Empty, Used}
 use Rattle.index.proofs.Contents.{repacked, word_slots}
 use Rattle.index.proofs.Entries.{new_slot, Cell, cell_empty, cell_used, Indexed, none_indexed, slots_mapped, reheld, words_long}
 use Rattle.index.proofs.Flat.{index_slots}
@@ -25,12 +23,12 @@ use Rattle.index.proofs.Words.{marked_tag, marked_stored, unmarked_tag, unmarked
 
 -- ---- cleared words
 
-zeros_empty : (n : ℕ) → map word_slot (replicate n 0) ≡ replicate n Empty
+zeros_empty : (n : ℕ) → map word_slot (replicate n 0) ≡ replicate n None
 unfolding word_slot
 zeros_empty zero = refl
-zeros_empty (suc n) = ap (λ (r : List IndexSlot). Empty ∷ r) (zeros_empty n)
+zeros_empty (suc n) = ap (λ (r : List IndexSlot). None ∷ r) (zeros_empty n)
 
-cleared_slots : (buckets : ℕ) (index : List ℕ) → 8 * buckets ≤ length index → word_slots buckets (cleared index (8 * buckets)) ≡ replicate (8 * buckets) Empty
+cleared_slots : (buckets : ℕ) (index : List ℕ) → 8 * buckets ≤ length index → word_slots buckets (cleared index (8 * buckets)) ≡ replicate (8 * buckets) None
 unfolding cleared
 cleared_slots buckets index long =
     simp (le-leb _ _ long)
@@ -145,7 +143,7 @@ module _ {E : Type 0} (Holds Holds' : ℕ → E → Type 0) (ss : List ℕ) (loc
       (λ (z : suc l ≡ 0). omega arith, rw n m.0, rw n m.1)
 
   module _ {stored : E → Stored} {H : List ℕ → ℕ} where
-    split_used : (w : ℕ) {t l : ℕ} {c : Option E} → t ≡ word_tag w → l ≡ word_stored w → Cell stored H false Holds (Used t l) c → Cell stored H false Holds' (word_slot (split_word ss w)) c
+    split_used : (w : ℕ) {t l : ℕ} {c : Option E} → t ≡ word_tag w → l ≡ word_stored w → Cell stored H false Holds (Some (t, l)) c → Cell stored H false Holds' (word_slot (split_word ss w)) c
     unfolding split_word
     split_used w p q (cell_used {e = e} r y) =
         let m = moved (word_stored w) e (rw q at y) in
@@ -155,10 +153,10 @@ module _ {E : Type 0} (Holds Holds' : ℕ → E → Type 0) (ss : List ℕ) (loc
     unfolding word_slot split_word
     split_cell w c x = go (eqb w 0) refl x
       where
-        empty : {d : Option E} → w ≡ 0 → Cell stored H false Holds Empty d → Cell stored H false Holds' (word_slot (split_word ss w)) d
+        empty : {d : Option E} → w ≡ 0 → Cell stored H false Holds None d → Cell stored H false Holds' (word_slot (split_word ss w)) d
         empty z cell_empty = rw z cell_empty
 
-        go : (b : Bool) → eqb w 0 ≡ b → Cell stored H false Holds (cond b Empty (Used (word_tag w) (word_stored w))) c → Cell stored H false Holds' (word_slot (split_word ss w)) c
+        go : (b : Bool) → eqb w 0 ≡ b → Cell stored H false Holds (cond b None (Some (word_tag w, word_stored w))) c → Cell stored H false Holds' (word_slot (split_word ss w)) c
         go true e y = empty (eqb-true w 0 e) y
         go false e y = split_used w refl refl y
 

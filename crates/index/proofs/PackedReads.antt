@@ -1,5 +1,6 @@
 -- What is read from a packed index: the slots that were packed, each by two words at most, and the same under any marks. Assumes nothing.
 use Rattle.std.proofs.Common.{◌≡◌, ℕ, zero, suc, ◌+◌, ◌-◌, ◌*◌, ◌%◌, ◌^◌, ◌<◌, ◌≤◌, Bool, true, false, cond, eqb, List, [], ◌∷◌, ◌++◌, map, length, get_or, take, drop, set, sym, refl, ap, ◌∙◌, append_assoc, add-zero, arith, lit<, length-append, length-drop, length-set, take-append-drop, length-take-le, get_or-drop, get_or-set_other, get_or-take, get_or-set_same, drop-drop, take_at, drop-set-lt, drop_at, ne_eqb}
+use Rattle.std.specs.Prelude.{Some, None}
 use mathlib.Core.List.{flat_map}
 use native.Mathlib.Decide.{dec_lt, ℕ_discrete}
 use lib.ListN.{length-map}
@@ -11,12 +12,11 @@ use Rattle.index.specs.Packed.{words_of, word_bytes, control_byte, reference_byt
 use Rattle.index.specs.Slot.{word_slot}
 use Rattle.index.specs.Walk.{buckets_of}
 use Rattle.index.specs.Word.{word_of, word_tag, word_stored}
-use Rattle.index.specs.declared.slot.IndexSlot.TheVariants.{Empty, Used}
 use Rattle.index.proofs.Contents.{packed_buckets, repacked}
 use Rattle.index.proofs.Bytes.{below_eight}
-use Rattle.index.proofs.Packing.{control_small, reference_bytes_law, length_reference}
+use Rattle.index.proofs.Packing.{control_small, reference_bytes_law, length_reference, words_from, words_from_law}
 use Rattle.index.proofs.Walks.{length_buckets}
-use Rattle.index.proofs.PackingLoop.{length_references, words_from, words_from_law}
+use Rattle.index.proofs.PackingLoop.{length_references}
 
 -- ---- a bucket packed and read back
 
@@ -54,7 +54,7 @@ slot_kept w = go (eqb w 0)
 
     go : (t : Bool)
         → packed_slot (cond t 0 (control_tag tag)) (cond t (bytes_of 7 0) (bytes_of 2 (secondary_tag tag) ++ bytes_of 5 (word_stored w)))
-        ≡ repacked (cond t Empty (Used tag (word_stored w)))
+        ≡ repacked (cond t None (Some (tag, word_stored w)))
     go true = refl
     go false =
         let s : List ℕ = bytes_of 2 (secondary_tag tag) in
@@ -150,7 +150,7 @@ pub bucket_length : (B : ℕ) (index : List ℕ) (b : ℕ) → length (packed_bu
 unfolding packed_bucket
 bucket_length B index b = length_slots (bytes_of 8 (get_or index b 0)) _ ∙ length_bytes 8 (get_or index b 0)
 
-slots_at : (controls bytes : List ℕ) (j : ℕ) → j < length controls → get_or (packed_slots_of controls bytes) j Empty ≡ packed_slot (get_or controls j 0) (take 7 (drop (7 * j) bytes))
+slots_at : (controls bytes : List ℕ) (j : ℕ) → j < length controls → get_or (packed_slots_of controls bytes) j None ≡ packed_slot (get_or controls j 0) (take 7 (drop (7 * j) bytes))
 unfolding packed_slots_of
 slots_at [] bytes j h = absurd (omega arith)
 slots_at (c ∷ l) bytes zero h = refl
@@ -183,7 +183,7 @@ word_in at i l h k = sym (get_or-drop at l i 0) ∙ sym (get_or-take 7 (drop at 
 -- of slot 0 the word before, and of slot 7 the word itself, may be any
 pub slot_at : (B : ℕ) (index : List ℕ) (b j before word : ℕ) → b < B → j < 8 → 8 * B ≤ length index
     → (0 < j → before ≡ get_or index (B + 7 * b + j - 1) 0) → (j < 7 → word ≡ get_or index (B + 7 * b + j) 0)
-    → get_or (packed_bucket B index b) j Empty ≡ packed_slot (get_or (bytes_of 8 (get_or index b 0)) j 0) (reference_in before word j)
+    → get_or (packed_bucket B index b) j None ≡ packed_slot (get_or (bytes_of 8 (get_or index b 0)) j 0) (reference_in before word j)
 unfolding packed_bucket
 slot_at B index b j before word h l long p q =
     let at : ℕ = B + 7 * b in

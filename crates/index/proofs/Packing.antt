@@ -1,5 +1,7 @@
 -- Packing a bucket. Assumes nothing.
-use Rattle.std.proofs.Common.{◌≡◌, ℕ, ◌+◌, ◌*◌, ◌/◌, ◌%◌, ◌^◌, ◌<◌, ◌≤◌, Bool, true, false, cond, eqb, List, [], ◌∷◌, ◌++◌, length, take, drop, set, sym, refl, ap, ◌∙◌, ap₂, append_assoc, add-one, arith, length-append, drop-drop, eq-eqb, ne_eqb}
+use Rattle.std.proofs.Common.{◌≡◌, ℕ, ◌+◌, ◌*◌, ◌/◌, ◌%◌, ◌^◌, ◌<◌, ◌≤◌, Bool, true, false, cond, eqb, List, [], ◌∷◌, ◌++◌, length, take, drop, get_or, set, take_all, drop-cons, zero, suc, w64, sym, refl, ap, ◌∙◌, ap₂, append_assoc, add-one, arith, length-append, drop-drop, eq-eqb, ne_eqb}
+use Rattle.std.specs.Int.{from_le_bytes}
+use Rattle.std.specs.Prelude.{Some, None}
 use mathlib.Core.List.{flat_map}
 use native.Mathlib.Numerals.{add-two, add-three, add-four, add_five, add_six}
 use lib.Seq.{sets-eq}
@@ -8,7 +10,6 @@ use Rattle.hash_parts.specs.ZeroBytes.{bytes_of, number_of}
 use Rattle.hash_parts.proofs.Bytes.{Bytes, bytes_append, bytes_of_law, length_bytes, bytes_number, number_small, number_bytes, number_two}
 use Rattle.records.specs.Area.{pasted}
 use Rattle.index.specs.Packed.{words_of, control_byte, control_word, reference_bytes, reference_words, packed_slot}
-use Rattle.index.specs.declared.slot.IndexSlot.TheVariants.{Empty, Used}
 use Rattle.index.specs.Word.{word_tag, word_stored}
 use Rattle.index.proofs.Bytes.{number_front, seven_words}
 
@@ -60,23 +61,43 @@ reference_used w {s = s} {l = l} n e f g =
 
 -- ---- a slot read back
 
-pub slot_empty : (control : ℕ) (bytes : List ℕ) → control % 128 ≡ 0 → Empty ≡ packed_slot control bytes
+pub slot_empty : (control : ℕ) (bytes : List ℕ) → control % 128 ≡ 0 → None ≡ packed_slot control bytes
 unfolding packed_slot
 slot_empty control bytes e = rw (eq-eqb (control % 128) 0 e)
 
 pub slot_used : (control : ℕ) {tag number : ℕ} {bytes : List ℕ} → Bytes bytes → tag ≡ control % 128 → (tag ≡ 0 → ⊥) → number ≡ number_of bytes
-    → Used (tag + 128 * (number % 0x1_0000)) (number / 0x1_0000) ≡ packed_slot control bytes
+    → Some (tag + 128 * (number % 0x1_0000), number / 0x1_0000) ≡ packed_slot control bytes
 unfolding packed_slot
 slot_used control {tag = tag} r e n f = rw (← e, ne_eqb tag 0 n, f, (number_front r).0, (number_front r).1)
 
 -- ---- a bucket
 
-pub control_word_law : (w0 w1 w2 w3 w4 w5 w6 w7 : ℕ) {c0 c1 c2 c3 c4 c5 c6 c7 : ℕ}
-    → c0 ≡ control_byte w0 → c1 ≡ control_byte w1 → c2 ≡ control_byte w2 → c3 ≡ control_byte w3 → c4 ≡ control_byte w4 → c5 ≡ control_byte w5 → c6 ≡ control_byte w6 → c7 ≡ control_byte w7
-    → c0 + c1 * 0x100 + c2 * 0x1_0000 + c3 * 0x100_0000 + c4 * 0x1_0000_0000 + c5 * 0x100_0000_0000 + c6 * 0x1_0000_0000_0000 + c7 * 0x100_0000_0000_0000
-    ≡ control_word (w0 ∷ w1 ∷ w2 ∷ w3 ∷ w4 ∷ w5 ∷ w6 ∷ w7 ∷ [])
+-- so many words from a place on, each by its place
+abbrev pub words_from : ℕ → ℕ → List ℕ → List ℕ
+words_from zero at l = []
+words_from (suc n) at l = get_or l at 0 ∷ words_from n (suc at) l
+
+pub words_from_law : (n at : ℕ) (l : List ℕ) → at + n ≤ length l → take n (drop at l) ≡ words_from n at l
+words_from_law zero at l h = refl
+words_from_law (suc n) at l h = rw (drop-cons l at 0 (omega arith), words_from_law n (suc at) l (omega arith))
+
+pub eight_words : (words : List ℕ) → length words ≡ 8 → words ≡ words_from 8 0 words
+eight_words words e = sym (take_all 8 words (omega arith)) ∙ words_from_law 8 0 words (omega arith)
+
+-- the bytes of a control word, each that of its slot's word
+pub control_word_is : (words bytes : List ℕ) → length words ≡ 8 → ((i : ℕ) → i < 8 → get_or bytes i 0 ≡ control_byte (get_or words i 0))
+    → from_le_bytes w64 bytes ≡ control_word words
 unfolding control_word number_of
-control_word_law w0 w1 w2 w3 w4 w5 w6 w7 e0 e1 e2 e3 e4 e5 e6 e7 = omega arith
+control_word_is words bytes long each =
+    let e0 = each 0 (omega arith) in
+    let e1 = each 1 (omega arith) in
+    let e2 = each 2 (omega arith) in
+    let e3 = each 3 (omega arith) in
+    let e4 = each 4 (omega arith) in
+    let e5 = each 5 (omega arith) in
+    let e6 = each 6 (omega arith) in
+    let e7 = each 7 (omega arith) in
+    rw (eight_words words long) (omega arith)
 
 pub reference_words_law : (w0 w1 w2 w3 w4 w5 w6 w7 : ℕ)
     → reference_words (w0 ∷ w1 ∷ w2 ∷ w3 ∷ w4 ∷ w5 ∷ w6 ∷ w7 ∷ [])
@@ -105,15 +126,23 @@ seven_stored l at a0 a1 a2 a3 a4 a5 a6 h =
     let vs : List ℕ = a0 ∷ a1 ∷ a2 ∷ a3 ∷ a4 ∷ a5 ∷ a6 ∷ [] in
     rw (add-one at, add-two at, add-three at, add-four at, add_five at, add_six at) (sets-eq vs l at h ∙ append_assoc (take at l) vs (drop (at + 7) l) ∙ rw (drop-drop 7 at l))
 
-pub references_stored : (l : List ℕ) (at w0 w1 w2 w3 w4 w5 w6 w7 : ℕ) {r0 r1 r2 r3 r4 r5 r6 r7 : ℕ} → at + 7 ≤ length l
-    → r0 ≡ reference w0 → r1 ≡ reference w1 → r2 ≡ reference w2 → r3 ≡ reference w3 → r4 ≡ reference w4 → r5 ≡ reference w5 → r6 ≡ reference w6 → r7 ≡ reference w7
-    → set (set (set (set (set (set (set l at (r0 + r1 % 0x100 * 0x100_0000_0000_0000))
-    (at + 1) (r1 / 0x100 + r2 % 0x1_0000 * 0x1_0000_0000_0000))
-    (at + 2) (r2 / 0x1_0000 + r3 % 0x100_0000 * 0x100_0000_0000))
-    (at + 3) (r3 / 0x100_0000 + r4 % 0x1_0000_0000 * 0x1_0000_0000))
-    (at + 4) (r4 / 0x1_0000_0000 + r5 % 0x100_0000_0000 * 0x100_0000))
-    (at + 5) (r5 / 0x100_0000_0000 + r6 % 0x1_0000_0000_0000 * 0x1_0000))
-    (at + 6) (r6 / 0x1_0000_0000_0000 + r7 * 0x100)
-    ≡ pasted at (reference_words (w0 ∷ w1 ∷ w2 ∷ w3 ∷ w4 ∷ w5 ∷ w6 ∷ w7 ∷ [])) l
-references_stored l at w0 w1 w2 w3 w4 w5 w6 w7 h e0 e1 e2 e3 e4 e5 e6 e7 =
-    rw (reference_words_law w0 w1 w2 w3 w4 w5 w6 w7, ← e0, ← e1, ← e2, ← e3, ← e4, ← e5, ← e6, ← e7) (seven_stored l at _ _ _ _ _ _ _ h)
+pub references_stored : (l : List ℕ) (at : ℕ) (words rs : List ℕ) → at + 7 ≤ length l → length words ≡ 8 → ((i : ℕ) → i < 8 → get_or rs i 0 ≡ reference (get_or words i 0))
+    → set (set (set (set (set (set (set l at (get_or rs 0 0 + get_or rs 1 0 % 0x100 * 0x100_0000_0000_0000))
+    (at + 1) (get_or rs 1 0 / 0x100 + get_or rs 2 0 % 0x1_0000 * 0x1_0000_0000_0000))
+    (at + 2) (get_or rs 2 0 / 0x1_0000 + get_or rs 3 0 % 0x100_0000 * 0x100_0000_0000))
+    (at + 3) (get_or rs 3 0 / 0x100_0000 + get_or rs 4 0 % 0x1_0000_0000 * 0x1_0000_0000))
+    (at + 4) (get_or rs 4 0 / 0x1_0000_0000 + get_or rs 5 0 % 0x100_0000_0000 * 0x100_0000))
+    (at + 5) (get_or rs 5 0 / 0x100_0000_0000 + get_or rs 6 0 % 0x1_0000_0000_0000 * 0x1_0000))
+    (at + 6) (get_or rs 6 0 / 0x1_0000_0000_0000 + get_or rs 7 0 * 0x100)
+    ≡ pasted at (reference_words words) l
+references_stored l at words rs h long each =
+    let e0 = each 0 (omega arith) in
+    let e1 = each 1 (omega arith) in
+    let e2 = each 2 (omega arith) in
+    let e3 = each 3 (omega arith) in
+    let e4 = each 4 (omega arith) in
+    let e5 = each 5 (omega arith) in
+    let e6 = each 6 (omega arith) in
+    let e7 = each 7 (omega arith) in
+    let same : words ≡ words_from 8 0 words = eight_words words long in
+    rw (e0, e1, e2, e3, e4, e5, e6, e7) (seven_stored l at _ _ _ _ _ _ _ h ∙ sym (ap (λ (ws : List ℕ). pasted at ws l) (ap reference_words same ∙ reference_words_law _ _ _ _ _ _ _ _)))

@@ -1,11 +1,10 @@
 -- Packing an index bucket by bucket, from the last to the first. Assumes nothing.
-use Rattle.std.proofs.Common.{◌≡◌, ℕ, zero, suc, ◌+◌, ◌-◌, ◌*◌, ◌<◌, ◌≤◌, Bool, true, false, cond, leb, List, [], ◌∷◌, ◌++◌, map, length, get_or, take, drop, set, sym, refl, ap, ◌∙◌, ap₂, append_assoc, le_of_suc-le-suc, not-suc-le-zero, add-zero, mul_comm, add-one, arith, length-append, length-drop, length-set, length-take-le, drop-cons, take-suc, take-take, drop-drop, take_at, drop_at, le-leb}
+use Rattle.std.proofs.Common.{◌≡◌, ℕ, zero, suc, ◌+◌, ◌-◌, ◌*◌, ◌<◌, ◌≤◌, Bool, true, false, cond, leb, List, [], ◌∷◌, ◌++◌, map, length, take, drop, set, sym, refl, ap, ◌∙◌, ap₂, append_assoc, le_of_suc-le-suc, not-suc-le-zero, add-zero, arith, length-append, length-drop, length-set, length-take-le, take-take, drop-drop, take_at, drop_at, le-leb}
 use mathlib.Core.List.{flat_map}
 use native.Mathlib.Nat.{sub-zero, sub_self}
-use native.Mathlib.Numerals.{add-two, add-three, add-four, add_five, add_six, add_seven}
 use borrow.Author.Tests.{lt-leb}
 use lib.ListN.{length-map}
-use lib.Seq.{set_at, take-append-le}
+use lib.Seq.{take-append-le}
 use Rattle.records.specs.Area.{pasted}
 use Rattle.index.specs.Packed.{reference_bytes, control_word, control_words, words_of, reference_words, packed, packed_index, packed_scratch}
 use Rattle.index.specs.Walk.{buckets_of}
@@ -17,41 +16,6 @@ drop_set_here : (l : List ℕ) (i a : ℕ) → i < length l → drop i (set l i 
 drop_set_here [] i a h = absurd (not-suc-le-zero h)
 drop_set_here (x ∷ l) zero a h = refl
 drop_set_here (x ∷ l) (suc i) a h = drop_set_here l i a (le_of_suc-le-suc h)
-
--- a word more copied from the front of an area to that of another
-pub copy_next : (from to : List ℕ) (i : ℕ) → i < length from → i < length to
-    → set (take i from ++ drop i to) i (get_or from i 0) ≡ take (i + 1) from ++ drop (i + 1) to
-copy_next from to i h k =
-    let x : ℕ = get_or from i 0 in
-    rw (add-one i, take-suc from i 0 h)
-    (ap (λ (t : List ℕ). set (take i from ++ t) i x) (drop-cons to i 0 k)
-    ∙ set_at (take i from) _ _ x i (length-take-le i from (omega arith))
-    ∙ sym (append_assoc (take i from) (x ∷ []) (drop (suc i) to)))
-
--- so many words from a place on, each by its place
-abbrev pub words_from : ℕ → ℕ → List ℕ → List ℕ
-words_from zero at l = []
-words_from (suc n) at l = get_or l at 0 ∷ words_from n (suc at) l
-
-pub words_from_law : (n at : ℕ) (l : List ℕ) → at + n ≤ length l → take n (drop at l) ≡ words_from n at l
-words_from_law zero at l h = refl
-words_from_law (suc n) at l h = rw (drop-cons l at 0 (omega arith), words_from_law n (suc at) l (omega arith))
-
--- the eight words of a bucket
-pub bucket_words : (l : List ℕ) (b : ℕ) → 8 * b + 8 ≤ length l
-    → take 8 (drop (8 * b) l)
-    ≡ get_or l (b * 8) 0
-    ∷ get_or l (b * 8 + 1) 0
-    ∷ get_or l (b * 8 + 2) 0
-    ∷ get_or l (b * 8 + 3) 0
-    ∷ get_or l (b * 8 + 4) 0
-    ∷ get_or l (b * 8 + 5) 0
-    ∷ get_or l (b * 8 + 6) 0
-    ∷ get_or l (b * 8 + 7) 0
-    ∷ []
-bucket_words l b h =
-    let at : ℕ = b * 8 in
-    rw (mul_comm 8 b, add-one at, add-two at, add-three at, add-four at, add_five at, add_six at, add_seven at) (words_from_law 8 at l (omega arith))
 
 -- ---- buckets
 

@@ -1,7 +1,7 @@
 -- Where the entries of a list stand in a table: each on the walk from its home, with no empty slot before it, and those of one key in the list's order.
 -- Assumes nothing.
 use Rattle.std.proofs.Common.{◌≡◌, ℕ, zero, suc, ◌-◌, ◌<◌, ◌≤◌, Bool, true, false, ◌⊎◌, List, [], ◌∷◌, ◌++◌, length, take, drop, set, replicate, sym, refl, ap, ◌∙◌, inl, inr, arith, length-append, length-set, drop-set-lt}
-use mathlib.Core.Option.{Option, none, some}
+use Rattle.std.specs.Prelude.{Option, Some, None}
 use native.Mathlib.Decide.{dec_lt}
 use Rattle.index.specs.Walk.{rot}
 use Rattle.index.proofs.Table.{true≢false, not-true, length_rot, rot_back, rot_set, only, hits, past, gap_at, occupied, fold_slots, fold_list, place, occupied_rot, cond_append, only_yes, only_no, hits_drop, hits_rot, nothing_past}
@@ -11,22 +11,22 @@ use Rattle.index.proofs.Table.{true≢false, not-true, length_rot, rot_back, rot
 module _ {E : Type 0} (e : E) where
   -- somewhere
   data Swap : List (Option E) → List (Option E) → Type 0 where
-    here : {l : List (Option E)} → Swap (none ∷ l) (some e ∷ l)
+    here : {l : List (Option E)} → Swap (None ∷ l) (Some e ∷ l)
     there : {c : Option E} {l m : List (Option E)} → Swap l m → Swap (c ∷ l) (c ∷ m)
 
   -- the first empty one
   data Fill : List (Option E) → List (Option E) → Type 0 where
-    at : {l : List (Option E)} → Fill (none ∷ l) (some e ∷ l)
-    on : {d : E} {l m : List (Option E)} → Fill l m → Fill (some d ∷ l) (some d ∷ m)
+    at : {l : List (Option E)} → Fill (None ∷ l) (Some e ∷ l)
+    on : {d : E} {l m : List (Option E)} → Fill l m → Fill (Some d ∷ l) (Some d ∷ m)
 
   fill_swap : {l m : List (Option E)} → Fill l m → Swap l m
   fill_swap at = here
   fill_swap (on r) = there (fill_swap r)
 
-  fill_set : (l : List (Option E)) → gap_at l < length l → Fill l (set l (gap_at l) (some e))
+  fill_set : (l : List (Option E)) → gap_at l < length l → Fill l (set l (gap_at l) (Some e))
   fill_set [] h = absurd (omega arith)
-  fill_set (none ∷ l) h = at
-  fill_set (some d ∷ l) h = on (fill_set l (omega arith))
+  fill_set (None ∷ l) h = at
+  fill_set (Some d ∷ l) h = on (fill_set l (omega arith))
 
   swap_left : {l m : List (Option E)} (x : List (Option E)) → Swap l m → Swap (l ++ x) (m ++ x)
   swap_left x here = here
@@ -64,8 +64,8 @@ module _ {E : Type 0} (e : E) where
 module _ {E : Type 0} (f : E → ℕ → ℕ) (comm : (a b : E) (n : ℕ) → f a (f b n) ≡ f b (f a n)) (z : ℕ) (e : E) where
   swap_fold : {l m : List (Option E)} → Swap e l m → fold_slots f z m ≡ f e (fold_slots f z l)
   swap_fold here = refl
-  swap_fold (there {c = none} r) = swap_fold r
-  swap_fold (there {c = some d} {l} r) = ap (f d) (swap_fold r) ∙ comm d e (fold_slots f z l)
+  swap_fold (there {c = None} r) = swap_fold r
+  swap_fold (there {c = Some d} {l} r) = ap (f d) (swap_fold r) ∙ comm d e (fold_slots f z l)
 
   snoc_fold : (l : List E) → fold_list f z (l ++ (e ∷ [])) ≡ f e (fold_list f z l)
   snoc_fold [] = refl
@@ -76,13 +76,13 @@ module _ {E : Type 0} (has : E → Bool) (e : E) where
   module _ (h : has e ≡ false) where
     swap_hits : {l m : List (Option E)} → Swap e l m → hits has m ≡ hits has l
     swap_hits (here {l}) = rw h
-    swap_hits (there {c = none} r) = swap_hits r
-    swap_hits (there {c = some d} r) = rw (swap_hits r)
+    swap_hits (there {c = None} r) = swap_hits r
+    swap_hits (there {c = Some d} r) = rw (swap_hits r)
 
     swap_past : {l m : List (Option E)} → Swap e l m → hits has (past l) ≡ [] → hits has (past m) ≡ []
     swap_past (here {l}) p = nothing_past has l p
-    swap_past (there {c = none} r) p = swap_hits r ∙ p
-    swap_past (there {c = some d} r) p = swap_past r p
+    swap_past (there {c = None} r) p = swap_hits r ∙ p
+    swap_past (there {c = Some d} r) p = swap_past r p
 
     swap_drop : (n : ℕ) {l m : List (Option E)} → Swap e l m → hits has (drop n m) ≡ hits has (drop n l)
     swap_drop n {l} {m} r = elim (swap_cut e n r) as (λ _. hits has (drop n m) ≡ hits has (drop n l)) [ inl p ↦ rw p.1 | inr p ↦ swap_hits p.1 ]
@@ -107,30 +107,30 @@ module _ {E K : Type 0} (has : K → E → Bool) (home : K → ℕ) (span : ℕ)
     pub count : occupied t ≡ length r
     pub folds : (f : E → ℕ → ℕ) → ((a b : E) (n : ℕ) → f a (f b n) ≡ f b (f a n)) → (z : ℕ) → fold_slots f z t ≡ fold_list f z r
 
-  pub placed_none : (may : K → Bool) (n : ℕ) → Placed may (replicate n none) []
+  pub placed_none : (may : K → Bool) (n : ℕ) → Placed may (replicate n None) []
   placed_none may n =
       record {
         whole = λ k. blank k;
-        front = λ k. nothing_past (has k) (rot (home k) (replicate n none)) (blank k);
-        beyond = λ k _. hits_drop (has k) span (rot (home k) (replicate n none)) (blank k);
+        front = λ k. nothing_past (has k) (rot (home k) (replicate n None)) (blank k);
+        beyond = λ k _. hits_drop (has k) span (rot (home k) (replicate n None)) (blank k);
         count = none_occupied n;
         folds = λ f c z. none_folded f z n;
       }
     where
-      none_occupied : (m : ℕ) → occupied {E = E} (replicate m none) ≡ 0
+      none_occupied : (m : ℕ) → occupied {E = E} (replicate m None) ≡ 0
       none_occupied zero = refl
       none_occupied (suc m) = none_occupied m
 
-      none_folded : (f : E → ℕ → ℕ) (z m : ℕ) → fold_slots f z (replicate m none) ≡ z
+      none_folded : (f : E → ℕ → ℕ) (z m : ℕ) → fold_slots f z (replicate m None) ≡ z
       none_folded f z zero = refl
       none_folded f z (suc m) = none_folded f z m
 
-      no_hits : (f : E → Bool) (m : ℕ) → hits f (replicate m none) ≡ []
+      no_hits : (f : E → Bool) (m : ℕ) → hits f (replicate m None) ≡ []
       no_hits f zero = refl
       no_hits f (suc m) = no_hits f m
 
-      blank : (k : K) → hits (has k) (rot (home k) (replicate n none)) ≡ []
-      blank k = hits_rot (has k) (home k) (replicate n none) (no_hits (has k) n)
+      blank : (k : K) → hits (has k) (rot (home k) (replicate n None)) ≡ []
+      blank k = hits_rot (has k) (home k) (replicate n None) (no_hits (has k) n)
 
   -- A push. The entry's walk starts at slot a, and a mark is set if it ends up past the span.
   module _ (may may' : K → Bool) (t : List (Option E)) (r : List E) (e : E) (a : ℕ) (p : Placed may t r) (ha : a ≤ length t)
@@ -152,8 +152,8 @@ module _ {E K : Type 0} (has : K → E → Bool) (home : K → ℕ) (span : ℕ)
         fits : q < length (rot a t)
         fits = rw length_rot room
 
-        own : rot a (place t a e) ≡ set (rot a t) q (some e)
-        own = rot_set t a q ha (omega (arith, fits, length_rot a t)) (some e)
+        own : rot a (place t a e) ≡ set (rot a t) q (Some e)
+        own = rot_set t a q ha (omega (arith, fits, length_rot a t)) (Some e)
 
         fill : Fill e (rot a t) (rot a (place t a e))
         fill = rw own (fill_set e (rot a t) fits)
@@ -161,7 +161,7 @@ module _ {E K : Type 0} (has : K → E → Bool) (home : K → ℕ) (span : ℕ)
         swap : Swap e t (place t a e)
         swap =
             let n : ℕ = length t in
-            rw (rot_back a n t refl, rot_back a n (place t a e) (length-set t _ (some e))) at (swap_rot e (n - a) (fill_swap e fill))
+            rw (rot_back a n t refl, rot_back a n (place t a e) (length-set t _ (Some e))) at (swap_rot e (n - a) (fill_swap e fill))
 
         count' : occupied (place t a e) ≡ length (r ++ (e ∷ []))
         count' = omega (arith, p.count, occupied_fill e fill, occupied_rot a t, occupied_rot a (place t a e), length-append r (e ∷ []))
@@ -182,5 +182,5 @@ module _ {E K : Type 0} (has : K → E → Bool) (home : K → ℕ) (span : ℕ)
         beyond' : (k : K) → may' k ≡ false → (b : Bool) → has k e ≡ b → hits (has k) (drop span (rot (home k) (place t a e))) ≡ []
         beyond' k m true h =
             let near : q < span = elim (dec_lt q span) as (λ _. q < span) [ yes y ↦ y | no y ↦ absurd (true≢false (sym (asks k h (omega arith)) ∙ m)) ] in
-            rw (homes k h, own, drop-set-lt span (rot a t) q (some e)) (rw (homes k h) at (p.beyond k (was k m)))
+            rw (homes k h, own, drop-set-lt span (rot a t) q (Some e)) (rw (homes k h) at (p.beyond k (was k m)))
         beyond' k m false h = swap_drop (has k) e h span (swap_rot e (home k) swap) ∙ p.beyond k (was k m)

@@ -1,6 +1,7 @@
 -- A push puts its entry into the first empty slot of its hash's walk, and so at the end of the list. Assumes nothing.
 use Rattle.std.proofs.Common.{◌≡◌, ℕ, zero, suc, ◌+◌, ◌-◌, ◌*◌, ◌/◌, ◌^◌, ◌<◌, ◌≤◌, Bool, true, false, cond, ltb, leb, List, [], ◌∷◌, ◌++◌, map, length, get_or, take, set, sym, refl, ap, ◌∙◌, arith, length-set, length-take-le, ltb-false, le-leb, leb-false, leb-true}
-use mathlib.Core.Option.{some}
+use Rattle.std.specs.Prelude.{Some, Ok}
+use Rattle.hash_parts.specs.declared.error.SegmentCacheBuildError.TheVariants.{}
 use lib.Seq.{take-set-lt}
 use borrow.Author.Tests.{lt-leb}
 use Rattle.hash_parts.specs.Hash.{tag_of, first_bucket}
@@ -9,12 +10,9 @@ use Rattle.records.specs.Record.{Stored}
 use Rattle.records.proofs.Area.{same_true}
 use Rattle.index.specs.Build.{PushLook, vacant, passed, looks, slot_for}
 use Rattle.index.specs.Filter.{displaced, filter_has, filter_marked}
-use Rattle.index.specs.Slot.{word_slot}
+use Rattle.index.specs.Slot.{word_slot, IndexSlot}
 use Rattle.index.specs.Walk.{rot}
 use Rattle.index.specs.Word.{word_of}
-use Rattle.index.specs.declared.build.BuildSlot.TheVariants as build
-use Rattle.index.specs.declared.slot.IndexSlot.{IndexSlot}
-use Rattle.index.specs.declared.slot.IndexSlot.TheVariants.{Used}
 use Rattle.index.proofs.Contents.{word_slots}
 use Rattle.index.proofs.Entries.{new_slot, keyed, cell_used, Indexed, words_long}
 use Rattle.index.proofs.Filters.{own_mark, mark_grows}
@@ -30,12 +28,12 @@ module _ {E : Type 0} {stored : E → Stored} {H : List ℕ → ℕ} {Holds : �
   inserted : (buckets : ℕ) (slots : List IndexSlot) (filter : List ℕ) (words : ℕ) {r : List E} (x : Indexed stored H false Holds buckets slots filter words r)
       → (e : E) (l h a q s : ℕ) → h ≡ H (stored e).key → h < 2 ^ 64 → a ≡ 8 * first_bucket h buckets → q ≡ gap_at (rot a x.table) → q < 8 * buckets
       → s ≡ slot_of (8 * buckets) a q → Holds l e
-      → Indexed stored H false Holds buckets (set slots s (Used (tag_of h) l)) (cond (leb 16 q) (filter_marked filter words h) filter) words (r ++ (e ∷ []))
+      → Indexed stored H false Holds buckets (set slots s (Some (tag_of h, l))) (cond (leb 16 q) (filter_marked filter words h) filter) words (r ++ (e ∷ []))
   inserted buckets slots filter words {r} x e l h a q s hash bound start gap room at holds =
       record {
         table = place x.table a e;
-        size = length-set x.table _ (some e) ∙ x.size;
-        cells = rw (x.size, ← gap, ← at) (pairs_set s (Used (tag_of h) l) (some e) (cell_used (ap tag_of hash) holds) x.cells);
+        size = length-set x.table _ (Some e) ∙ x.size;
+        cells = rw (x.size, ← gap, ← at) (pairs_set s (Some (tag_of h, l)) (Some e) (cell_used (ap tag_of hash) holds) x.cells);
         placed =
             placed_push (keyed stored) (λ k. 8 * first_bucket (H k) buckets) 16 _ _ x.table r e a x.placed inside fits homes (λ k. grows k (leb 16 q)) (λ k y z. own k y (omega (arith, gap)));
       }
@@ -102,7 +100,7 @@ slots_set buckets index i w h = ap (map word_slot) (take-set-lt (8 * buckets) in
 -- what is known where the search for a slot has found one, whatever words it would have taken for the key
 module _ {E : Type 0} {stored : E → Stored} {H : List ℕ → ℕ} {Holds : ℕ → E → Type 0} (index : List ℕ) (buckets : ℕ) (filter : List ℕ) (words : ℕ) {r : List E}
     (x : Indexed stored H false Holds buckets (word_slots buckets index) filter words r) (taken : ℕ → Bool) (h s : ℕ) (bound : h < 2 ^ 64)
-    (answer : slot_for taken index buckets h ≡ build.Empty s) where
+    (answer : slot_for taken index buckets h ≡ Ok s) where
   -- the position of the first empty slot of the walk
   abbrev pub gap : ℕ
   gap = gap_at (rot (8 * first_bucket h buckets) x.table)

@@ -1,13 +1,18 @@
 -- Laws of splitting: the segment of a location, split words, the lengths, and what a split leaves. Assumes nothing.
-use Rattle.std.proofs.Common.{◌≡◌, ℕ, zero, suc, ◌+◌, ◌-◌, ◌*◌, ◌/◌, ◌^◌, ◌<◌, ◌≤◌, ◌⊎◌, List, [], ◌∷◌, ◌++◌, map, length, get_or, take, drop, set, sym, refl, ap, ◌∙◌, ap₂, inl, inr, not-suc-le-zero, add-one, arith, drop_of_length-le, length-take-le, drop-cons, get_or-take, eq-eqb, ne_eqb, le-leb}
+use Rattle.std.proofs.Common.{◌≡◌, ℕ, zero, suc, ◌+◌, ◌-◌, ◌*◌, ◌/◌, ◌^◌, ◌<◌, ◌≤◌, ◌⊎◌, List, [], ◌∷◌, ◌++◌, map, length, get_or, take, drop, sym, refl, ap, ◌∙◌, ap₂, inl, inr, not-suc-le-zero, add-one, arith, drop_of_length-le, length-take-le, drop-cons, get_or-take, eq-eqb, ne_eqb, le-leb, leb, Bool, true, false, leb-true, cond}
+use Rattle.std.proofs.lemmas.Bool.{leb-false}
+use Rattle.std.specs.Prelude.{Ok, Err, Result}
+use Rattle.std.proofs.lemmas.List.Sorted.{IsNonDecreasingBy-from_default, IsPartitionedBy-leb}
+use Rattle.std.specs.List.{AllWithin, between}
+use Rattle.std.specs.List.Sorted.{IsPartitionedBy, IsPartitionPoint}
 use native.Mathlib.Decide.{dec_lt}
 use borrow.Author.Tests.{lt-leb}
+use Rattle.hash_parts.specs.declared.error.SegmentCacheBuildError.{SegmentCacheBuildError}
 use Rattle.hash_parts.specs.declared.error.SegmentCacheBuildError.TheVariants.{ArenaTooLarge, AreaTooShort}
 use Rattle.records.specs.Area.{over}
 use Rattle.index.specs.Word.{word_of, word_tag, word_stored}
-use Rattle.index.specs.Segments.{starts_of, lengths_of, segment_of, segmented, split_word, padded, split, split_by, split_result}
+use Rattle.index.specs.Segments.{counted, starts_of, lengths_of, segment_of, segmented, split_word, padded, split, split_by, split_result}
 use Rattle.index.specs.SegmentStarts.{Ascends, StartsIn}
-use Rattle.index.specs.declared.segments.SplitAnswer.TheVariants.{Segments, Refused}
 use Rattle.index.proofs.Filling.{over_padded_length, filled_back}
 use Rattle.index.proofs.Starts.{starts_ascend, starts_first}
 
@@ -36,22 +41,53 @@ segment_is (a ∷ b ∷ ss) l (suc i) asc h from to =
     past (inl e) = inl (omega (arith, e))
     past (inr k) = let e : suc i + 1 ≡ suc (i + 1) = omega arith in inr (rw e at k)
 
--- what a bisection ends with
-pub segment_found : (area : List ℕ) (count l low high : ℕ) → StartsIn area count → low < high → high ≤ low + 1 → high ≤ count
-    → get_or area low 0 ≤ l → (high ≡ count) ⊎ (l < get_or area high 0) → segment_of (take count area) l ≡ low
-segment_found area count l low high s lt le in_count from to =
-    segment_is (take count area) l low s.ascend (omega (arith, long)) (omega (arith, get_or-take count area low 0 (omega arith))) (go (dec_lt high count) to)
-  where
-    long : length (take count area) ≡ count
-    long = length-take-le count area s.within
+-- the starts after the first rise
+rises : (ss : List ℕ) → Ascends ss → (i j : ℕ) → i ≤ j → j < length ss → get_or ss i 0 ≤ get_or ss j 0
+rises [] asc i j le h = absurd (not-suc-le-zero h)
+rises (a ∷ ss) asc zero j le h = first_least a ss asc j h
+rises (a ∷ ss) asc (suc i) zero le h = absurd (omega arith)
+rises (a ∷ ss) asc (suc i) (suc j) le h = rises ss (ascend_rest a ss asc) i j (omega arith) (omega (arith, h))
 
-    next : low + 1 ≡ high
-    next = omega arith
+module _ {area : List ℕ} {count : ℕ} (s : StartsIn area count) where
+  abbrev pub later : List ℕ
+  later = between 1 count area
 
-    go : Dec (high < count) → (high ≡ count) ⊎ (l < get_or area high 0) → (low + 1 ≡ length (take count area)) ⊎ (l < get_or (take count area) (low + 1) 0)
-    go (no n) t = inl (omega (arith, long))
-    go (yes y) (inl e) = absurd (omega arith)
-    go (yes y) (inr k) = inr (rw (next, get_or-take count area high 0 y) k)
+  -- the first start is 0
+  all_are : take count area ≡ 0 ∷ later
+  all_are = go area count s.some s.first s.within
+    where
+      go : (area : List ℕ) (count : ℕ) → 0 < count → get_or area 0 0 ≡ 0 → count ≤ length area → take count area ≡ 0 ∷ between 1 count area
+      go [] count p f h = absurd (omega (arith, h))
+      go (a ∷ area) zero p f h = absurd (omega arith)
+      go (a ∷ area) (suc n) p f h =
+          let e : suc n - 1 ≡ n = omega arith in
+          rw (f, e)
+
+  later_ascend : Ascends later
+  later_ascend = ascend_rest 0 later (rw all_are at s.ascend)
+
+  -- so those not above a location come first
+  pub starts_parted : (l : ℕ) → IsPartitionedBy (λ s. leb s l) later
+  starts_parted l = IsPartitionedBy-leb (λ s. s) later l (IsNonDecreasingBy-from_default (λ s. s) later 0 (rises later later_ascend))
+
+  -- and as many as there are is the segment of the location
+  pub last_start : (l i : ℕ) → i ≤ length later → IsPartitionPoint (λ s. leb s l ≡ true) (λ s. leb s l ≡ false) later i
+      → (i ≡ segment_of (take count area) l) × (i < count) × (get_or area i 0 ≤ l)
+  last_start l i h p =
+      let long : length (take count area) ≡ count = length-take-le count area s.within in
+      let more : suc (length later) ≡ count = sym (ap length all_are) ∙ long in
+      let from : get_or (0 ∷ later) i 0 ≤ l = below i h p.0 in
+      let is = segment_is (0 ∷ later) l i (rw all_are at s.ascend) (omega arith) from (go (dec_lt i (length later))) in
+      let here : get_or (0 ∷ later) i 0 ≡ get_or area i 0 = ap (λ (ss : List ℕ). get_or ss i 0) (sym all_are) ∙ get_or-take count area i 0 (omega arith) in
+      (rw all_are (sym is), omega arith, rw here at from)
+    where
+      below : (i : ℕ) → i ≤ length later → AllWithin (λ s. leb s l ≡ true) later 0 i → get_or (0 ∷ later) i 0 ≤ l
+      below zero h f = omega arith
+      below (suc j) h f = leb-true _ _ (f j 0 (omega arith) (omega arith))
+
+      go : Dec (i < length later) → (i + 1 ≡ length (0 ∷ later)) ⊎ (l < get_or (0 ∷ later) (i + 1) 0)
+      go (no n) = inl (omega arith)
+      go (yes y) = inr (rw (add-one i) (leb-false _ _ (p.1 i 0 (omega arith) y)))
 
 -- ---- split words
 
@@ -71,23 +107,6 @@ split_found area count w segment named e h =
     let ss : List ℕ = take count area in
     let start : get_or area segment 0 ≡ get_or ss (segment_of ss (word_stored w - 1)) 0 = sym (get_or-take count area segment 0 h) ∙ ap (λ (k : ℕ). get_or ss k 0) e in
     ap₂ (λ (k start : ℕ). word_of (word_tag w) (k * 2 ^ 32 + (word_stored w - 1 - start))) e start ∙ sym (split_named ss w named)
-
--- a loop over words from the front: those passed are changed, the others as they were
-module _ (f : ℕ → ℕ) where
-  pub words_at : (i : ℕ) (words : List ℕ) → i < length words → get_or (map f (take i words) ++ drop i words) i 0 ≡ get_or words i 0
-  words_at i [] h = absurd (not-suc-le-zero h)
-  words_at zero (w ∷ words) h = refl
-  words_at (suc i) (w ∷ words) h = words_at i words (omega (arith, h))
-
-  words_suc : (i : ℕ) (words : List ℕ) → i < length words
-      → set (map f (take i words) ++ drop i words) i (f (get_or words i 0)) ≡ map f (take (suc i) words) ++ drop (suc i) words
-  words_suc i [] h = absurd (not-suc-le-zero h)
-  words_suc zero (w ∷ words) h = refl
-  words_suc (suc i) (w ∷ words) h = ap (λ (l : List ℕ). f w ∷ l) (words_suc i words (omega (arith, h)))
-
-  pub words_more : (i : ℕ) (words : List ℕ) → i < length words
-      → set (map f (take i words) ++ drop i words) i (f (get_or words i 0)) ≡ map f (take (i + 1) words) ++ drop (i + 1) words
-  words_more i words h = rw (add-one i) (words_suc i words h)
 
 -- ---- the lengths
 
@@ -125,10 +144,37 @@ module _ (area : List ℕ) (count i : ℕ) (starts : StartsIn area count) where
       let k : length ss ≤ suc i = omega (arith, long) in
       rw (drop-cons ss i 0 (omega (arith, long)), drop_of_length-le ss k, get_or-take count area i 0 (omega arith))
 
+-- ---- how many starts there are
+
+pub counted_few : (ss : List ℕ) (n : ℕ) → n ≡ length ss → n ≤ 256 → Ok n ≡ counted ss
+counted_few ss n e h =
+    let few : length ss ≤ 256 = omega arith in
+    simp (le-leb (length ss) 256 few) (ap Ok e)
+
+pub counted_many : (ss : List ℕ) → 257 ≡ length ss → Err ArenaTooLarge ≡ counted ss
+counted_many ss e =
+    let many : 256 < length ss = omega arith in
+    simp (lt-leb (length ss) 256 many)
+
+module _ (ss : List ℕ) {a : Result ℕ SegmentCacheBuildError} (is : a ≡ counted ss) where
+  counts_few : {n : ℕ} → a ≡ Ok n → (n ≡ length ss) × (n ≤ 256)
+  counts_few {n} e = go (leb (length ss) 256) refl (sym e ∙ is)
+    where
+      go : (b : Bool) → leb (length ss) 256 ≡ b → Ok n ≡ cond b (Ok (length ss)) (Err ArenaTooLarge) → (n ≡ length ss) × (n ≤ 256)
+      go true q f = let same : n ≡ length ss = cc in (same, omega (arith, leb-true _ _ q))
+      go false q f = cc
+
+  counts_many : {r : SegmentCacheBuildError} → a ≡ Err r → (r ≡ ArenaTooLarge) × (256 < length ss)
+  counts_many {r} e = go (leb (length ss) 256) refl (sym e ∙ is)
+    where
+      go : (b : Bool) → leb (length ss) 256 ≡ b → Err r ≡ cond b (Ok (length ss)) (Err ArenaTooLarge) → (r ≡ ArenaTooLarge) × (256 < length ss)
+      go true q f = cc
+      go false q f = (cc, leb-false _ _ q)
+
 -- ---- what a split leaves
 
 module _ (index : List ℕ) (buckets filled target : ℕ) (starts lengths : List ℕ) where
-  pub short_index : length index / 8 < buckets → split_result (Refused AreaTooShort) index starts lengths ≡ split index buckets filled target starts lengths
+  pub short_index : length index / 8 < buckets → split_result (Err AreaTooShort) index starts lengths ≡ split index buckets filled target starts lengths
   unfolding split
   short_index h = let s : length index < 8 * buckets = omega arith in simp (lt-leb (8 * buckets) (length index) s)
 
@@ -136,12 +182,12 @@ module _ (index : List ℕ) (buckets filled target : ℕ) (starts lengths : List
     words_in : 8 * buckets ≤ length index
     words_in = omega arith
 
-    pub short_starts : length starts < 256 → split_result (Refused AreaTooShort) index starts lengths ≡ split index buckets filled target starts lengths
+    pub short_starts : length starts < 256 → split_result (Err AreaTooShort) index starts lengths ≡ split index buckets filled target starts lengths
     unfolding split
     short_starts h = simp (le-leb (8 * buckets) (length index) words_in, lt-leb 256 (length starts) h)
 
     module _ (in_starts : 256 ≤ length starts) where
-      pub short_lengths : length lengths < 256 → split_result (Refused AreaTooShort) index starts lengths ≡ split index buckets filled target starts lengths
+      pub short_lengths : length lengths < 256 → split_result (Err AreaTooShort) index starts lengths ≡ split index buckets filled target starts lengths
       unfolding split
       short_lengths h = simp (le-leb (8 * buckets) (length index) words_in, le-leb 256 (length starts) in_starts, lt-leb 256 (length lengths) h)
 
@@ -154,36 +200,42 @@ module _ (index : List ℕ) (buckets filled target : ℕ) (starts lengths : List
         areas_long = simp (le-leb (8 * buckets) (length index) words_in, le-leb 256 (length starts) in_starts, le-leb 256 (length lengths) in_lengths)
 
         -- the starts area after the starts were written, and their count
-        module _ (count : ℕ) (starts' : List ℕ) (counted : count ≡ length all_starts) (written : starts' ≡ over (padded all_starts) starts) where
-          pub split_refused : 256 < count → split_result (Refused ArenaTooLarge) index starts' lengths ≡ split index buckets filled target starts lengths
-          split_refused h =
-              let many : 256 < length all_starts = omega arith in
-              sym (areas_long ∙ rw written (simp (lt-leb (length all_starts) 256 many)))
+        module _ (answer : Result ℕ SegmentCacheBuildError) (starts' : List ℕ) (counts : answer ≡ counted all_starts) (written : starts' ≡ over (padded all_starts) starts) where
+          pub split_refused : (e : SegmentCacheBuildError) → answer ≡ Err e → split_result (Err e) index starts' lengths ≡ split index buckets filled target starts lengths
+          split_refused e h =
+              let many = counts_many all_starts counts h in
+              sym (areas_long ∙ rw (many.0, written) (simp (lt-leb (length all_starts) 256 many.1)))
 
-          module _ (few : count ≤ 256) where
+          module _ (count : ℕ) (given : answer ≡ Ok count) where
+            same_count : count ≡ length all_starts
+            same_count = (counts_few all_starts counts given).0
+
+            pub few : count ≤ 256
+            few = (counts_few all_starts counts given).1
+
             few_starts : length all_starts ≤ 256
-            few_starts = omega arith
+            few_starts = omega (arith, same_count, few)
 
             starts_back : take count starts' ≡ all_starts
-            starts_back = ap₂ take counted written ∙ filled_back all_starts starts few_starts
+            starts_back = ap₂ take same_count written ∙ filled_back all_starts starts few_starts
 
             pub starts_written_law : StartsIn starts' count
             starts_written_law =
                 let first = starts_first (take (8 * buckets) index) filled target in
-                let some : 0 < count = omega arith in
+                let some : 0 < count = omega (arith, same_count) in
                 record {
                   some = some;
-                  within = omega (arith, ap length written ∙ over_padded_length all_starts starts in_starts);
+                  within = omega (arith, few, ap length written ∙ over_padded_length all_starts starts in_starts);
                   first = sym (get_or-take count starts' 0 0 some) ∙ ap (λ (l : List ℕ). get_or l 0 0) starts_back ∙ first.0;
                   ascend = rw starts_back (starts_ascend (take (8 * buckets) index) filled target);
                 }
 
             module _ (lengths' : List ℕ) (measured : lengths' ≡ over (padded (lengths_of filled (take count starts'))) lengths) where
-              pub split_whole : filled ≤ target → split_result (Segments count) index starts' lengths' ≡ split index buckets filled target starts lengths
+              pub split_whole : filled ≤ target → split_result (Ok count) index starts' lengths' ≡ split index buckets filled target starts lengths
               split_whole h =
-                  sym (areas_long ∙ rw (measured, starts_back, written, counted) (simp (le-leb (length all_starts) 256 few_starts, le-leb filled target h)))
+                  sym (areas_long ∙ rw (measured, starts_back, written, same_count) (simp (le-leb (length all_starts) 256 few_starts, le-leb filled target h)))
 
               pub split_parts : target < filled → (index' : List ℕ) → index' ≡ map (split_word (take count starts')) (take (8 * buckets) index) ++ drop (8 * buckets) index
-                  → split_result (Segments count) index' starts' lengths' ≡ split index buckets filled target starts lengths
+                  → split_result (Ok count) index' starts' lengths' ≡ split index buckets filled target starts lengths
               split_parts h index' e =
-                  sym (areas_long ∙ rw (e, measured, starts_back, written, counted) (simp (le-leb (length all_starts) 256 few_starts, lt-leb filled target h)))
+                  sym (areas_long ∙ rw (e, measured, starts_back, written, same_count) (simp (le-leb (length all_starts) 256 few_starts, lt-leb filled target h)))

@@ -1,5 +1,6 @@
 -- Laws of segment starts: the next start, the starts one by one, and that they ascend. Assumes nothing.
-use Rattle.std.proofs.Common.{◌≡◌, ℕ, zero, suc, ◌+◌, ◌-◌, ◌*◌, ◌/◌, ◌<◌, ◌≤◌, min, Bool, true, false, cond, eqb, ltb, leb, List, [], ◌∷◌, length, get_or, take, drop, refl, ◌∙◌, not-suc-le-zero, add-one, arith, drop_of_length-le, drop-cons, ltb-true, le-ltb, lt-ltb, eq-eqb, ne_eqb, le-leb}
+use Rattle.std.proofs.Common.{◌≡◌, ℕ, zero, suc, ◌+◌, ◌-◌, ◌*◌, ◌/◌, ◌<◌, ◌≤◌, min, Bool, true, false, cond, eqb, ltb, leb, List, [], ◌∷◌, length, get_or, take, refl, ◌∙◌, not-suc-le-zero, arith, ltb-true, le-ltb, lt-ltb, eq-eqb, ne_eqb, le-leb, ◌++◌, ◌&&◌, ap}
+use Rattle.std.specs.List.{list_all}
 use native.Mathlib.Decide.{dec_le}
 use borrow.Author.Tests.{eqb-false, lt-leb}
 use Rattle.index.specs.Word.{word_stored}
@@ -50,26 +51,18 @@ next_start_from (w ∷ words) bound h = go (starts_at bound w) refl h (next_star
 abbrev pub lower : ℕ → ℕ → ℕ → ℕ
 lower w bound lowest = cond (starts_at bound w) (min (word_stored w - 1) lowest) lowest
 
-pub lower_most : (w bound lowest most : ℕ) → lowest ≤ most → lower w bound lowest ≤ most
-lower_most w bound lowest most h = go (starts_at bound w)
+-- the next start of a word more at the end
+pub lower_last : (words : List ℕ) (w bound : ℕ) → next_start (words ++ (w ∷ [])) bound ≡ lower w bound (next_start words bound)
+unfolding next_start
+lower_last [] w bound = refl
+lower_last (v ∷ words) w bound =
+    ap (λ (rest : ℕ). cond (starts_at bound v) (min (word_stored v - 1) rest) rest) (lower_last words w bound)
+    ∙ go (starts_at bound v) (starts_at bound w) (word_stored v - 1) (word_stored w - 1) (next_start words bound)
   where
-    go : (b : Bool) → cond b (min (word_stored w - 1) lowest) lowest ≤ most
-    go true = omega arith
-    go false = h
-
-module _ (words : List ℕ) (bound lowest i : ℕ) where
-  pub scan_step : (lowest' : ℕ) → i < length words → lowest' ≡ lower (get_or words i 0) bound lowest
-      → min lowest' (next_start (drop (i + 1) words) bound) ≡ min lowest (next_start (drop i words) bound)
-  unfolding next_start
-  scan_step lowest' h e = rw (e, drop-cons words i 0 h, add-one i) (go (starts_at bound (get_or words i 0)) (next_start (drop (suc i) words) bound) (word_stored (get_or words i 0) - 1))
-    where
-      go : (b : Bool) (rest location : ℕ) → min (cond b (min location lowest) lowest) rest ≡ min lowest (cond b (min location rest) rest)
-      go true rest location = omega arith
-      go false rest location = refl
-
-  pub scan_end : length words ≤ i → lowest ≤ no_start → min lowest (next_start (drop i words) bound) ≡ lowest
-  unfolding next_start
-  scan_end h m = rw (drop_of_length-le words h) (omega arith)
+    go : (x y : Bool) (m n rest : ℕ) → cond x (min m (cond y (min n rest) rest)) (cond y (min n rest) rest) ≡ cond y (min n (cond x (min m rest) rest)) (cond x (min m rest) rest)
+    go true true m n rest = omega arith
+    go true false m n rest = refl
+    go false y m n rest = refl
 
 module _ (index : List ℕ) (buckets bound : ℕ) where
   pub start_in_law : 8 * buckets ≤ length index → start_in index buckets bound ≡ next_start (take (8 * buckets) index) bound
@@ -189,20 +182,14 @@ module _ (filled : ℕ) where
       go true q e rest (suc i) h = rest e i (omega (arith, h))
       go false q e rest i h = absurd (let z : ◌≡◌ {A = ℕ} 0 1 = cc in omega arith)
 
-  module _ (words : List ℕ) (i : ℕ) where
-    inside_step : i < length words → all_inside filled (drop i words) ≡ cond (inside filled (get_or words i 0)) (all_inside filled (drop (i + 1) words)) false
-    unfolding all_inside
-    inside_step h = rw (drop-cons words i 0 h, add-one i)
-
-    pub inside_next : i < length words → inside filled (get_or words i 0) ≡ true → all_inside filled (drop i words) ≡ all_inside filled (drop (i + 1) words)
-    inside_next h e = inside_step h ∙ rw e
-
-    pub inside_not : i < length words → inside filled (get_or words i 0) ≡ false → all_inside filled (drop i words) ≡ false
-    inside_not h e = inside_step h ∙ rw e
-
-    pub inside_end : length words ≤ i → all_inside filled (drop i words) ≡ true
-    unfolding all_inside
-    inside_end h = rw (drop_of_length-le words h)
+  pub all_are_inside : (words : List ℕ) → list_all (inside filled) words ≡ all_inside filled words
+  unfolding all_inside
+  all_are_inside [] = refl
+  all_are_inside (w ∷ words) = go (inside filled w) (all_are_inside words)
+    where
+      go : (b : Bool) → list_all (inside filled) words ≡ all_inside filled words → (b && list_all (inside filled) words) ≡ cond b (all_inside filled words) false
+      go true e = e
+      go false e = refl
 
   module _ (index : List ℕ) (buckets : ℕ) where
     pub locations_in : 8 * buckets ≤ length index → locations_inside index buckets filled ≡ all_inside filled (take (8 * buckets) index)

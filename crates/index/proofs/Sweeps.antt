@@ -1,19 +1,18 @@
 -- The loop over the candidates of a bucket. Assumes nothing.
 use Rattle.std.proofs.Common.{◌≡◌, ℕ, ◌+◌, ◌*◌, ◌<◌, ◌≤◌, Bool, true, false, cond, ltb, List, length, get_or, take, drop, sym, refl, ap, ◌∙◌, zero-add, arith, length-drop, length-take-le}
+use Rattle.std.specs.Prelude.{None, Option}
+use Rattle.records.specs.declared.record.RecordRef.{RecordRef}
 use lib.ListN.{length-map}
 use Rattle.hash_parts.specs.Hash.{control_tag, secondary_tag}
 use Rattle.hash_parts.specs.ZeroBytes.{bytes_of, first_mark, lowest_set, marks, without_lowest}
 use Rattle.hash_parts.proofs.Visit.{rest_marks, visited, first_right, first_lt, rest_right, rest_length, rest_less, visit_first, visit_none}
 use Rattle.hash_parts.proofs.Bytes.{length_bytes}
-use Rattle.records.specs.declared.record.RecordAnswer.{RecordAnswer}
 use Rattle.index.specs.Find.{Look, look, looks_from, scan, sweep, has_empty, in_bucket, slots_of}
 use Rattle.index.specs.FindSteps.{step_of, has_tag, tagged, passed_over, from_on, candidates}
 use Rattle.index.specs.Packed.{packed_bucket, word_bytes}
-use Rattle.index.specs.Slot.{packed_tag, kept_tag, word_slot}
+use Rattle.index.specs.Slot.{packed_tag, kept_tag, word_slot, IndexSlot}
 use Rattle.index.specs.declared.find.FindStep.{FindStep}
 use Rattle.index.specs.declared.find.FindStep.TheVariants.{Hit, Stop, Next}
-use Rattle.index.specs.declared.slot.IndexSlot.{IndexSlot}
-use Rattle.index.specs.declared.slot.IndexSlot.TheVariants.{Empty}
 use Rattle.index.proofs.Candidates.{sweep_visits, scan_visits, empty_marked, from_length}
 use Rattle.index.proofs.Finds.{and_then, then_ends}
 
@@ -64,18 +63,18 @@ module _ (answer : FindStep) (says : ℕ → FindStep) {m : ℕ} (v : Visiting a
 
 -- ---- a bucket
 
-module _ (read : ℕ → RecordAnswer) (arena key : List ℕ) (packed : Bool) (tag buckets : ℕ) (index : List ℕ) (bucket : ℕ) where
+module _ (read : ℕ → Option RecordRef) (arena key : List ℕ) (packed : Bool) (tag buckets : ℕ) (index : List ℕ) (bucket : ℕ) where
   abbrev pub slots : List Look
   slots = looks_from read arena key (kept_tag packed tag) (8 * bucket) (slots_of packed buckets index bucket)
 
   abbrev pub says : ℕ → FindStep
-  says j = step_of (look read arena key (kept_tag packed tag) (8 * bucket + j) (get_or (slots_of packed buckets index bucket) j Empty))
+  says j = step_of (look read arena key (kept_tag packed tag) (8 * bucket + j) (get_or (slots_of packed buckets index bucket) j None))
 
   -- what the slots of the tag say
   abbrev pub searched : FindStep
   searched = cond packed (sweep slots) (scan slots)
 
-module _ (read : ℕ → RecordAnswer) (arena key : List ℕ) where
+module _ (read : ℕ → Option RecordRef) (arena key : List ℕ) where
   pub visiting_begins : (packed : Bool) (tag buckets : ℕ) (index : List ℕ) (bucket m : ℕ) → 8 * bucket + 8 ≤ length index → m ≡ marks (candidates packed tag index bucket)
       → Visiting (searched read arena key packed tag buckets index bucket) (says read arena key packed tag buckets index bucket) m
   unfolding packed_bucket

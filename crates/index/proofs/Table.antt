@@ -1,6 +1,6 @@
 -- A table of slots, each empty or with an entry, seen by walks that start at any slot and go around. Assumes nothing.
 use Rattle.std.proofs.Common.{◌≡◌, ℕ, suc, ◌+◌, ◌-◌, ◌<◌, ◌≤◌, Bool, true, false, cond, T, ltb, List, [], ◌∷◌, ◌++◌, length, get_or, take, drop, set, sym, refl, ap, ◌∙◌, subst, append-nil, suc-add, zero-add, arith, length-append, length-drop, take-append-drop, length-take, get_or-drop, get_or-take, take_at, get_or-append-add, drop-set-lt, drop_at, ltb-false, ltb-true}
-use mathlib.Core.Option.{Option, none, some}
+use Rattle.std.specs.Prelude.{Option, Some, None}
 use lib.ListN.{get_or-append}
 use lib.Seq.{set-append_left, take-set-le, drop-set-add, take-set-lt}
 use Rattle.index.specs.Walk.{rot}
@@ -90,32 +90,32 @@ module _ {E : Type 0} where
 
   abbrev pub hits : (E → Bool) → List (Option E) → List E
   hits has [] = []
-  hits has (none ∷ l) = hits has l
-  hits has (some e ∷ l) = cond (has e) (e ∷ hits has l) (hits has l)
+  hits has (None ∷ l) = hits has l
+  hits has (Some e ∷ l) = cond (has e) (e ∷ hits has l) (hits has l)
 
   -- what stands past the first empty slot
   abbrev pub past : List (Option E) → List (Option E)
   past [] = []
-  past (none ∷ l) = l
-  past (some e ∷ l) = past l
+  past (None ∷ l) = l
+  past (Some e ∷ l) = past l
 
-  -- the position of the first empty slot; the length where there is none
+  -- the position of the first empty slot; the length where there is None
   abbrev pub gap_at : List (Option E) → ℕ
   gap_at [] = 0
-  gap_at (none ∷ l) = 0
-  gap_at (some e ∷ l) = suc (gap_at l)
+  gap_at (None ∷ l) = 0
+  gap_at (Some e ∷ l) = suc (gap_at l)
 
   -- how many slots are occupied
   abbrev pub occupied : List (Option E) → ℕ
   occupied [] = 0
-  occupied (none ∷ l) = occupied l
-  occupied (some e ∷ l) = suc (occupied l)
+  occupied (None ∷ l) = occupied l
+  occupied (Some e ∷ l) = suc (occupied l)
 
   -- a number made from the entries, one after the other: of the slots, and of a list
   abbrev pub fold_slots : (E → ℕ → ℕ) → ℕ → List (Option E) → ℕ
   fold_slots f z [] = z
-  fold_slots f z (none ∷ l) = fold_slots f z l
-  fold_slots f z (some e ∷ l) = f e (fold_slots f z l)
+  fold_slots f z (None ∷ l) = fold_slots f z l
+  fold_slots f z (Some e ∷ l) = f e (fold_slots f z l)
 
   abbrev pub fold_list : (E → ℕ → ℕ) → ℕ → List E → ℕ
   fold_list f z [] = z
@@ -123,12 +123,12 @@ module _ {E : Type 0} where
 
   -- the table with e in the first empty slot of the walk from slot a
   abbrev pub place : List (Option E) → ℕ → E → List (Option E)
-  place t a e = set t (slot_of (length t) a (gap_at (rot a t))) (some e)
+  place t a e = set t (slot_of (length t) a (gap_at (rot a t))) (Some e)
 
   occupied_append : (l m : List (Option E)) → occupied (l ++ m) ≡ occupied l + occupied m
   occupied_append [] m = omega arith
-  occupied_append (none ∷ l) m = occupied_append l m
-  occupied_append (some e ∷ l) m = omega (arith, occupied_append l m)
+  occupied_append (None ∷ l) m = occupied_append l m
+  occupied_append (Some e ∷ l) m = omega (arith, occupied_append l m)
 
   pub occupied_rot : (a : ℕ) (l : List (Option E)) → occupied (rot a l) ≡ occupied l
   occupied_rot a l =
@@ -136,8 +136,8 @@ module _ {E : Type 0} where
 
   gap_lt : (l : List (Option E)) → occupied l < length l → gap_at l < length l
   gap_lt [] h = h
-  gap_lt (none ∷ l) h = omega arith
-  gap_lt (some e ∷ l) h = omega (arith, gap_lt l (omega arith))
+  gap_lt (None ∷ l) h = omega arith
+  gap_lt (Some e ∷ l) h = omega (arith, gap_lt l (omega arith))
 
   -- in a table that is not full every walk meets an empty slot
   pub walk_gap : (a : ℕ) (l : List (Option E)) → occupied l < length l → gap_at (rot a l) < length l
@@ -152,8 +152,8 @@ module _ {E : Type 0} (has : E → Bool) where
 
   pub hits_append : (l m : List (Option E)) → hits has (l ++ m) ≡ hits has l ++ hits has m
   hits_append [] m = refl
-  hits_append (none ∷ l) m = hits_append l m
-  hits_append (some e ∷ l) m = rw (hits_append l m, cond_append (has e) e (hits has l) (hits has m))
+  hits_append (None ∷ l) m = hits_append l m
+  hits_append (Some e ∷ l) m = rw (hits_append l m, cond_append (has e) e (hits has l) (hits has m))
 
   only_append : (l m : List E) → only has (l ++ m) ≡ only has l ++ only has m
   only_append [] m = refl
@@ -187,10 +187,10 @@ module _ {E : Type 0} (has : E → Bool) where
 
   pub nothing_past : (l : List (Option E)) → hits has l ≡ [] → hits has (past l) ≡ []
   nothing_past [] h = refl
-  nothing_past (none ∷ l) h = h
-  nothing_past (some e ∷ l) h = nothing_past l (nil_right (hits has (some e ∷ [])) (hits has l) (sym (hits_append (some e ∷ []) l) ∙ h))
+  nothing_past (None ∷ l) h = h
+  nothing_past (Some e ∷ l) h = nothing_past l (nil_right (hits has (Some e ∷ [])) (hits has l) (sym (hits_append (Some e ∷ []) l) ∙ h))
 
   pub past_after : (l m : List (Option E)) → hits has (past (l ++ m)) ≡ [] → hits has (past m) ≡ []
   past_after [] m h = h
-  past_after (none ∷ l) m h = nothing_past m (nil_right (hits has l) (hits has m) (sym (hits_append l m) ∙ h))
-  past_after (some e ∷ l) m h = past_after l m h
+  past_after (None ∷ l) m h = nothing_past m (nil_right (hits has l) (hits has m) (sym (hits_append l m) ∙ h))
+  past_after (Some e ∷ l) m h = past_after l m h

@@ -1,22 +1,20 @@
--- The index of a build. Document 01, Index: "Buckets: records divided by occupancy, rounded up, at least 1. Open and rebuild open set to 0 the index
+-- The index of a build. "Buckets: records divided by occupancy, rounded up, at least 1. Open and rebuild open set to 0 the index
 -- and filter words that their counts need; words past them are never written. .. A push takes the first empty slot, walking on from the first
 -- bucket and around."
 -- Assumes nothing.
-use Rattle.std.specs.Prelude.{ℕ, zero, suc, ◌+◌, ◌*◌, max, Bool, false, cond, List, [], ◌∷◌, length, take, drop, replicate, ◌==◌, nat_le}
-use Rattle.std.proofs.Math.Option.{Option, none, some}
+use Rattle.std.specs.Prelude.{◌≡◌, ℕ, zero, suc, ◌+◌, ◌*◌, ◌^◌, ◌<◌, max, Bool, false, cond, List, [], ◌∷◌, length, take, drop, replicate, ◌==◌, nat_le, Option, Some, None, Result, Ok, Err}
 use Rattle.hash_parts.specs.Duration.{ceil_div}
 use Rattle.hash_parts.specs.Hash.{tag_of}
 use Rattle.hash_parts.specs.Outcome.{Outcome, accepted, refused}
+use Rattle.hash_parts.specs.declared.error.SegmentCacheBuildError.{SegmentCacheBuildError}
 use Rattle.hash_parts.specs.declared.error.SegmentCacheBuildError.TheVariants.{CapacityOverflow, DuplicateKey}
 use Rattle.hash_parts.specs.declared.setting.SegmentExpiry.{SegmentExpiry}
 use Rattle.records.specs.Area.{over, same_bytes}
 use Rattle.records.specs.Record.{Stored, stored_at}
 use Rattle.index.specs.Walk.{bucket_walk}
 use Rattle.index.specs.Word.{word_tag, word_stored}
-use Rattle.index.specs.declared.build.BuildSlot.{BuildSlot}
-use Rattle.index.specs.declared.build.BuildSlot.TheVariants.{Empty, Duplicate, Full}
 
--- buckets for so many records at this occupancy; one for occupancy 0, which question 3 refuses
+-- buckets for so many records at this occupancy; one for occupancy 0, which opening refuses
 unfoldable pub buckets_for : ℕ → ℕ → ℕ
 buckets_for records occupied = cond (occupied == 0) 1 (max 1 (ceil_div records occupied))
 
@@ -33,13 +31,13 @@ pub data PushLook : Type 0 where
 
 -- the record under a stored location of a build, whose locations count from the arena's start
 unfoldable pub build_record : SegmentExpiry → List ℕ → ℕ → Option Stored
-build_record e bytes zero = none
+build_record e bytes zero = None
 build_record e bytes (suc location) = stored_at e bytes location
 
 -- whether a stored record has the key; one that can't be read has none
 abbrev pub has_key : List ℕ → Option Stored → Bool
-has_key key none = false
-has_key key (some r) = same_bytes r.key key
+has_key key None = false
+has_key key (Some r) = same_bytes r.key key
 
 -- whether a word has the tag and names a record with the key
 unfoldable pub holds_key : (ℕ → Option Stored) → List ℕ → ℕ → ℕ → Bool
@@ -54,29 +52,32 @@ unfoldable pub looks : (ℕ → Bool) → ℕ → List ℕ → List PushLook
 looks taken i [] = []
 looks taken i (w ∷ l) = push_look taken i w ∷ looks taken (suc i) l
 
+-- the answer of a search: a slot, that the key stands in the index, or that no slot is empty
+abbrev pub SlotAnswer : Type 0
+SlotAnswer = Result ℕ SegmentCacheBuildError
+
 -- what the first slot of a bucket says that is not passed over; where all are, the answer of the buckets after it
-unfoldable pub searched : List PushLook → BuildSlot → BuildSlot
+unfoldable pub searched : List PushLook → SlotAnswer → SlotAnswer
 searched [] after = after
-searched (vacant i ∷ l) after = Empty i
-searched (same ∷ l) after = Duplicate
+searched (vacant i ∷ l) after = Ok i
+searched (same ∷ l) after = Err DuplicateKey
 searched (passed ∷ l) after = searched l after
 
 -- the same of the buckets of a walk
-unfoldable pub searched_all : (ℕ → List PushLook) → List ℕ → BuildSlot
-searched_all looks [] = Full
+unfoldable pub searched_all : (ℕ → List PushLook) → List ℕ → SlotAnswer
+searched_all looks [] = Err CapacityOverflow
 searched_all looks (b ∷ bs) = searched (looks b) (searched_all looks bs)
 
 -- the first empty slot of a hash's walk, or a word before it that is taken by the key; an area with fewer words has no slot
-unfoldable pub slot_for : (ℕ → Bool) → List ℕ → ℕ → ℕ → BuildSlot
+unfoldable pub slot_for : (ℕ → Bool) → List ℕ → ℕ → ℕ → SlotAnswer
 slot_for taken index buckets h =
-    cond (nat_le (8 * buckets) (length index)) (searched_all (λ b. looks taken (8 * b) (take 8 (drop (8 * b) index))) (bucket_walk h buckets)) Full
+    cond (nat_le (8 * buckets) (length index)) (searched_all (λ b. looks taken (8 * b) (take 8 (drop (8 * b) index))) (bucket_walk h buckets)) (Err CapacityOverflow)
 
--- its answer as document 01 counts it: "Key new among the words of its tag on its walk? 4."; "A push that walks all buckets without an empty slot would
+-- its answer by its number: "Key new among the words of its tag on its walk? 4."; "A push that walks all buckets without an empty slot would
 -- also give 3, at that walk's end after 4"
-abbrev pub slot_outcome : BuildSlot → Outcome
-slot_outcome (Empty s) = accepted s
-slot_outcome Duplicate = refused DuplicateKey
-slot_outcome Full = refused CapacityOverflow
+abbrev pub slot_outcome : SlotAnswer → Outcome
+slot_outcome (Ok s) = accepted s
+slot_outcome (Err e) = refused e
 
 -- the slot of a push; `bytes` are the filled bytes
 abbrev pub build_slot : List ℕ → ℕ → List ℕ → SegmentExpiry → List ℕ → ℕ → Outcome
@@ -89,6 +90,10 @@ never w = false
 -- the slot of a push that takes a key again
 abbrev pub empty_slot : List ℕ → ℕ → ℕ → Outcome
 empty_slot index buckets h = slot_outcome (slot_for never index buckets h)
+
+-- what a test answers of each word, by what its calls return
+abbrev pub Answers : (ℕ → Bool → Type 0) → (ℕ → Bool) → Type 0
+Answers returns taken = (w : ℕ) (r : Bool) → w < 2 ^ 64 → returns w r → r ≡ taken w
 
 -- the bucket after a bucket, around
 unfoldable pub next_bucket : ℕ → ℕ → ℕ

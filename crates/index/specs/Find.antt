@@ -1,24 +1,19 @@
--- Finding a record. Document 01, Negative filter: "A lookup asks after its second bucket, if neither a hit nor an empty slot came"; Packed index: "Matching
--- bytes are visited from the lowest set bit up"; questions: "An index word of the right tag whose record can't be read, stored location 0 included,
+-- Finding a record. "A lookup asks after its second bucket, if neither a hit nor an empty slot came"; "Matching
+-- bytes are visited from the lowest set bit up"; "An index word of the right tag whose record can't be read, stored location 0 included,
 -- ends a lookup with nothing".
 -- Assumes nothing.
-use Rattle.std.specs.Prelude.{ℕ, suc, ◌*◌, ◌/◌, ◌%◌, Bool, true, false, cond, not, List, [], ◌∷◌, map, length, take, drop, ◌==◌, nat_le, nat_lt, slice_index_or}
+use Rattle.std.specs.Prelude.{ℕ, suc, ◌*◌, ◌/◌, ◌%◌, Bool, true, false, cond, not, List, [], ◌∷◌, map, length, take, drop, ◌==◌, nat_le, nat_lt, slice_index_or, Option, Some, None}
 use Rattle.hash_parts.specs.Hash.{tag_of}
 use Rattle.records.specs.Area.{spanned, same_bytes}
-use Rattle.records.specs.declared.record.RecordAnswer.{RecordAnswer}
-use Rattle.records.specs.declared.record.RecordAnswer.TheVariants.{Read, Unreadable}
+use Rattle.records.specs.declared.record.RecordRef.{RecordRef}
 use Rattle.index.specs.Filter.{filter_has}
 use Rattle.index.specs.Packed.{packed_bucket}
-use Rattle.index.specs.Slot.{word_slot, kept_tag}
+use Rattle.index.specs.Slot.{IndexSlot, word_slot, kept_tag}
 use Rattle.index.specs.View.{record_in}
 use Rattle.index.specs.Walk.{bucket_walk}
-use Rattle.index.specs.declared.find.FindAnswer.{FindAnswer}
-use Rattle.index.specs.declared.find.FindAnswer.TheVariants.{Found, Nothing}
 use Rattle.index.specs.declared.find.FindStep.{FindStep}
 use Rattle.index.specs.declared.find.FindStep.TheVariants.{Hit, Stop, Next}
 use Rattle.index.specs.declared.find.FoundRecord.{FoundRecord}
-use Rattle.index.specs.declared.slot.IndexSlot.{IndexSlot}
-use Rattle.index.specs.declared.slot.IndexSlot.TheVariants.{Empty, Used}
 use Rattle.index.specs.declared.view.SegmentView.{SegmentView}
 
 -- ---- one slot
@@ -31,17 +26,17 @@ pub data Look : Type 0 where
   match : FoundRecord → Look
 
 -- slot i, where reading gave this
-abbrev pub seen : List ℕ → List ℕ → ℕ → RecordAnswer → Look
-seen arena key i (Read r) = cond (same_bytes (spanned arena r.key) key) (match (record { slot = i; entry = r })) other
-seen arena key i Unreadable = broken
+abbrev pub seen : List ℕ → List ℕ → ℕ → Option RecordRef → Look
+seen arena key i (Some r) = cond (same_bytes (spanned arena r.key) key) (match (record { slot = i; entry = r })) other
+seen arena key i None = broken
 
 -- slot i; `read` reads under a stored location, and `tag` is what the layout keeps of the hash's tag
-abbrev pub look : (ℕ → RecordAnswer) → List ℕ → List ℕ → ℕ → ℕ → IndexSlot → Look
-look read arena key tag i Empty = empty
-look read arena key tag i (Used t stored) = cond (t == tag) (seen arena key i (read stored)) other
+abbrev pub look : (ℕ → Option RecordRef) → List ℕ → List ℕ → ℕ → ℕ → IndexSlot → Look
+look read arena key tag i None = empty
+look read arena key tag i (Some (t, stored)) = cond (t == tag) (seen arena key i (read stored)) other
 
 -- the slots from i on
-unfoldable pub looks_from : (ℕ → RecordAnswer) → List ℕ → List ℕ → ℕ → ℕ → List IndexSlot → List Look
+unfoldable pub looks_from : (ℕ → Option RecordRef) → List ℕ → List ℕ → ℕ → ℕ → List IndexSlot → List Look
 looks_from read arena key tag i [] = []
 looks_from read arena key tag i (s ∷ l) = look read arena key tag i s ∷ looks_from read arena key tag (suc i) l
 
@@ -85,9 +80,9 @@ in_bucket packed l = cond packed (swept_out l) (scan l)
 
 -- ---- the walk
 
-abbrev pub followed : FindStep → FindAnswer → FindAnswer
-followed (Hit r) after = Found r
-followed Stop after = Nothing
+abbrev pub followed : FindStep → Option FoundRecord → Option FoundRecord
+followed (Hit r) after = Some r
+followed Stop after = None
 followed Next after = after
 
 -- whether the filter's answer ends a walk after its i-th bucket, counted from 0
@@ -95,10 +90,10 @@ abbrev pub ends_at : ℕ → Bool → Bool
 ends_at i may = cond (i == 1) (not may) false
 
 -- the buckets of a walk, from its i-th on; `looks` are a bucket's slots, and `may` is the filter's answer, asked after the second bucket
-unfoldable pub found : Bool → Bool → (ℕ → List Look) → ℕ → List ℕ → FindAnswer
-found packed may looks i [] = Nothing
+unfoldable pub found : Bool → Bool → (ℕ → List Look) → ℕ → List ℕ → Option FoundRecord
+found packed may looks i [] = None
 found packed may looks i (b ∷ bs) =
-    followed (in_bucket packed (looks b)) (cond (ends_at i may) Nothing (found packed may looks (suc i) bs))
+    followed (in_bucket packed (looks b)) (cond (ends_at i may) None (found packed may looks (suc i) bs))
 
 -- the slots of bucket b of a finished index
 abbrev pub slots_of : Bool → ℕ → List ℕ → ℕ → List IndexSlot
@@ -107,13 +102,13 @@ slots_of packed buckets index b = cond packed (packed_bucket buckets index b) (m
 -- slot s of a finished index; empty past its buckets, and in an area with fewer words than they need
 unfoldable pub slot_at : Bool → ℕ → List ℕ → ℕ → IndexSlot
 slot_at packed buckets index s =
-    cond (nat_le (8 * buckets) (length index)) (cond (nat_lt s (8 * buckets)) (slice_index_or (slots_of packed buckets index (s / 8)) (s % 8) Empty) Empty) Empty
+    cond (nat_le (8 * buckets) (length index)) (cond (nat_lt s (8 * buckets)) (slice_index_or (slots_of packed buckets index (s / 8)) (s % 8) None) None) None
 
 -- the first record of the key on the walk of its hash; an area with fewer words than the buckets need holds none
-unfoldable pub find_in : SegmentView → Bool → List ℕ → ℕ → List ℕ → ℕ → List ℕ → List ℕ → List ℕ → List ℕ → ℕ → FindAnswer
+unfoldable pub find_in : SegmentView → Bool → List ℕ → ℕ → List ℕ → ℕ → List ℕ → List ℕ → List ℕ → List ℕ → ℕ → Option FoundRecord
 find_in view packed index buckets filter words starts lengths arena key h =
     cond (nat_le (8 * buckets) (length index))
     (found packed (filter_has filter words h)
     (λ b. looks_from (record_in view arena starts lengths) arena key (kept_tag packed (tag_of h)) (8 * b) (slots_of packed buckets index b))
     0 (bucket_walk h buckets))
-    Nothing
+    None

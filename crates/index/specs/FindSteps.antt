@@ -1,15 +1,13 @@
 -- What finding a record comes to in one slot, and which slots of a bucket are looked at. Only private functions cite it: of a find one must believe
 -- `find_in` alone.
 -- Assumes nothing.
-use Rattle.std.specs.Prelude.{ℕ, zero, suc, ◌*◌, ◌%◌, Bool, true, false, cond, List, [], ◌∷◌, map, take, drop, ◌==◌, slice_index}
+use Rattle.std.specs.Prelude.{ℕ, zero, suc, ◌*◌, ◌%◌, Bool, true, false, cond, List, [], ◌∷◌, map, take, drop, ◌==◌, slice_index, Some, None}
 use Rattle.hash_parts.specs.Hash.{control_tag}
 use Rattle.hash_parts.specs.ZeroBytes.{bytes_of}
 use Rattle.index.specs.Find.{Look, empty, other, broken, match}
-use Rattle.index.specs.Slot.{word_slot}
+use Rattle.index.specs.Slot.{IndexSlot, word_slot}
 use Rattle.index.specs.declared.find.FindStep.{FindStep}
 use Rattle.index.specs.declared.find.FindStep.TheVariants.{Hit, Stop, Next}
-use Rattle.index.specs.declared.slot.IndexSlot.{IndexSlot}
-use Rattle.index.specs.declared.slot.IndexSlot.TheVariants.{Empty, Used}
 
 -- ---- one slot: a hit, the end of the walk with nothing, or on to the next
 
@@ -32,8 +30,8 @@ tagged t control = map (has_tag t) (bytes_of 8 control)
 -- words: how many slots come before the first that is empty or has the tag
 unfoldable pub passed_over : ℕ → List IndexSlot → ℕ
 passed_over tag [] = 0
-passed_over tag (Empty ∷ l) = 0
-passed_over tag (Used t stored ∷ l) = cond (t == tag) 0 (suc (passed_over tag l))
+passed_over tag (None ∷ l) = 0
+passed_over tag (Some (t, stored) ∷ l) = cond (t == tag) 0 (suc (passed_over tag l))
 
 -- of n slots, those from the s-th on
 unfoldable pub from_on : ℕ → ℕ → List Bool

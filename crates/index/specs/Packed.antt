@@ -1,14 +1,13 @@
--- The packed index. Document 01: "One control word a bucket, then 7 bytes a slot: tag div 128 (2 bytes), location + 1 (5 bytes), little-endian. Control
+-- The packed index: "One control word a bucket, then 7 bytes a slot: tag div 128 (2 bytes), location + 1 (5 bytes), little-endian. Control
 -- byte: (tag mod 128) mod 127 + 1, empty 0, top bit the mark." The references of a bucket, 8 × 7 bytes, are just seven words.
 -- Assumes nothing.
-use Rattle.std.specs.Prelude.{ℕ, zero, suc, ◌+◌, ◌-◌, ◌*◌, ◌%◌, Bool, false, cond, List, [], ◌∷◌, ◌++◌, map, length, take, drop, ◌==◌, nat_le, slice_index, slice_set}
+use Rattle.std.specs.Prelude.{ℕ, zero, suc, ◌+◌, ◌-◌, ◌*◌, ◌%◌, Bool, false, cond, List, [], ◌∷◌, ◌++◌, map, length, take, drop, ◌==◌, nat_le, slice_index, slice_set, Some, None}
 use mathlib.Core.List.{flat_map}
 use Rattle.hash_parts.specs.Hash.{control_tag, secondary_tag}
 use Rattle.hash_parts.specs.ZeroBytes.{bytes_of, number_of}
 use Rattle.index.specs.Walk.{buckets_of}
 use Rattle.index.specs.Word.{word_tag, word_stored}
-use Rattle.index.specs.declared.slot.IndexSlot.{IndexSlot}
-use Rattle.index.specs.declared.slot.IndexSlot.TheVariants.{Empty, Used}
+use Rattle.index.specs.Slot.{IndexSlot}
 
 -- ---- bytes of words, lowest first
 
@@ -61,7 +60,7 @@ reference_in before word j = take 7 (drop (8 - j) (bytes_of 8 before ++ bytes_of
 
 -- a slot by its control byte and its seven bytes; control 0 and 0x80 are empty
 unfoldable pub packed_slot : ℕ → List ℕ → IndexSlot
-packed_slot control bytes = cond (control % 128 == 0) Empty (Used (control % 128 + 128 * number_of (take 2 bytes)) (number_of (drop 2 bytes)))
+packed_slot control bytes = cond (control % 128 == 0) None (Some (control % 128 + 128 * number_of (take 2 bytes), number_of (drop 2 bytes)))
 
 -- the slots of a bucket by its control bytes and its references' bytes
 unfoldable pub packed_slots_of : List ℕ → List ℕ → List IndexSlot

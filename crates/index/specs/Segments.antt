@@ -1,13 +1,12 @@
--- Segments. Document 01: "Up to the target: one. Else each next segment starts at the lowest record location not below the last start plus target; with
+-- Segments: "Up to the target: one. Else each next segment starts at the lowest record location not below the last start plus target; with
 -- none, no more. Location becomes segment × 2^32 + offset. Start and length stand in two 256-word areas, unused words 0."
 -- Assumes nothing.
-use Rattle.std.specs.Prelude.{ℕ, zero, suc, ◌+◌, ◌-◌, ◌*◌, min, Bool, true, false, cond, List, [], ◌∷◌, ◌++◌, map, length, take, drop, replicate, ◌==◌, nat_le, nat_lt, slice_index}
+use Rattle.std.specs.Prelude.{ℕ, zero, suc, ◌+◌, ◌-◌, ◌*◌, min, Bool, true, false, cond, List, [], ◌∷◌, ◌++◌, map, length, take, drop, replicate, ◌==◌, nat_le, nat_lt, slice_index, Result, Ok, Err}
 use Rattle.hash_parts.specs.Outcome.{Outcome, accepted, refused}
+use Rattle.hash_parts.specs.declared.error.SegmentCacheBuildError.{SegmentCacheBuildError}
 use Rattle.hash_parts.specs.declared.error.SegmentCacheBuildError.TheVariants.{ArenaTooLarge, AreaTooShort}
 use Rattle.records.specs.Area.{over}
 use Rattle.index.specs.Word.{location_in, locations, word_of, word_tag, word_stored}
-use Rattle.index.specs.declared.segments.SplitAnswer.{SplitAnswer}
-use Rattle.index.specs.declared.segments.SplitAnswer.TheVariants.{Segments, Refused}
 
 -- ---- starts
 
@@ -74,6 +73,10 @@ split_word starts w = cond (word_stored w == 0) w (word_of (word_tag w) (segment
 unfoldable pub padded : List ℕ → List ℕ
 padded l = take most_segments l ++ replicate (most_segments - length l) 0
 
+-- how many starts there are, where a set can have so many segments
+abbrev pub counted : List ℕ → Result ℕ SegmentCacheBuildError
+counted ss = cond (nat_le (length ss) most_segments) (Ok (length ss)) (Err ArenaTooLarge)
+
 -- what a split leaves: the answer, and the content of the index, starts and lengths areas
 pub record Split : Type 0 where
   pub answer : Outcome
@@ -81,11 +84,11 @@ pub record Split : Type 0 where
   pub starts : List ℕ
   pub lengths : List ℕ
 
-abbrev pub split_outcome : SplitAnswer → Outcome
-split_outcome (Segments n) = accepted n
-split_outcome (Refused e) = refused e
+abbrev pub split_outcome : Result ℕ SegmentCacheBuildError → Outcome
+split_outcome (Ok n) = accepted n
+split_outcome (Err e) = refused e
 
-abbrev pub split_result : SplitAnswer → List ℕ → List ℕ → List ℕ → Split
+abbrev pub split_result : Result ℕ SegmentCacheBuildError → List ℕ → List ℕ → List ℕ → Split
 split_result r index starts lengths = record { answer = split_outcome r; index = index; starts = starts; lengths = lengths }
 
 -- the areas hold the words of so many buckets, and 256 starts and lengths
@@ -116,7 +119,7 @@ split index buckets filled target starts lengths =
 
 -- ---- the question on locations
 
--- Questions: "Each occupied word's location below the filled bytes, stored location 0 counting as no?"
+-- "Each occupied word's location below the filled bytes, stored location 0 counting as no?"
 abbrev pub inside : ℕ → ℕ → Bool
 inside filled w = cond (w == 0) true (cond (word_stored w == 0) false (nat_le (word_stored w) filled))
 

@@ -1,14 +1,16 @@
 -- A slot of a finished index, as either layout shows it.
 -- Assumes nothing.
-use Rattle.std.specs.Prelude.{ℕ, ◌+◌, ◌*◌, Bool, cond, ◌==◌}
+use Rattle.std.specs.Prelude.{ℕ, ◌+◌, ◌*◌, Bool, cond, ◌==◌, Option, Some, None}
 use Rattle.hash_parts.specs.Hash.{control_tag, secondary_tag}
 use Rattle.index.specs.Word.{word_tag, word_stored}
-use Rattle.index.specs.declared.slot.IndexSlot.{IndexSlot}
-use Rattle.index.specs.declared.slot.IndexSlot.TheVariants.{Empty, Used}
+
+-- what the layout keeps of a tag, and a stored location; an empty slot has neither
+abbrev pub IndexSlot : Type 0
+IndexSlot = Option (ℕ × ℕ)
 
 -- a slot of the word layout: an empty word, or the whole tag and the stored location
 unfoldable pub word_slot : ℕ → IndexSlot
-word_slot w = cond (w == 0) Empty (Used (word_tag w) (word_stored w))
+word_slot w = cond (w == 0) None (Some (word_tag w, word_stored w))
 
 -- what the packed layout keeps of a tag, as one number: the control byte's seven bits, and the rest
 abbrev pub packed_tag : ℕ → ℕ

@@ -1,33 +1,20 @@
 // The index of a build: how many buckets, clearing the words, and the slot of a new record.
-ghost use Rattle.std.specs.Prelude.{◌≡◌, ◌+◌, ◌*◌, ◌<◌, ◌≤◌, length, take, drop};
-ghost use Rattle.index.specs.Build.{buckets_for, cleared, next_bucket, build_record, holds_key, looks, searched, build_slot, empty_slot, never, slot_outcome};
+ghost use Rattle.std.specs.Prelude.{◌≡◌, ℕ, ◌+◌, ◌*◌, ◌≤◌, Bool, length, take, drop, unwrap_or};
+ghost use Rattle.index.specs.Build.{Answers, SlotAnswer, buckets_for, cleared, next_bucket, build_record, holds_key, looks, searched, build_slot, empty_slot, slot_for, slot_outcome};
 
 use crate::word::{BUCKET_SLOTS, index_location, index_tag};
-use hash_parts::setting::SegmentExpiry;
-use records::record::{RecordAnswer, record_at, same_bytes, value_slice};
-
-// What looking for a slot finds.
-#[derive(Clone, Copy)]
-pub enum BuildSlot {
-    // The first empty slot of the walk.
-    Empty(usize),
-    // The key stands in the index.
-    Duplicate,
-    // No slot is empty, or the area holds fewer than so many buckets.
-    Full,
-}
+use hash_parts::error::SegmentCacheBuildError;
+use hash_parts::hash::{hash_tag, reduce_hash};
+use records::record::{Records, same_bytes, value_slice};
 
 // Buckets for so many records: at least one.
 pub fn bucket_count(records: usize, occupied: u8) -> usize
     ensures { result ≡ buckets_for records occupied }
 {
-    if records == 0 {
-        return 1;
-    }
     if occupied == 0 {
         return 1;
     }
-    (records - 1) / (occupied as usize) + 1
+    records.div_ceil(occupied as usize).max(1)
 }
 
 // Clears the first words of an area; one that is shorter is left alone.
@@ -37,40 +24,80 @@ pub fn clear_words(words: &mut [u64], count: usize)
     if words.len() < count {
         return;
     }
-    let mut i = 0;
-    while i < count {
-        words[i] = 0;
-        i += 1;
-    }
+    words[..count].fill(0);
 }
 
-// The slot of a new record: the first empty one of its walk, unless a word of its tag before it
-// names a record with its key. A record that can't be read is passed over.
+// The slot of a new record: the first empty one of its walk. `DuplicateKey` where a word of its tag
+// before it names a record with its key; a record that can't be read is passed over.
+// `CapacityOverflow` where no slot is empty, or the area holds fewer than so many buckets.
 pub fn find_build_slot(
     index: &[u64],
     buckets: usize,
-    records: &[u8],
-    expiry: SegmentExpiry,
+    records: Records<'_>,
     key: &[u8],
     hash: u64,
-) -> BuildSlot
-    ensures { slot_outcome result ≡ build_slot index.now buckets records.now expiry key.now hash }
+) -> Result<usize, SegmentCacheBuildError>
+    ensures { slot_outcome result ≡ build_slot index.now buckets records.entry.bytes.now records.entry.expiry key.now hash }
+{
+    let tag = hash_tag(hash);
+    let taken = |word| holds_key(word, records, key, tag);
+    first_slot(index, buckets, hash, taken)
+}
+
+// The slot of a record whose key may stand in the index already.
+pub fn find_empty_build_slot(
+    index: &[u64],
+    buckets: usize,
+    hash: u64,
+) -> Result<usize, SegmentCacheBuildError>
+    ensures { slot_outcome result ≡ empty_slot index.now buckets hash }
+{
+    first_slot(index, buckets, hash, |_| false)
+}
+
+// The first empty slot of a hash's walk, where no word before it is taken by the key.
+fn first_slot<F: Fn(u64) -> bool>(
+    index: &[u64],
+    buckets: usize,
+    hash: u64,
+    taken: F,
+) -> Result<usize, SegmentCacheBuildError>
+    requires { F.IsAlwaysCallable taken }
+    ensures { (test : ℕ → Bool) → Answers (F.post taken) test → result ≡ slot_for test index.now buckets hash }
 {
     if index.len() / BUCKET_SLOTS < buckets {
-        return BuildSlot::Full;
+        return Err(SegmentCacheBuildError::CapacityOverflow);
     }
-    let tag = hash_parts::hash::hash_tag(hash);
-    let mut bucket = hash_parts::hash::reduce_hash(hash, buckets);
-    let mut left = buckets;
-    while left > 0 {
-        let found = build_slot_in_bucket(index, bucket, records, expiry, key, tag);
-        let BuildSlot::Full = found else {
+    let mut bucket = reduce_hash(hash, buckets);
+    for _ in 0..buckets {
+        if let Some(found) = slot_in_bucket(index, bucket, &taken) {
             return found;
-        };
+        }
         bucket = next_bucket(bucket, buckets);
-        left -= 1;
     }
-    BuildSlot::Full
+    Err(SegmentCacheBuildError::CapacityOverflow)
+}
+
+// The eight slots of a bucket: the first that is empty or taken, if one is.
+fn slot_in_bucket<F: Fn(u64) -> bool>(
+    index: &[u64],
+    bucket: usize,
+    taken: &F,
+) -> Option<Result<usize, SegmentCacheBuildError>>
+    requires { (8 * bucket + 8 ≤ length index.now) × F.IsAlwaysCallable taken.now }
+    ensures { (test : ℕ → Bool) → Answers (F.post taken.now) test → (after : SlotAnswer) → unwrap_or result after ≡ searched (looks test (8 * bucket) (take 8 (drop (8 * bucket) index.now))) after }
+{
+    let begin = bucket * BUCKET_SLOTS;
+    for slot in begin..begin + BUCKET_SLOTS {
+        let word = index[slot];
+        if word == 0 {
+            return Some(Ok(slot));
+        }
+        if taken(word) {
+            return Some(Err(SegmentCacheBuildError::DuplicateKey));
+        }
+    }
+    None
 }
 
 // The next bucket, around.
@@ -86,37 +113,9 @@ pub fn next_bucket(bucket: usize, buckets: usize) -> usize
     bucket + 1
 }
 
-// The eight slots of a bucket.
-fn build_slot_in_bucket(
-    index: &[u64],
-    bucket: usize,
-    records: &[u8],
-    expiry: SegmentExpiry,
-    key: &[u8],
-    tag: u64,
-) -> BuildSlot
-    requires { 8 * bucket + 8 ≤ length index.now }
-    ensures { result ≡ searched (looks (holds_key (build_record expiry records.now) key.now tag) (8 * bucket) (take 8 (drop (8 * bucket) index.now))) BuildSlot.Full }
-{
-    let mut slot = bucket * BUCKET_SLOTS;
-    let mut left = BUCKET_SLOTS;
-    while left > 0 {
-        let word = index[slot];
-        if word == 0 {
-            return BuildSlot::Empty(slot);
-        }
-        if holds_key(word, records, expiry, key, tag) {
-            return BuildSlot::Duplicate;
-        }
-        slot += 1;
-        left -= 1;
-    }
-    BuildSlot::Full
-}
-
 // Whether a word has the tag and names a record with the key.
-fn holds_key(word: u64, records: &[u8], expiry: SegmentExpiry, key: &[u8], tag: u64) -> bool
-    ensures { result ≡ holds_key (build_record expiry records.now) key.now tag word }
+fn holds_key(word: u64, records: Records<'_>, key: &[u8], tag: u64) -> bool
+    ensures { result ≡ holds_key (build_record records.entry.expiry records.entry.bytes.now) key.now tag word }
 {
     if index_tag(word) != tag {
         return false;
@@ -125,46 +124,9 @@ fn holds_key(word: u64, records: &[u8], expiry: SegmentExpiry, key: &[u8], tag: 
     if stored == 0 {
         return false;
     }
-    let RecordAnswer::Read(record) = record_at(records, expiry, (stored - 1) as usize) else {
+    let Some(record) = records.record_at((stored - 1) as usize) else {
         return false;
     };
-    let span = record.key;
-    let stored_key = value_slice(records, span);
+    let stored_key = value_slice(records.bytes, record.key);
     same_bytes(stored_key, key)
-}
-
-// The slot of a record whose key may stand in the index already.
-pub fn find_empty_build_slot(index: &[u64], buckets: usize, hash: u64) -> BuildSlot
-    ensures { slot_outcome result ≡ empty_slot index.now buckets hash }
-{
-    if index.len() / BUCKET_SLOTS < buckets {
-        return BuildSlot::Full;
-    }
-    let mut bucket = hash_parts::hash::reduce_hash(hash, buckets);
-    let mut left = buckets;
-    while left > 0 {
-        let found = empty_slot_in_bucket(index, bucket);
-        let BuildSlot::Full = found else {
-            return found;
-        };
-        bucket = next_bucket(bucket, buckets);
-        left -= 1;
-    }
-    BuildSlot::Full
-}
-
-fn empty_slot_in_bucket(index: &[u64], bucket: usize) -> BuildSlot
-    requires { 8 * bucket + 8 ≤ length index.now }
-    ensures { result ≡ searched (looks never (8 * bucket) (take 8 (drop (8 * bucket) index.now))) BuildSlot.Full }
-{
-    let mut slot = bucket * BUCKET_SLOTS;
-    let mut left = BUCKET_SLOTS;
-    while left > 0 {
-        if index[slot] == 0 {
-            return BuildSlot::Empty(slot);
-        }
-        slot += 1;
-        left -= 1;
-    }
-    BuildSlot::Full
 }

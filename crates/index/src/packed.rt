@@ -21,24 +21,10 @@ pub fn finish_packed_index(index: &mut [u64], buckets: usize, scratch: &mut [u64
     if scratch.len() < buckets {
         return;
     }
-    let mut left = buckets;
-    while left > 0 {
-        left -= 1;
-        scratch[left] = pack_bucket(index, buckets, left);
+    for bucket in (0..buckets).rev() {
+        scratch[bucket] = pack_bucket(index, buckets, bucket);
     }
-    copy_words(index, scratch, buckets);
-}
-
-// Copies the first words of an area to the front of another.
-fn copy_words(to: &mut [u64], from: &[u64], count: usize)
-    requires { (count ≤ length to.old) × (count ≤ length from.now) }
-    ensures { to.new ≡ take count from.now ++ drop count to.old }
-{
-    let mut i = 0;
-    while i < count {
-        to[i] = from[i];
-        i += 1;
-    }
+    index[..buckets].copy_from_slice(&scratch[..buckets]);
 }
 
 // Writes the references of a bucket, and gives its control word.
@@ -46,42 +32,19 @@ fn pack_bucket(index: &mut [u64], buckets: usize, bucket: usize) -> u64
     requires { (bucket < buckets) × (8 * buckets ≤ length index.old) }
     ensures { (result ≡ control_word (take 8 (drop (8 * bucket) index.old))) × (index.new ≡ pasted (buckets + 7 * bucket) (reference_words (take 8 (drop (8 * bucket) index.old))) index.old) }
 {
-    let begin = bucket * BUCKET_SLOTS;
-    let w0 = index[begin];
-    let w1 = index[begin + 1];
-    let w2 = index[begin + 2];
-    let w3 = index[begin + 3];
-    let w4 = index[begin + 4];
-    let w5 = index[begin + 5];
-    let w6 = index[begin + 6];
-    let w7 = index[begin + 7];
-    write_references(index, buckets + 7 * bucket, w0, w1, w2, w3, w4, w5, w6, w7);
-    control_word(w0, w1, w2, w3, w4, w5, w6, w7)
+    let begin = BUCKET_SLOTS * bucket;
+    let mut words = [0; BUCKET_SLOTS];
+    words.copy_from_slice(&index[begin..begin + BUCKET_SLOTS]);
+    write_references(index, buckets + 7 * bucket, words);
+    control_word(words)
 }
 
-fn write_references(
-    index: &mut [u64],
-    at: usize,
-    w0: u64,
-    w1: u64,
-    w2: u64,
-    w3: u64,
-    w4: u64,
-    w5: u64,
-    w6: u64,
-    w7: u64,
-)
+// Eight references of seven bytes are seven words, each split at another byte: so seven lines and no loop.
+fn write_references(index: &mut [u64], at: usize, words: [u64; BUCKET_SLOTS])
     requires { at + 7 ≤ length index.old }
-    ensures { index.new ≡ pasted at (reference_words (w0 ∷ w1 ∷ w2 ∷ w3 ∷ w4 ∷ w5 ∷ w6 ∷ w7 ∷ [])) index.old }
+    ensures { index.new ≡ pasted at (reference_words words) index.old }
 {
-    let r0 = packed_reference(w0);
-    let r1 = packed_reference(w1);
-    let r2 = packed_reference(w2);
-    let r3 = packed_reference(w3);
-    let r4 = packed_reference(w4);
-    let r5 = packed_reference(w5);
-    let r6 = packed_reference(w6);
-    let r7 = packed_reference(w7);
+    let [r0, r1, r2, r3, r4, r5, r6, r7] = words.map(packed_reference);
     index[at] = r0 + (r1 % 0x100) * 0x100_0000_0000_0000;
     index[at + 1] = r1 / 0x100 + (r2 % 0x1_0000) * 0x1_0000_0000_0000;
     index[at + 2] = r2 / 0x1_0000 + (r3 % 0x100_0000) * 0x100_0000_0000;
@@ -98,29 +61,22 @@ fn packed_reference(word: u64) -> u64
     if word == 0 {
         return 0;
     }
-    (packed_secondary_tag(index_tag(word)) as u64) + index_location(word) * 0x1_0000
+    u64::from(packed_secondary_tag(index_tag(word))) + index_location(word) * 0x1_0000
 }
 
-fn control_word(w0: u64, w1: u64, w2: u64, w3: u64, w4: u64, w5: u64, w6: u64, w7: u64) -> u64
-    ensures { result ≡ control_word (w0 ∷ w1 ∷ w2 ∷ w3 ∷ w4 ∷ w5 ∷ w6 ∷ w7 ∷ []) }
+fn control_word(words: [u64; BUCKET_SLOTS]) -> u64
+    ensures { result ≡ control_word words }
 {
-    control_byte(w0)
-        + control_byte(w1) * 0x100
-        + control_byte(w2) * 0x1_0000
-        + control_byte(w3) * 0x100_0000
-        + control_byte(w4) * 0x1_0000_0000
-        + control_byte(w5) * 0x100_0000_0000
-        + control_byte(w6) * 0x1_0000_0000_0000
-        + control_byte(w7) * 0x100_0000_0000_0000
+    u64::from_le_bytes(words.map(control_byte))
 }
 
-fn control_byte(word: u64) -> u64
+fn control_byte(word: u64) -> u8
     ensures { (result ≡ control_byte word) × (result < 128) }
 {
     if word == 0 {
         return 0;
     }
-    packed_control_tag(index_tag(word)) as u64
+    packed_control_tag(index_tag(word))
 }
 
 // The reference of a slot of a bucket, out of the word before the slot's own and the slot's own: it
@@ -150,10 +106,10 @@ pub(crate) fn packed_slot(control: u64, before: u64, word: u64, slot: usize) -> 
 {
     let tag = (control >> (((slot % 8) * 8) as u64)) % 128;
     if tag == 0 {
-        return IndexSlot::Empty;
+        return None;
     }
     let reference = packed_reference_at(before, word, slot);
-    IndexSlot::Used(tag + 128 * (reference % 0x1_0000), reference / 0x1_0000)
+    Some((tag + 128 * (reference % 0x1_0000), reference / 0x1_0000))
 }
 
 // The control word with the mark of a slot set.

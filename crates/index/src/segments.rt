@@ -2,7 +2,7 @@
 ghost use Rattle.std.specs.Prelude.{◌≡◌, ◌+◌, ◌-◌, ◌*◌, ◌<◌, ◌≤◌, min, [], ◌++◌, map, length, take, drop, if◌then◌else◌, slice_index};
 ghost use Rattle.records.specs.Area.{over};
 ghost use Rattle.index.specs.Word.{word_stored};
-ghost use Rattle.index.specs.Segments.{inside, lengths_of, locations_inside, most_segments, padded, segment_of, split, split_result, split_word, start_after, start_in, starts_at, starts_of};
+ghost use Rattle.index.specs.Segments.{counted, inside, lengths_of, locations_inside, most_segments, padded, segment_of, split, split_result, split_word, start_after, start_in, starts_at, starts_of};
 ghost use Rattle.index.specs.SegmentStarts.{StartsIn};
 
 use crate::build::clear_words;
@@ -13,14 +13,8 @@ use hash_parts::error::SegmentCacheBuildError;
 
 pub const MAX_RECORD_SEGMENTS: usize = 256;
 
-// Above every location.
+// Above every location: where the search for the lowest begins, so also its answer where there is none.
 const NO_START: u64 = LOCATIONS;
-
-#[derive(Clone, Copy)]
-pub enum SplitAnswer {
-    Segments(usize),
-    Refused(SegmentCacheBuildError),
-}
 
 // Splits the records under an index. Where there would be more than 256 segments only the first 256
 // starts are written.
@@ -31,28 +25,24 @@ pub fn split_record_segments(
     target: usize,
     starts: &mut [u64],
     lengths: &mut [u64],
-) -> SplitAnswer
+) -> Result<usize, SegmentCacheBuildError>
     ensures { split_result result index.new starts.new lengths.new ≡ split index.old buckets filled target starts.old lengths.old }
 {
     if index.len() / BUCKET_SLOTS < buckets {
-        return SplitAnswer::Refused(SegmentCacheBuildError::AreaTooShort);
+        return Err(SegmentCacheBuildError::AreaTooShort);
     }
     if starts.len() < MAX_RECORD_SEGMENTS {
-        return SplitAnswer::Refused(SegmentCacheBuildError::AreaTooShort);
+        return Err(SegmentCacheBuildError::AreaTooShort);
     }
     if lengths.len() < MAX_RECORD_SEGMENTS {
-        return SplitAnswer::Refused(SegmentCacheBuildError::AreaTooShort);
+        return Err(SegmentCacheBuildError::AreaTooShort);
     }
-    let count = write_starts(index, buckets, filled, target, starts);
-    if count > MAX_RECORD_SEGMENTS {
-        return SplitAnswer::Refused(SegmentCacheBuildError::ArenaTooLarge);
-    }
+    let count = write_starts(index, buckets, filled, target, starts)?;
     write_lengths(starts, count, filled, lengths);
-    if filled <= target {
-        return SplitAnswer::Segments(count);
+    if filled > target {
+        split_words(index, buckets, starts, count);
     }
-    split_words(index, buckets, starts, count);
-    SplitAnswer::Segments(count)
+    Ok(count)
 }
 
 // The lowest location of a record that is not below a bound, or NO_START.
@@ -62,14 +52,9 @@ pub fn next_start(index: &[u64], buckets: usize, bound: u64) -> u64
     if index.len() / BUCKET_SLOTS < buckets {
         return NO_START;
     }
-    let words = buckets * BUCKET_SLOTS;
-    let mut lowest = NO_START;
-    let mut i = 0;
-    while i < words {
-        lowest = lower_start(index[i], bound, lowest);
-        i += 1;
-    }
-    lowest
+    index[..BUCKET_SLOTS * buckets]
+        .iter()
+        .fold(NO_START, |lowest, word| lower_start(*word, bound, lowest))
 }
 
 // A word's location where it is a lower start than the lowest so far.
@@ -93,15 +78,9 @@ pub fn locations_inside(index: &[u64], buckets: usize, filled: usize) -> bool
     if index.len() / BUCKET_SLOTS < buckets {
         return false;
     }
-    let words = buckets * BUCKET_SLOTS;
-    let mut i = 0;
-    while i < words {
-        if !location_inside(index[i], filled) {
-            return false;
-        }
-        i += 1;
-    }
-    true
+    index[..BUCKET_SLOTS * buckets]
+        .iter()
+        .all(|word| location_inside(*word, filled))
 }
 
 fn location_inside(word: u64, filled: usize) -> bool
@@ -125,29 +104,29 @@ fn clear_segments(area: &mut [u64])
     clear_words(area, MAX_RECORD_SEGMENTS);
 }
 
-// Writes the starts, of 257 the first 256, and says how many there are.
+// Writes the starts, and says how many there are; of 257 the first 256, and that there are too many.
 fn write_starts(
     index: &[u64],
     buckets: usize,
     filled: usize,
     target: usize,
     starts: &mut [u64],
-) -> usize
+) -> Result<usize, SegmentCacheBuildError>
     requires { (8 * buckets ≤ length index.now) × (most_segments ≤ length starts.old) }
-    ensures { (result ≡ length (starts_of (take (8 * buckets) index.now) filled target)) × (starts.new ≡ over (padded (starts_of (take (8 * buckets) index.now) filled target)) starts.old) }
+    ensures { (result ≡ counted (starts_of (take (8 * buckets) index.now) filled target)) × (starts.new ≡ over (padded (starts_of (take (8 * buckets) index.now) filled target)) starts.old) }
 {
     clear_segments(starts);
     let mut count = 0;
     let mut next: u64 = 0;
     while next < NO_START {
         if count == MAX_RECORD_SEGMENTS {
-            return MAX_RECORD_SEGMENTS + 1;
+            return Err(SegmentCacheBuildError::ArenaTooLarge);
         }
         starts[count] = next;
         count += 1;
         next = start_after(index, buckets, filled, target, next as usize);
     }
-    count
+    Ok(count)
 }
 
 // The start after another: none where what is left is within the target, and none by a target of 0.
@@ -158,10 +137,7 @@ fn start_after(index: &[u64], buckets: usize, filled: usize, target: usize, last
     if target == 0 {
         return NO_START;
     }
-    if filled <= last {
-        return NO_START;
-    }
-    if filled - last <= target {
+    if filled.saturating_sub(last) <= target {
         return NO_START;
     }
     next_start(index, buckets, (last + target) as u64)
@@ -173,22 +149,10 @@ fn write_lengths(starts: &[u64], count: usize, filled: usize, lengths: &mut [u64
 {
     clear_segments(lengths);
     let last = count - 1;
-    let mut i = 0;
-    while i < last {
+    for i in 0..last {
         lengths[i] = starts[i + 1] - starts[i];
-        i += 1;
     }
-    lengths[last] = bytes_past(starts[last], filled as u64);
-}
-
-// What is left of the filled bytes past a start: nothing where it lies outside them.
-fn bytes_past(start: u64, filled: u64) -> u64
-    ensures { result ≡ filled - start }
-{
-    if filled < start {
-        return 0;
-    }
-    filled - start
+    lengths[last] = (filled as u64).saturating_sub(starts[last]);
 }
 
 // Splits the location of every word.
@@ -196,11 +160,8 @@ fn split_words(index: &mut [u64], buckets: usize, starts: &[u64], count: usize)
     requires { (8 * buckets ≤ length index.old) × StartsIn starts.now count × (count ≤ most_segments) }
     ensures { index.new ≡ map (split_word (take count starts.now)) (take (8 * buckets) index.old) ++ drop (8 * buckets) index.old }
 {
-    let words = buckets * BUCKET_SLOTS;
-    let mut i = 0;
-    while i < words {
-        index[i] = split_word(index[i], starts, count);
-        i += 1;
+    for word in &mut index[..BUCKET_SLOTS * buckets] {
+        *word = split_word(*word, starts, count);
     }
 }
 
@@ -218,20 +179,10 @@ fn split_word(word: u64, starts: &[u64], count: usize) -> u64
     encode_index_word(index_tag(word), (segment as u64) * SEGMENT_BYTES + offset)
 }
 
-// The last start that is not above a location, by bisection.
+// The last start that is not above a location. The first start is not above any.
 fn find_segment(starts: &[u64], count: usize, location: u64) -> usize
     requires { StartsIn starts.now count }
     ensures { (result ≡ segment_of (take count starts.now) location) × (result < count) × (slice_index starts.now result ≤ location) }
 {
-    let mut low = 0;
-    let mut high = count;
-    while high - low > 1 {
-        let middle = low + (high - low) / 2;
-        if starts[middle] <= location {
-            low = middle;
-        } else {
-            high = middle;
-        }
-    }
-    low
+    starts[1..count].partition_point(|start| *start <= location)
 }

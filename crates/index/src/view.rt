@@ -1,10 +1,10 @@
 // The records of a finished set: segments of the filled arena.
-ghost use Rattle.std.specs.Prelude.{◌≡◌, ◌+◌, ◌^◌, ◌<◌, ◌≤◌, min, length, take};
+ghost use Rattle.std.specs.Prelude.{◌≡◌, ◌+◌, ◌^◌, ◌<◌, ◌≤◌, take};
 ghost use Rattle.index.specs.View.{in_segment, record_in, ref_moved};
 
 use crate::word::SEGMENT_BYTES;
 use hash_parts::setting::SegmentExpiry;
-use records::record::{RecordAnswer, RecordRef, Span, record_at};
+use records::record::{RecordRef, Records, Span};
 
 // What a reader must know of a set: whether records keep a deadline, how many bytes of the arena
 // are filled, and how many segments there are.
@@ -15,32 +15,30 @@ pub struct SegmentView {
     pub segments: usize,
 }
 
-// The record under a stored location, which is segment × 2^32 + offset, plus 1. Its spans count
-// from the arena's start, its end as its location does: in its segment.
-pub fn record_at_location(
-    view: SegmentView,
-    arena: &[u8],
-    starts: &[u64],
-    lengths: &[u64],
-    stored: u64,
-) -> RecordAnswer
-    ensures { result ≡ record_in view arena.now starts.now lengths.now stored }
-{
-    if stored == 0 {
-        return RecordAnswer::Unreadable;
+// The areas that hold the records of a finished set: where each segment starts in the arena, how many
+// bytes it has, and the arena.
+#[derive(Clone, Copy)]
+pub struct SegmentAreas<'a> {
+    pub starts: &'a [u64],
+    pub lengths: &'a [u64],
+    pub arena: &'a [u8],
+}
+
+impl SegmentView {
+    // The record under a stored location, which is segment × 2^32 + offset, plus 1. Its spans count
+    // from the arena's start, its end as its location does: in its segment.
+    pub fn record_at_location(self, areas: SegmentAreas<'_>, stored: u64) -> Option<RecordRef>
+        ensures { result ≡ record_in self areas.entry.arena.now areas.entry.starts.now areas.entry.lengths.now stored }
+    {
+        let location = stored.checked_sub(1)?;
+        let segment = (location / SEGMENT_BYTES) as usize;
+        if segment >= self.segments {
+            return None;
+        }
+        let start = *areas.starts.get(segment)?;
+        let length = *areas.lengths.get(segment)?;
+        record_in_segment(self, areas.arena, start, length, location)
     }
-    let location = stored - 1;
-    let segment = (location / SEGMENT_BYTES) as usize;
-    if segment >= view.segments {
-        return RecordAnswer::Unreadable;
-    }
-    if segment >= starts.len() {
-        return RecordAnswer::Unreadable;
-    }
-    if segment >= lengths.len() {
-        return RecordAnswer::Unreadable;
-    }
-    record_in_segment(view, arena, starts[segment], lengths[segment], location)
 }
 
 // A segment that is not inside the filled arena holds no readable record.
@@ -50,30 +48,16 @@ fn record_in_segment(
     start: u64,
     length: u64,
     location: u64,
-) -> RecordAnswer
+) -> Option<RecordRef>
     ensures { result ≡ in_segment view.expiry (take view.filled arena.now) start length location }
 {
-    let end = least(view.filled, arena.len()) as u64;
-    if end < start {
-        return RecordAnswer::Unreadable;
-    }
-    if end - start < length {
-        return RecordAnswer::Unreadable;
-    }
+    let filled = &arena[..view.filled.min(arena.len())];
     let begin = start as usize;
-    let stop = (start + length) as usize;
-    let offset = (location % SEGMENT_BYTES) as usize;
+    let bytes = filled.get(begin..)?.get(..length as usize)?;
     let expiry = view.expiry;
-    let RecordAnswer::Read(read) = record_at(&arena[begin..stop], expiry, offset) else {
-        return RecordAnswer::Unreadable;
-    };
-    RecordAnswer::Read(moved_record(read, location, begin))
-}
-
-fn least(a: usize, b: usize) -> usize
-    ensures { result ≡ min a b }
-{
-    if a <= b { a } else { b }
+    let records = Records { bytes, expiry };
+    let read = records.record_at((location % SEGMENT_BYTES) as usize)?;
+    Some(moved_record(read, location, begin))
 }
 
 // A record of a segment, with its location in the set and its spans in the arena. Its end wraps
@@ -95,7 +79,7 @@ fn moved_record(read: RecordRef, location: u64, begin: usize) -> RecordRef
             at: begin + value.at,
             len: value.len,
         },
-        end: std::num::wrapping_add_u64(location, (read.end - read.location) as u64) as usize,
+        end: location.wrapping_add((read.end - read.location) as u64) as usize,
         expires_at: read.expires_at,
     }
 }

@@ -18,7 +18,7 @@ const ACCESSED_BIT: u64 = 0x8000_0000_0000_0000;
 pub fn encode_index_word(tag: u64, location: u64) -> u64
     ensures { result ≡ word_of tag location }
 {
-    (tag % TAGS) * LOCATIONS + std::num::wrapping_add_u64(location, 1) % LOCATIONS
+    (tag % TAGS) * LOCATIONS + location.wrapping_add(1) % LOCATIONS
 }
 
 pub const fn index_tag(word: u64) -> u64

@@ -1,22 +1,24 @@
 -- Laws of written areas, and of comparing bytes. Assumes nothing.
 use mathlib.Core.Path.{◌≡◌, refl, sym, ap, ap₂, ◌∙◌}
-use mathlib.Core.Bool.{Bool, true, false, cond}
+use mathlib.Core.Bool.{Bool, true, false, cond, ◌&&◌}
 use mathlib.Core.List.{List, [], ◌∷◌, ◌++◌, append_assoc, append-nil}
-use Prim.Native.Nat.{ℕ, suc, ◌+◌, ◌*◌, ◌-◌, ◌≤◌, ◌<◌}
+use Prim.Native.Nat.{ℕ, ◌+◌, ◌-◌, ◌≤◌, ◌<◌}
 use native.Mathlib.Nat.{le_of_eq}
 use native.Mathlib.Numerals.{add-one}
 use native.Mathlib.Omega.{arith}
-use borrow.Author.Tests.{eqb-true, eq-eqb, ne_eqb, le-leb, lt-leb}
+use borrow.Author.Tests.{eqb-true, eq-eqb, le-leb, lt-leb}
 use borrow.Rule.Slice.PartMut.{put_mid}
 use lib.Dec.{eqb}
-use lib.ListN.{length, get_or, take, drop, set, length-append, length-drop, drop_of_length-le, take-append-drop}
-use lib.Seq.{length-take-le, take_all, take_at, drop_at, drop-drop, set_at, drop-cons}
+use lib.ListN.{length, take, drop, set, length-append, length-drop, drop_of_length-le}
+use lib.Seq.{take_all, take_at, drop_at, drop-drop, set_at, drop-cons}
+use denote.Ref.{Bor}
+use Rattle.std.specs.Prelude.{Option, Some, None, nat_eq, unwrap_or}
+use Rattle.std.specs.Cmp.Lexicographic.{pointwise}
+use Rattle.std.specs.Slice.{IsGetRangeResult}
+use Rattle.std.proofs.lemmas.Slice.{between_from_start}
 use Rattle.hash_parts.specs.Outcome.{accepted, refused}
 use Rattle.hash_parts.specs.declared.error.SegmentCacheBuildError.TheVariants.{AreaTooShort}
-use Rattle.hash_parts.specs.ZeroBytes.{bytes_of, number_of}
-use Rattle.hash_parts.proofs.Bytes.{Bytes, no_bytes, one_byte, bytes_drop, bytes_number, bytes_take}
-use Rattle.records.specs.Area.{over, part, pasted, written, spanned, same_bytes}
-use Rattle.records.specs.Compare.{word_in}
+use Rattle.records.specs.Area.{over, pasted, written, spanned, same_bytes}
 use Rattle.records.specs.declared.record.Span.{Span}
 
 -- ---- writing over an area's front
@@ -67,6 +69,15 @@ pub spanned_out : (arena : List ℕ) (span : Span) → length arena < span.at + 
 unfolding spanned
 spanned_out arena span h = rw (lt-leb (span.at + span.len) (length arena) h)
 
+-- what is got of the rest from the span's start on
+pub spanned_got : (arena : List ℕ) (span : Span) (rest : List ℕ) (none : Bor (List ℕ)) (got : Option (Bor (List ℕ))) → span.at ≤ length arena
+    → rest ≡ drop span.at arena → none.now ≡ [] → IsGetRangeResult rest 0 span.len got → (unwrap_or got none).now ≡ spanned arena span
+unfolding spanned
+spanned_got arena span rest none (Some x) h e z p =
+    let fits : span.at + span.len ≤ length arena = omega (arith, p.0.1, ap length e, length-drop span.at arena) in
+    p.0.2 ∙ between_from_start rest span.len ∙ ap (take span.len) e ∙ rw (le-leb (span.at + span.len) (length arena) fits)
+spanned_got arena span rest none None h e z p = z ∙ spanned_out arena span (omega (arith, p.0, ap length e, length-drop span.at arena))
+
 -- ---- writing piece by piece: out is the area after the bytes of `whole` before `left`, which end at a position
 
 pub record Writing (whole left area out : List ℕ) (at : ℕ) : Type 0 where
@@ -100,6 +111,16 @@ next {area = area} {at = at} s rest out' at' w e n f =
       list = f ∙ ap (λ (t : List ℕ). pasted at s t) w.list ∙ over_pasted w.done s area at w.count;
       short = w.short;
     }
+
+-- the same where the rest of the area is lent, and comes home with the piece written to its front
+pub fits_home : {whole left area out : List ℕ} {at : ℕ} (s rest : List ℕ) → Writing whole left area out at → left ≡ s ++ rest
+    → length s ≤ length (take (length out - at) (drop at out))
+fits_home {out = out} {at = at} s rest w e =
+    rw (take_all (length out - at) (drop at out) (le_of_eq (length-drop at out))) (omega (arith, length-drop at out, fits s rest w e))
+
+pub next_home : {whole left area out : List ℕ} {at : ℕ} (s rest home : List ℕ) (n : ℕ) → Writing whole left area out at → left ≡ s ++ rest → n ≡ length s
+    → home ≡ over s (take (length out - at) (drop at out)) → Writing whole rest area (put_mid at (length out - at) out home) (at + n)
+next_home {out = out} {at = at} s rest home n w e k f = next s rest _ (at + n) w e (ap (λ (m : ℕ). at + m) k) (part_home s out home at f)
 
 -- a byte more
 pub next_byte : {whole left area out : List ℕ} {at : ℕ} (b : ℕ) (rest : List ℕ) → Writing whole left area out at → left ≡ b ∷ rest → Writing whole rest area (set out at b) (at + 1)
@@ -140,80 +161,14 @@ same_true (x ∷ a) (y ∷ b) e = go (eqb x y) refl e (same_true a b)
         cc
     go false q s f = cc
 
-pub same_lengths : (a b : List ℕ) → (length a ≡ length b → ⊥) → same_bytes a b ≡ false
-same_lengths a b ne = go (same_bytes a b) refl
+-- it is what `==` says
+pub same_is : (a b : List ℕ) → pointwise nat_eq a b ≡ same_bytes a b
+unfolding same_bytes
+same_is [] [] = refl
+same_is [] (y ∷ b) = refl
+same_is (x ∷ a) [] = refl
+same_is (x ∷ a) (y ∷ b) = go (eqb x y) (same_is a b)
   where
-    go : (t : Bool) → same_bytes a b ≡ t → t ≡ false
-    go true e = absurd (ne (ap length (same_true a b e)))
+    go : (t : Bool) → pointwise nat_eq a b ≡ same_bytes a b → (t && pointwise nat_eq a b) ≡ cond t (same_bytes a b) false
+    go true e = e
     go false e = refl
-
--- a byte more
-same_step : (a b : List ℕ) (i : ℕ) → i < length a → i < length b
-    → same_bytes (drop i a) (drop i b) ≡ cond (eqb (get_or a i 0) (get_or b i 0)) (same_bytes (drop (i + 1) a) (drop (i + 1) b)) false
-unfolding same_bytes
-same_step a b i h k = rw (drop-cons a i 0 h, drop-cons b i 0 k, add-one i)
-
-pub same_next : (a b : List ℕ) (i : ℕ) → i < length a → i < length b → get_or a i 0 ≡ get_or b i 0 → same_bytes (drop i a) (drop i b) ≡ same_bytes (drop (i + 1) a) (drop (i + 1) b)
-same_next a b i h k e = same_step a b i h k ∙ rw (eq-eqb (get_or a i 0) (get_or b i 0) e)
-
-pub same_differ : (a b : List ℕ) (i : ℕ) → i < length a → i < length b → (get_or a i 0 ≡ get_or b i 0 → ⊥) → same_bytes (drop i a) (drop i b) ≡ false
-same_differ a b i h k ne = same_step a b i h k ∙ rw (ne_eqb (get_or a i 0) (get_or b i 0) ne)
-
-pub same_end : (a b : List ℕ) (i : ℕ) → length a ≤ i → length b ≤ i → same_bytes (drop i a) (drop i b) ≡ true
-unfolding same_bytes
-same_end a b i h k = rw (drop_of_length-le a h, drop_of_length-le b k)
-
--- ---- eight bytes at a time
-
--- the same bytes before others
-same_front : (x a b : List ℕ) → same_bytes (x ++ a) (x ++ b) ≡ same_bytes a b
-unfolding same_bytes
-same_front [] a b = refl
-same_front (y ∷ x) a b = rw (eq-eqb y y refl) (same_front x a b)
-
-all_bytes_law : (l : List ℕ) → ((j : ℕ) → get_or l j 0 < 256) → Bytes l
-all_bytes_law [] f = no_bytes
-all_bytes_law (b ∷ l) f = one_byte (f 0) (all_bytes_law l (λ j. f (suc j)))
-
--- a part of bytes is that of its number
-part_number : (l : List ℕ) (i : ℕ) → i + 8 ≤ length l → ((j : ℕ) → get_or l j 0 < 256) → bytes_of 8 (word_in l i) ≡ part i 8 l
-part_number l i h f = bytes_number 8 (bytes_take 8 (bytes_drop i (all_bytes_law l f))) (length-take-le 8 (drop i l) (omega (arith, length-drop i l)))
-
-module _ (a b : List ℕ) (i : ℕ) (h : i + 8 ≤ length a) (k : i + 8 ≤ length b) where
-  pub same_words : ((j : ℕ) → get_or a j 0 < 256) → ((j : ℕ) → get_or b j 0 < 256) → word_in a i ≡ word_in b i → same_bytes (drop i a) (drop i b) ≡ same_bytes (drop (i + 8) a) (drop (i + 8) b)
-  same_words f g e =
-      let p : part i 8 a ≡ part i 8 b = sym (part_number a i h f) ∙ ap (bytes_of 8) e ∙ part_number b i k g in
-      let x : drop i a ≡ part i 8 a ++ drop (i + 8) a = sym (take-append-drop 8 (drop i a)) ∙ ap (λ (l : List ℕ). part i 8 a ++ l) (drop-drop 8 i a) in
-      let y : drop i b ≡ part i 8 b ++ drop (i + 8) b = sym (take-append-drop 8 (drop i b)) ∙ ap (λ (l : List ℕ). part i 8 b ++ l) (drop-drop 8 i b) in
-      rw (x, y, p) (same_front (part i 8 b) (drop (i + 8) a) (drop (i + 8) b))
-
-  pub words_differ : (word_in a i ≡ word_in b i → ⊥) → same_bytes (drop i a) (drop i b) ≡ false
-  words_differ n = go (same_bytes (drop i a) (drop i b)) refl
-    where
-      go : (t : Bool) → same_bytes (drop i a) (drop i b) ≡ t → t ≡ false
-      go false e = refl
-      go true e = absurd (n (ap (λ (l : List ℕ). number_of (take 8 l)) (same_true (drop i a) (drop i b) e)))
-
--- the number of a part is made of its bytes
-module _ (s : List ℕ) (at : ℕ) (h : at + 8 ≤ length s) where
-  first_byte : (j n : ℕ) → j < 8 → number_of (part (at + j) (suc n) s) ≡ get_or s (at + j) 0 + 256 * number_of (part (at + suc j) n s)
-  unfolding number_of
-  first_byte j n l = let e : suc (at + j) ≡ at + suc j = omega arith in rw (drop-cons s (at + j) 0 (omega arith), e)
-
-  pub word_of : get_or s at 0 + get_or s (at + 1) 0 * 256 + get_or s (at + 2) 0 * 65536 + get_or s (at + 3) 0 * 16777216 + get_or s (at + 4) 0 * 4294967296
-      + get_or s (at + 5) 0 * 1099511627776 + get_or s (at + 6) 0 * 281474976710656 + get_or s (at + 7) 0 * 72057594037927936 ≡ word_in s at
-  unfolding number_of
-  word_of =
-      let z : at + 0 ≡ at = omega arith in
-      let e₀ : number_of (part at 8 s) ≡ get_or s at 0 + 256 * number_of (part (at + 1) 7 s) = rw z at (first_byte 0 7 (omega arith)) in
-      omega (
-        arith,
-        e₀,
-        first_byte 1 6 (omega arith),
-        first_byte 2 5 (omega arith),
-        first_byte 3 4 (omega arith),
-        first_byte 4 3 (omega arith),
-        first_byte 5 2 (omega arith),
-        first_byte 6 1 (omega arith),
-        first_byte 7 0 (omega arith),
-      )

@@ -1,65 +1,31 @@
 -- Laws of the parts of a stored record: its size, the deadline's bytes, and what is read at a position by what its two prefixes say.
 -- Assumes nothing.
-use mathlib.Core.Path.{◌≡◌, refl, ap, ap₂, ◌∙◌}
+use mathlib.Core.Path.{◌≡◌, refl, sym, ap, ◌∙◌}
 use mathlib.Core.Bool.{Bool, true, false, cond}
-use mathlib.Core.List.{List, [], ◌∷◌}
-use Prim.Native.Nat.{ℕ, ◌+◌, ◌*◌, ◌-◌, ◌/◌, ◌%◌, ◌^◌, ◌≤◌, ◌<◌}
+use mathlib.Core.List.{List}
+use Prim.Native.Nat.{ℕ, ◌+◌, ◌-◌, ◌^◌, ◌≤◌, ◌<◌}
 use native.Mathlib.Omega.{arith}
-use borrow.Author.Tests.{le-leb, lt-leb, lt-ltb, le-ltb, leb-true, ltb-true, ltb-false}
-use lib.Dec.{leb, ltb}
-use lib.ListN.{length, get_or, set, length-append}
+use borrow.Author.Tests.{le-leb, lt-leb, lt-ltb, le-ltb, ltb-false}
+use lib.Dec.{ltb}
+use lib.ListN.{length, get_or, length-append}
 use Rattle.hash_parts.specs.Outcome.{Outcome, accepted, refused}
 use Rattle.hash_parts.specs.Setting.{bytes_per_record}
-use Rattle.hash_parts.specs.declared.duration.Duration.{Duration}
 use Rattle.hash_parts.specs.declared.error.SegmentCacheBuildError.{SegmentCacheBuildError}
 use Rattle.hash_parts.specs.declared.error.SegmentCacheBuildError.TheVariants.{CapacityOverflow}
 use Rattle.hash_parts.proofs.Refusals.{refusal_pos}
 use Rattle.hash_parts.specs.declared.setting.SegmentExpiry.{SegmentExpiry}
-use Rattle.hash_parts.specs.declared.setting.SegmentExpiry.TheVariants.{None, Relative16}
-use Rattle.records.specs.Area.{over}
-use Rattle.records.specs.Compare.{short_prefixes}
-use Rattle.records.specs.Record.{deadline_bytes, record_bytes, record_size, encoded_size, deadline_in, record_of, after_value, after_key, record_at}
+use Rattle.hash_parts.specs.declared.setting.SegmentExpiry.TheVariants as setting
+use Rattle.records.specs.Record.{deadline_bytes, record_bytes, record_size, size_outcome, encoded_size, deadline_in, record_of, after_value, after_key, record_at}
 use Rattle.records.specs.Uleb128.{uleb128}
 use Rattle.records.specs.Varint.{read_varint}
-use Rattle.records.specs.declared.record.RecordAnswer.TheVariants.{Read, Unreadable}
-use Rattle.records.specs.declared.varint.Varint.TheVariants as varint
+use Rattle.std.specs.Prelude.{Option, Some, None, Ok, Err, SomeIff, ok_or}
 use Rattle.records.proofs.Prefix.{read_one}
-
--- ---- prefixes of one byte
-
-says_no : false ≡ true → ⊥
-says_no e = let z : ◌≡◌ {A = ℕ} 0 1 = ap (λ (b : Bool). cond b 1 0) e in omega arith
-
-pub prefixes_short : (s : List ℕ) (at : ℕ) → short_prefixes s at ≡ true → (at + 2 ≤ length s) × (get_or s at 0 < 128) × (get_or s (at + 1) 0 < 128)
-prefixes_short s at = go (leb (at + 2) (length s)) refl (ltb (get_or s at 0) 128) refl
-  where
-    go : (t : Bool) → leb (at + 2) (length s) ≡ t → (u : Bool) → ltb (get_or s at 0) 128 ≡ u → cond t (cond u (ltb (get_or s (at + 1) 0) 128) false) false ≡ true
-        → (at + 2 ≤ length s) × (get_or s at 0 < 128) × (get_or s (at + 1) 0 < 128)
-    go true e true f h = (leb-true _ _ e, ltb-true _ _ f, ltb-true _ _ h)
-    go true e false f h = absurd (says_no h)
-    go false e u f h = absurd (says_no h)
 
 -- ---- the deadline's bytes
 
 pub deadline_length : (e : SegmentExpiry) (d : ℕ) → length (deadline_bytes e d) ≡ bytes_per_record e
-deadline_length None d = refl
-deadline_length (Relative16 tick) d = refl
-
--- what a set with expiry asks for, and writes
-pub deadline_room : (e : SegmentExpiry) (tick : Duration) (n : ℕ) → e ≡ Relative16 tick → bytes_per_record e ≤ n → 2 ≤ n
-deadline_room e tick n q h = rw q at h
-
-pub deadline_set : (e : SegmentExpiry) (tick : Duration) (d : ℕ) (area : List ℕ) → e ≡ Relative16 tick → 2 ≤ length area
-    → (2 ≡ length (deadline_bytes e d)) × (set (set area 0 (d % 256)) 1 (d / 256) ≡ over (deadline_bytes e d) area)
-deadline_set e tick d area q h = rw q (refl, two area h)
-  where
-    two : (l : List ℕ) → 2 ≤ length l → set (set l 0 (d % 256)) 1 (d / 256) ≡ over (d % 256 ∷ d / 256 ∷ []) l
-    two [] h = absurd (omega arith)
-    two (a ∷ []) h = absurd (omega arith)
-    two (a ∷ b ∷ l) h = refl
-
-pub deadline_get : (e : SegmentExpiry) (tick : Duration) (s : List ℕ) (at a b : ℕ) → e ≡ Relative16 tick → a ≡ get_or s at 0 → b ≡ get_or s (at + 1) 0 → a + b * 256 ≡ deadline_in e s at
-deadline_get e tick s at a b q x y = rw q (ap₂ (λ (m n : ℕ). m + n * 256) x y)
+deadline_length setting.None d = refl
+deadline_length (setting.Relative16 tick) d = refl
 
 -- ---- sizes
 
@@ -77,6 +43,23 @@ pub size_out : (e : SegmentExpiry) (k v a b w : ℕ) → a ≡ length (uleb128 k
     → refused CapacityOverflow ≡ encoded_size e k v
 unfolding encoded_size record_size
 size_out e k v a b w x y z h = rw (← x, ← y, ← z, le-ltb (a + b + w + k + v) (2 ^ 64) h)
+
+-- a sum that may overflow, with a refusal where it does
+pub sum_refused : (sum : Option ℕ) (P : Type 0) (v : ℕ) (e x : SegmentCacheBuildError) → SomeIff sum P v → ok_or sum e ≡ Err x → (¬ P) × (e ≡ x)
+sum_refused None P v e x n q = let same : e ≡ x = cc in (n, same)
+sum_refused (Some m) P v e x p q = cc
+
+pub sum_accepted : (sum : Option ℕ) (P : Type 0) (v n : ℕ) (e : SegmentCacheBuildError) → SomeIff sum P v → ok_or sum e ≡ Ok n → P × (n ≡ v)
+sum_accepted None P v n e p q = cc
+sum_accepted (Some m) P v n e p q = let same : m ≡ n = cc in (p.0, sym same ∙ p.1)
+
+-- the whole size, where all but the value is known to fit
+pub size_answer : (e : SegmentExpiry) (k v a b w at : ℕ) (sum : Option ℕ) → a ≡ length (uleb128 k) → b ≡ length (uleb128 v) → w ≡ bytes_per_record e
+    → at ≡ a + b + w + k → SomeIff sum (at + v < 2 ^ 64) (at + v) → size_outcome (ok_or sum CapacityOverflow) ≡ encoded_size e k v
+size_answer e k v a b w at None x y z f n = size_out e k v a b w x y z (omega (arith, n))
+size_answer e k v a b w at (Some s) x y z f p =
+    let g : s ≡ a + b + w + k + v = omega (arith, p.1) in
+    ap accepted g ∙ size_in_law e k v a b w x y z (omega (arith, p.0))
 
 -- an accepted size is the record's, and a refused one does not fit 64 bits
 pub size_accepted : (e : SegmentExpiry) (k v n : ℕ) → accepted n ≡ encoded_size e k v → n ≡ record_size e k v
@@ -97,12 +80,12 @@ size_refused e k v x f = go (ltb (record_size e k v) (2 ^ 64)) refl f
 
 -- ---- the record at a position whose prefixes were read
 
-pub of_out : (e : SegmentExpiry) (s : List ℕ) (at key value q w : ℕ) → w ≡ bytes_per_record e → length s < q + w + key + value → Unreadable ≡ record_of e s at key value q
+pub of_out : (e : SegmentExpiry) (s : List ℕ) (at key value q w : ℕ) → w ≡ bytes_per_record e → length s < q + w + key + value → None ≡ record_of e s at key value q
 unfolding record_of
 of_out e s at key value q w x h = rw (← x, lt-leb (q + w + key + value) (length s) h)
 
 pub of_in : (e : SegmentExpiry) (s : List ℕ) (at key value q w d : ℕ) → w ≡ bytes_per_record e → d ≡ deadline_in e s q → q + w + key + value ≤ length s
-    → Read record {
+    → Some record {
       location = at;
       key_offset = q + w - at;
       key = record { at = q + w; len = key };
@@ -117,16 +100,16 @@ of_in e s at key value q w d x y h = rw (← x, ← y, le-leb (q + w + key + val
 -- ---- the record at a position, by what its prefixes read
 
 module _ (e : SegmentExpiry) (s : List ℕ) (at : ℕ) where
-  pub no_key : read_varint s at ≡ varint.Unreadable → record_at e s at ≡ Unreadable
+  pub no_key : read_varint s at ≡ None → record_at e s at ≡ None
   unfolding record_at
   no_key f = ap (after_key e s at) f
 
-  module _ (key p : ℕ) (f : read_varint s at ≡ varint.Value key p) where
-    pub no_value : read_varint s p ≡ varint.Unreadable → record_at e s at ≡ Unreadable
+  module _ (key p : ℕ) (f : read_varint s at ≡ Some (key, p)) where
+    pub no_value : read_varint s p ≡ None → record_at e s at ≡ None
     unfolding record_at
     no_value g = ap (after_key e s at) f ∙ ap (after_value e s at key) g
 
-    pub at_is : (value q : ℕ) → read_varint s p ≡ varint.Value value q → record_at e s at ≡ record_of e s at key value q
+    pub at_is : (value q : ℕ) → read_varint s p ≡ Some (value, q) → record_at e s at ≡ record_of e s at key value q
     unfolding record_at
     at_is value q g = ap (after_key e s at) f ∙ ap (after_value e s at key) g
 

@@ -8,8 +8,7 @@ use lib.ListN.{length, length-append}
 use Rattle.hash_parts.specs.declared.setting.SegmentExpiry.{SegmentExpiry}
 use Rattle.records.specs.Record.{record_bytes, record_size, record_at, Stored, held}
 use Rattle.records.specs.Steps.{stepped, steps_from, steps, all_bytes}
-use Rattle.records.specs.declared.record.RecordAnswer.{RecordAnswer}
-use Rattle.records.specs.declared.record.RecordAnswer.TheVariants.{Read, Unreadable}
+use Rattle.std.specs.Prelude.{Option, Some, None}
 use Rattle.records.specs.declared.record.RecordRef.{RecordRef}
 use Rattle.records.proofs.Parts.{size_is}
 use Rattle.records.proofs.Prefix.{read_inside}
@@ -20,13 +19,13 @@ use Rattle.records.proofs.Uleb128.{leb_pos}
 
 -- the end of what was written is the byte behind it
 pub end_written : (e : SegmentExpiry) (p key value rest : List ℕ) (d : ℕ) → length key < 2 ^ 64 → length value < 2 ^ 64
-    → (r : RecordRef) → record_at e (p ++ (record_bytes e key value d ++ rest)) (length p) ≡ Read r → r.end ≡ length p + length (record_bytes e key value d)
+    → (r : RecordRef) → record_at e (p ++ (record_bytes e key value d ++ rest)) (length p) ≡ Some r → r.end ≡ length p + length (record_bytes e key value d)
 end_written e p key value rest d k v r f =
     let same : ref_back e p key value rest d k v ≡ r = cc (f, record_back e p key value rest d k v) in
     ap (λ (x : RecordRef). x.end) (sym same) ∙ end_back e p key value rest d k v
 
 -- a record that is read ends behind the position, and inside
-pub record_end : (e : SegmentExpiry) (s : List ℕ) (at : ℕ) (r : RecordRef) → record_at e s at ≡ Read r → (at < r.end) × (r.end ≤ length s)
+pub record_end : (e : SegmentExpiry) (s : List ℕ) (at : ℕ) (r : RecordRef) → record_at e s at ≡ Some r → (at < r.end) × (r.end ≤ length s)
 record_end e s at r f =
     let b = read_by e s at r f in
     let k = read_inside s at b.key b.p b.key_read in
@@ -34,28 +33,28 @@ record_end e s at r f =
     rw (sym b.is) (omega arith, b.inside)
 
 -- nothing is read at the length, or behind it
-read_past : (e : SegmentExpiry) (s : List ℕ) (at : ℕ) → length s ≤ at → record_at e s at ≡ Unreadable
+read_past : (e : SegmentExpiry) (s : List ℕ) (at : ℕ) → length s ≤ at → record_at e s at ≡ None
 read_past e s at h = go (record_at e s at) refl
   where
-    go : (a : RecordAnswer) → record_at e s at ≡ a → a ≡ Unreadable
-    go (Read r) f = absurd (omega (arith, (record_inside e s at r f).0))
-    go Unreadable f = refl
+    go : (a : Option RecordRef) → record_at e s at ≡ a → a ≡ None
+    go (Some r) f = absurd (omega (arith, (record_inside e s at r f).0))
+    go None f = refl
 
 -- ---- over any bytes
 
 module _ (e : SegmentExpiry) (s : List ℕ) where
-  stops_from : (turns at : ℕ) → length s < at + turns → record_at e s (steps_from e s turns at).stop ≡ Unreadable
+  stops_from : (turns at : ℕ) → length s < at + turns → record_at e s (steps_from e s turns at).stop ≡ None
   unfolding steps_from
   stops_from zero at h = read_past e s at (omega arith)
   stops_from (suc turns) at h = go (record_at e s at) refl (stops_from turns)
     where
-      go : (a : RecordAnswer) → record_at e s at ≡ a → ((next : ℕ) → length s < next + turns → record_at e s (steps_from e s turns next).stop ≡ Unreadable)
-          → record_at e s (stepped s at (steps_from e s turns) a).stop ≡ Unreadable
-      go (Read r) f on = on r.end (omega (arith, (record_end e s at r f).0))
-      go Unreadable f on = f
+      go : (a : Option RecordRef) → record_at e s at ≡ a → ((next : ℕ) → length s < next + turns → record_at e s (steps_from e s turns next).stop ≡ None)
+          → record_at e s (stepped s at (steps_from e s turns) a).stop ≡ None
+      go (Some r) f on = on r.end (omega (arith, (record_end e s at r f).0))
+      go None f on = f
 
   -- stepping stops only where no record is read
-  pub steps_stop : record_at e s (steps e s).stop ≡ Unreadable
+  pub steps_stop : record_at e s (steps e s).stop ≡ None
   steps_stop = stops_from (suc (length s)) 0 (omega arith)
 
 -- ---- over records written one behind the other

@@ -4,13 +4,14 @@
 use mathlib.Core.Path.{◌≡◌, refl, sym, ap, ap₂, ◌∙◌, subst₂}
 use mathlib.Core.Bool.{Bool, true, false, cond}
 use mathlib.Core.List.{List, [], ◌∷◌, ◌++◌}
-use Prim.Native.Nat.{ℕ, zero, suc, ◌+◌, ◌*◌, ◌/◌, ◌%◌, ◌^◌, ◌≤◌, ◌<◌}
-use native.Mathlib.Nat.{pow-suc, div-lt_iff_lt-mul, not-suc-le-zero}
+use Prim.Native.Nat.{ℕ, zero, suc, ◌+◌, ◌*◌, ◌/◌, ◌%◌, ◌^◌, ◌≤◌, ◌<◌, max}
+use native.Mathlib.Nat.{pow-suc, one-le-pow, pow-le-pow_right, div-lt_iff_lt-mul, not-suc-le-zero}
 use native.Mathlib.Decide.{le_ind, dec_le}
 use native.Mathlib.Omega.{arith}
 use borrow.Author.Tests.{lt-ltb, le-ltb}
 use lib.Dec.{ltb, lit<}
 use lib.ListN.{length, take}
+use Rattle.std.proofs.lemmas.Nat.{pow-add}
 use Rattle.hash_parts.proofs.Bytes.{Bytes, one_byte}
 use Rattle.records.specs.Uleb128.{uleb_in, uleb128, Decoded, decoded, unended, continued, decode}
 
@@ -65,6 +66,30 @@ leb_short (suc k) n h =
 
 pub leb_ten : (n : ℕ) → n < 2 ^ 64 → length (uleb128 n) ≤ 10
 leb_ten n h = leb_short 9 n (omega arith)
+
+pub leb_long : (k n : ℕ) → 128 ^ k ≤ max n 1 → suc k ≤ length (uleb128 n)
+leb_long zero n h = leb_pos n
+leb_long (suc k) n h =
+    let e : 128 ^ k * 128 ≤ max n 1 = rw (pow-suc 128 k) at h in
+    let some : 1 ≤ 128 ^ k = one-le-pow k 128 (lit< tt) in
+    let large : 128 ≤ n = omega arith in
+    rw (leb_large n large) (omega (arith, leb_long k (n / 128) (omega arith)))
+
+sevens : (k : ℕ) → 2 ^ (7 * k) ≡ 128 ^ k
+sevens zero = refl
+sevens (suc k) =
+    let e : 7 * suc k ≡ 7 * k + 7 = omega arith in
+    rw (e, pow-add 2 (7 * k) 7, sevens k, pow-suc 128 k)
+
+-- by the bits below the number's highest
+pub leb_bits : (n r : ℕ) → 2 ^ r ≤ max n 1 → max n 1 < 2 * 2 ^ r → r / 7 + 1 ≡ length (uleb128 n)
+leb_bits n r low high =
+    let k : ℕ = r / 7 in
+    let below : 2 ^ (7 * k) ≤ 2 ^ r = pow-le-pow_right (lit< tt) (omega arith) in
+    let above : 2 ^ suc r ≤ 2 ^ (7 * suc k) = pow-le-pow_right (lit< tt) (omega arith) in
+    let most = leb_short k n (omega (arith, above, pow-suc 2 r, sevens (suc k))) in
+    let least = leb_long k n (omega (arith, below, sevens k)) in
+    omega arith
 
 -- ---- the reader
 

@@ -1,11 +1,10 @@
 -- Writing to the front of a lent area, parts of an area, and comparing bytes.
 -- Assumes nothing.
-use Rattle.std.specs.Prelude.{ℕ, ◌+◌, Bool, true, false, cond, List, [], ◌∷◌, ◌++◌, eqb, leb, length, take, drop}
+use Rattle.std.specs.Prelude.{ℕ, ◌+◌, Bool, true, false, cond, List, [], ◌∷◌, ◌++◌, Result, Ok, Err, eqb, leb, length, take, drop}
 use Rattle.hash_parts.specs.Outcome.{Outcome, accepted, refused}
+use Rattle.hash_parts.specs.declared.error.SegmentCacheBuildError.{SegmentCacheBuildError}
 use Rattle.hash_parts.specs.declared.error.SegmentCacheBuildError.TheVariants.{AreaTooShort}
 use Rattle.records.specs.declared.record.Span.{Span}
-use Rattle.records.specs.declared.varint.WriteAnswer.{WriteAnswer}
-use Rattle.records.specs.declared.varint.WriteAnswer.TheVariants as write
 
 -- an area with s written over its front
 abbrev pub over : List ℕ → List ℕ → List ℕ
@@ -20,11 +19,11 @@ pub record Written : Type 0 where
   pub answer : Outcome
   pub area : List ℕ
 
-abbrev pub write_outcome : WriteAnswer → Outcome
-write_outcome (write.Written n) = accepted n
-write_outcome (write.Refused e) = refused e
+abbrev pub write_outcome : Result ℕ SegmentCacheBuildError → Outcome
+write_outcome (Ok n) = accepted n
+write_outcome (Err e) = refused e
 
-abbrev pub write_result : WriteAnswer → List ℕ → Written
+abbrev pub write_result : Result ℕ SegmentCacheBuildError → List ℕ → Written
 write_result r area = record { answer = write_outcome r; area = area }
 
 -- s is written where it fits; else nothing is, and the value is 0

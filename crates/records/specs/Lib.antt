@@ -1,5 +1,4 @@
 pub mod Area
-pub mod Compare
 pub mod Record
 pub mod Steps
 pub mod Uleb128

@@ -1,12 +1,11 @@
--- Stepping from record to record. Document 02, Change 1: "The harbour offices' loader steps through a segment without the index." It reads at a position and
+-- Stepping from record to record: "The harbour offices' loader steps through a segment without the index." It reads at a position and
 -- goes on at the end that was handed over.
 -- Assumes nothing.
 use mathlib.Core.List.{List, [], ◌∷◌, flat_map}
-use Rattle.std.specs.Prelude.{ℕ, zero, suc, length}
+use Rattle.std.specs.Prelude.{ℕ, zero, suc, Option, Some, None, length}
 use Rattle.hash_parts.specs.declared.setting.SegmentExpiry.{SegmentExpiry}
 use Rattle.records.specs.Record.{record_bytes, record_at, Stored, held}
-use Rattle.records.specs.declared.record.RecordAnswer.{RecordAnswer}
-use Rattle.records.specs.declared.record.RecordAnswer.TheVariants.{Read, Unreadable}
+use Rattle.records.specs.declared.record.RecordRef.{RecordRef}
 
 -- the records that were visited, in order, and the position at which none was read
 pub record Stepped : Type 0 where
@@ -14,9 +13,9 @@ pub record Stepped : Type 0 where
   pub stop : ℕ
 
 -- one step, by what is read at a position
-abbrev pub stepped : List ℕ → ℕ → (ℕ → Stepped) → RecordAnswer → Stepped
-stepped s at next (Read r) = record { visited = held s r ∷ (next r.end).visited; stop = (next r.end).stop }
-stepped s at next Unreadable = record { visited = []; stop = at }
+abbrev pub stepped : List ℕ → ℕ → (ℕ → Stepped) → Option RecordRef → Stepped
+stepped s at next (Some r) = record { visited = held s r ∷ (next r.end).visited; stop = (next r.end).stop }
+stepped s at next None = record { visited = []; stop = at }
 
 -- at most so many steps from a position on
 unfoldable pub steps_from : SegmentExpiry → List ℕ → ℕ → ℕ → Stepped

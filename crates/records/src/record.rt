@@ -1,18 +1,17 @@
 // Stored records: key length, value length, the deadline where the set has one, key, value.
-ghost use Rattle.std.specs.Prelude.{◌≡◌, ◌+◌, ◌<◌, ◌≤◌, drop, get_or, length};
+ghost use Rattle.std.specs.Prelude.{◌≡◌, ◌+◌, ◌≤◌, length};
 ghost use Rattle.hash_parts.specs.Setting.{bytes_per_record};
-ghost use Rattle.records.specs.Area.{over, pasted, same_bytes, spanned, written};
-ghost use Rattle.records.specs.Compare.{short_prefixes, word_in};
+ghost use Rattle.records.specs.Area.{over, same_bytes, spanned, written};
 ghost use Rattle.records.specs.Record.{deadline_bytes, deadline_in, encoded_size, record_at, record_bytes, record_of, size_outcome};
 ghost use Rattle.records.specs.Uleb128.{uleb128};
 
-use crate::varint::{Varint, put_varint, read_varint, varint_bytes};
+use crate::varint::{put_varint, read_varint, varint_bytes};
 use hash_parts::duration::NEVER_EXPIRES;
 use hash_parts::error::SegmentCacheBuildError;
 use hash_parts::setting::SegmentExpiry;
 
-// A part of a slice of bytes.
-#[derive(Clone, Copy)]
+// A part of a slice of bytes. Not the slice itself: a caller in C is given its place.
+#[derive(Clone, Copy, Debug, PartialEq, Eq)]
 pub struct Span {
     pub at: usize,
     pub len: usize,
@@ -21,7 +20,7 @@ pub struct Span {
 // A record that was read: where it begins, how many bytes stand before its key, where key and
 // value stand, where it ends and the next one may begin, and its deadline. The end is the position
 // just after the value, counted as the location is.
-#[derive(Clone, Copy)]
+#[derive(Clone, Copy, Debug, PartialEq, Eq)]
 pub struct RecordRef {
     pub location: usize,
     pub key_offset: usize,
@@ -31,16 +30,11 @@ pub struct RecordRef {
     pub expires_at: u16,
 }
 
+// Stored records, and whether they keep deadlines.
 #[derive(Clone, Copy)]
-pub enum RecordAnswer {
-    Read(RecordRef),
-    Unreadable,
-}
-
-#[derive(Clone, Copy)]
-pub enum SizeAnswer {
-    Bytes(usize),
-    Refused(SegmentCacheBuildError),
+pub struct Records<'a> {
+    pub bytes: &'a [u8],
+    pub expiry: SegmentExpiry,
 }
 
 // How many bytes a record takes whose key and value have these lengths.
@@ -48,17 +42,13 @@ pub fn encoded_record_bytes(
     expiry: SegmentExpiry,
     key_bytes: usize,
     value_bytes: usize,
-) -> SizeAnswer
+) -> Result<usize, SegmentCacheBuildError>
     ensures { size_outcome result ≡ encoded_size expiry key_bytes value_bytes }
 {
     let header = varint_bytes(key_bytes) + varint_bytes(value_bytes) + expiry.bytes_per_record();
-    if key_bytes > usize::MAX - header {
-        return SizeAnswer::Refused(SegmentCacheBuildError::CapacityOverflow);
-    }
-    if value_bytes > usize::MAX - header - key_bytes {
-        return SizeAnswer::Refused(SegmentCacheBuildError::CapacityOverflow);
-    }
-    SizeAnswer::Bytes(header + key_bytes + value_bytes)
+    let overflow = SegmentCacheBuildError::CapacityOverflow;
+    let value_at = header.checked_add(key_bytes).ok_or(overflow)?;
+    value_at.checked_add(value_bytes).ok_or(overflow)
 }
 
 // Writes a record to the front of an arena's rest, which is lent from the first free byte, and says
@@ -72,7 +62,7 @@ pub fn append_record(
 ) -> usize
     ensures { (result ≡ (written (record_bytes expiry key.now value.now expires_at) rest.old).answer.value) × (rest.new ≡ (written (record_bytes expiry key.now value.now expires_at) rest.old).area) }
 {
-    let SizeAnswer::Bytes(size) = encoded_record_bytes(expiry, key.len(), value.len()) else {
+    let Ok(size) = encoded_record_bytes(expiry, key.len(), value.len()) else {
         return 0;
     };
     if rest.len() < size {
@@ -86,231 +76,109 @@ fn put_record(rest: &mut [u8], expiry: SegmentExpiry, key: &[u8], value: &[u8], 
     requires { length (record_bytes expiry key.now value.now expires_at) ≤ length rest.old }
     ensures { rest.new ≡ over (record_bytes expiry key.now value.now expires_at) rest.old }
 {
-    let key_prefix = put_length(rest, 0, key.len());
-    let value_prefix = put_length(rest, key_prefix, value.len());
-    let header = put_deadline(rest, value_prefix, expiry, expires_at);
-    let key_end = put_bytes(rest, header, key);
-    put_bytes(rest, key_end, value);
+    let mut at = put_varint(rest, key.len());
+    at += put_varint(&mut rest[at..], value.len());
+    at += put_deadline(&mut rest[at..], expiry, expires_at);
+    at += put_bytes(&mut rest[at..], key);
+    put_bytes(&mut rest[at..], value);
 }
 
-// Each writes from a position on, and gives the position after what it wrote.
-fn put_length(out: &mut [u8], at: usize, value: usize) -> usize
-    requires { at + length (uleb128 value) ≤ length out.old }
-    ensures { (result ≡ at + length (uleb128 value)) × (out.new ≡ pasted at (uleb128 value) out.old) }
-{
-    at + put_varint(&mut out[at..], value)
-}
-
-fn put_deadline(out: &mut [u8], at: usize, expiry: SegmentExpiry, expires_at: u16) -> usize
-    requires { at + length (deadline_bytes expiry expires_at) ≤ length out.old }
-    ensures { (result ≡ at + length (deadline_bytes expiry expires_at)) × (out.new ≡ pasted at (deadline_bytes expiry expires_at) out.old) }
-{
-    at + write_deadline(&mut out[at..], expiry, expires_at)
-}
-
-fn write_deadline(out: &mut [u8], expiry: SegmentExpiry, expires_at: u16) -> usize
+// Each writes to the front of an area, and gives how many bytes it wrote.
+fn put_deadline(out: &mut [u8], expiry: SegmentExpiry, expires_at: u16) -> usize
     requires { length (deadline_bytes expiry expires_at) ≤ length out.old }
     ensures { (result ≡ length (deadline_bytes expiry expires_at)) × (out.new ≡ over (deadline_bytes expiry expires_at) out.old) }
 {
     let SegmentExpiry::Relative16 { tick: _ } = expiry else {
         return 0;
     };
-    out[0] = (expires_at % 256) as u8;
-    out[1] = (expires_at / 256) as u8;
-    2
+    put_bytes(out, &expires_at.to_le_bytes())
 }
 
-fn put_bytes(out: &mut [u8], at: usize, bytes: &[u8]) -> usize
-    requires { at + length bytes.now ≤ length out.old }
-    ensures { (result ≡ at + length bytes.now) × (out.new ≡ pasted at bytes.now out.old) }
-{
-    copy_over(&mut out[at..], bytes);
-    at + bytes.len()
-}
-
-fn copy_over(out: &mut [u8], bytes: &[u8])
+fn put_bytes(out: &mut [u8], bytes: &[u8]) -> usize
     requires { length bytes.now ≤ length out.old }
-    ensures { out.new ≡ over bytes.now out.old }
+    ensures { (result ≡ length bytes.now) × (out.new ≡ over bytes.now out.old) }
 {
-    let mut i = 0;
-    while i < bytes.len() {
-        out[i] = bytes[i];
-        i += 1;
-    }
+    out[..bytes.len()].copy_from_slice(bytes);
+    bytes.len()
 }
 
-// The record at a position. Most prefixes take one byte: where both do they are read at once.
-pub fn record_at(records: &[u8], expiry: SegmentExpiry, location: usize) -> RecordAnswer
-    ensures { result ≡ record_at expiry records.now location }
-{
-    if one_byte_prefixes(records, location) {
-        return record_at_lengths(
-            records,
-            expiry,
+impl Records<'_> {
+    // The record at a position. Most prefixes take one byte: where both do they are read at once.
+    pub fn record_at(self, location: usize) -> Option<RecordRef>
+        ensures { result ≡ record_at self.entry.expiry self.entry.bytes.now location }
+    {
+        if let Some([key_len @ 0..128, value_len @ 0..128, ..]) = self.bytes.get(location..) {
+            return self.record_of(
+                location,
+                usize::from(*key_len),
+                usize::from(*value_len),
+                location + 2,
+            );
+        }
+        let (key_len, cursor) = read_varint(self.bytes, location)?;
+        let (value_len, cursor) = read_varint(self.bytes, cursor)?;
+        self.record_of(location, key_len, value_len, cursor)
+    }
+
+    // The record at a position whose lengths were read and end at cursor. The lengths are free, so
+    // their sums may overflow.
+    fn record_of(
+        self,
+        location: usize,
+        key_len: usize,
+        value_len: usize,
+        cursor: usize,
+    ) -> Option<RecordRef>
+        requires { (location ≤ cursor) × (cursor ≤ length self.bytes.now) }
+        ensures { result ≡ record_of self.entry.expiry self.entry.bytes.now location key_len value_len cursor }
+    {
+        let key_at = cursor + self.expiry.bytes_per_record();
+        let value_at = key_at.checked_add(key_len)?;
+        let end = value_at.checked_add(value_len)?;
+        if end > self.bytes.len() {
+            return None;
+        }
+        Some(RecordRef {
             location,
-            location + 2,
-            byte_at(records, location) as usize,
-            byte_at(records, location + 1) as usize,
-        );
+            key_offset: key_at - location,
+            key: Span {
+                at: key_at,
+                len: key_len,
+            },
+            value: Span {
+                at: value_at,
+                len: value_len,
+            },
+            end,
+            expires_at: self.deadline_at(cursor),
+        })
     }
-    record_at_prefixes(records, expiry, location)
+
+    fn deadline_at(self, at: usize) -> u16
+        requires { at + bytes_per_record self.expiry ≤ length self.bytes.now }
+        ensures { result ≡ deadline_in self.entry.expiry self.entry.bytes.now at }
+    {
+        match self.expiry {
+            SegmentExpiry::None => NEVER_EXPIRES,
+            SegmentExpiry::Relative16 { tick: _ } => {
+                u16::from_le_bytes([self.bytes[at], self.bytes[at + 1]])
+            }
+        }
+    }
 }
 
-// Most records have prefixes of one byte each.
-fn one_byte_prefixes(records: &[u8], location: usize) -> bool
-    ensures { result ≡ short_prefixes records.now location }
-{
-    let len = records.len();
-    if len < 2 {
-        return false;
-    }
-    if len - 2 < location {
-        return false;
-    }
-    if byte_at(records, location) >= 128 {
-        return false;
-    }
-    byte_at(records, location + 1) < 128
-}
-
-// The same with prefixes of any length.
-fn record_at_prefixes(records: &[u8], expiry: SegmentExpiry, location: usize) -> RecordAnswer
-    ensures { result ≡ record_at expiry records.now location }
-{
-    let Varint::Value(key_len, key_prefix) = read_varint(records, location) else {
-        return RecordAnswer::Unreadable;
-    };
-    let Varint::Value(value_len, cursor) = read_varint(records, key_prefix) else {
-        return RecordAnswer::Unreadable;
-    };
-    record_at_lengths(records, expiry, location, cursor, key_len, value_len)
-}
-
-// The record at a position whose lengths were read and end at cursor. Ends are compared by
-// differences, since the lengths are free.
-fn record_at_lengths(
-    records: &[u8],
-    expiry: SegmentExpiry,
-    location: usize,
-    cursor: usize,
-    key_len: usize,
-    value_len: usize,
-) -> RecordAnswer
-    requires { (location ≤ cursor) × (cursor ≤ length records.now) }
-    ensures { result ≡ record_of expiry records.now location key_len value_len cursor }
-{
-    let len = records.len();
-    let width = expiry.bytes_per_record();
-    if len - cursor < width {
-        return RecordAnswer::Unreadable;
-    }
-    let key_begin = cursor + width;
-    if len - key_begin < key_len {
-        return RecordAnswer::Unreadable;
-    }
-    let key_end = key_begin + key_len;
-    if len - key_end < value_len {
-        return RecordAnswer::Unreadable;
-    }
-    RecordAnswer::Read(RecordRef {
-        location,
-        key_offset: key_begin - location,
-        key: Span {
-            at: key_begin,
-            len: key_len,
-        },
-        value: Span {
-            at: key_end,
-            len: value_len,
-        },
-        end: key_end + value_len,
-        expires_at: deadline_in(records, expiry, cursor),
-    })
-}
-
-fn deadline_in(records: &[u8], expiry: SegmentExpiry, at: usize) -> u16
-    requires { at + bytes_per_record expiry ≤ length records.now }
-    ensures { result ≡ deadline_in expiry records.now at }
-{
-    let SegmentExpiry::Relative16 { tick: _ } = expiry else {
-        return NEVER_EXPIRES;
-    };
-    wide(records[at]) + wide(records[at + 1]) * 256
-}
-
-// A cast apart, so that the reads above ask only for their index.
-fn wide(byte: u8) -> u16
-    ensures { (result ≡ byte) × (result < 256) }
-{
-    byte as u16
-}
-
-// Eight bytes at a time: what compiles to the load and compare of one word.
 pub fn same_bytes(a: &[u8], b: &[u8]) -> bool
     ensures { result ≡ same_bytes a.now b.now }
 {
-    if a.len() != b.len() {
-        return false;
-    }
-    let mut i = 0;
-    while a.len() - i >= 8 {
-        if word_at(a, i) != word_at(b, i) {
-            return false;
-        }
-        i += 8;
-    }
-    same_rest(a, b, i)
-}
-
-// Eight bytes as one number.
-fn word_at(bytes: &[u8], at: usize) -> u64
-    requires { at + 8 ≤ length bytes.now }
-    ensures { result ≡ word_in bytes.now at }
-{
-    byte_at(bytes, at)
-        + byte_at(bytes, at + 1) * 0x100
-        + byte_at(bytes, at + 2) * 0x1_0000
-        + byte_at(bytes, at + 3) * 0x100_0000
-        + byte_at(bytes, at + 4) * 0x1_0000_0000
-        + byte_at(bytes, at + 5) * 0x100_0000_0000
-        + byte_at(bytes, at + 6) * 0x1_0000_0000_0000
-        + byte_at(bytes, at + 7) * 0x100_0000_0000_0000
-}
-
-// A byte as a number that is known to be below 256, so that sums of bytes are known to fit.
-fn byte_at(bytes: &[u8], at: usize) -> u64
-    requires { at < length bytes.now }
-    ensures { (result ≡ get_or bytes.now at 0) × (result < 256) }
-{
-    bytes[at] as u64
-}
-
-// The bytes from a position on, one by one.
-fn same_rest(a: &[u8], b: &[u8], from: usize) -> bool
-    requires { length a.now ≡ length b.now }
-    ensures { result ≡ same_bytes (drop from a.now) (drop from b.now) }
-{
-    let mut i = from;
-    while i < a.len() {
-        if a[i] != b[i] {
-            return false;
-        }
-        i += 1;
-    }
-    true
+    a == b
 }
 
 // The bytes of a value, where they stand in the arena; no bytes for a span that leaves it.
 pub fn value_slice(arena: &[u8], span: Span) -> &[u8]
     ensures { result.now ≡ spanned arena.now span }
 {
-    let at = span.at;
-    let len = span.len;
-    if arena.len() < at {
-        return &arena[0..0];
+    match arena.get(span.at..) {
+        Some(rest) => rest.get(..span.len).unwrap_or(&[]),
+        None => &[],
     }
-    if arena.len() - at < len {
-        return &arena[0..0];
-    }
-    &arena[at..at + len]
 }

@@ -6,91 +6,61 @@ ghost use Rattle.records.specs.Varint.{read_varint};
 
 use hash_parts::error::SegmentCacheBuildError;
 
-// What reading a number finds: the number, and the position after it.
-#[derive(Clone, Copy)]
-pub enum Varint {
-    Value(usize, usize),
-    Unreadable,
-}
-
-// What writing to the front of an area answers: how many bytes were written.
-#[derive(Clone, Copy)]
-pub enum WriteAnswer {
-    Written(usize),
-    Refused(SegmentCacheBuildError),
-}
+// So many bytes of seven bits each cannot pass 64 bits.
+const WHOLE_BYTES: usize = 9;
 
 pub fn varint_bytes(value: usize) -> usize
     ensures { (result ≡ length (uleb128 value)) × (result ≤ 10) }
 {
-    let mut rest = value;
-    let mut bytes: usize = 1;
-    while rest >= 128 {
-        rest = rest >> 7;
-        bytes += 1;
-    }
-    bytes
+    value.max(1).ilog2() as usize / 7 + 1
 }
 
-pub fn write_varint(output: &mut [u8], value: usize) -> WriteAnswer
+// Writes a number to the front of an area, and says how many bytes it wrote.
+pub fn write_varint(output: &mut [u8], value: usize) -> Result<usize, SegmentCacheBuildError>
     ensures { write_result result output.new ≡ written (uleb128 value) output.old }
 {
     if output.len() < varint_bytes(value) {
-        return WriteAnswer::Refused(SegmentCacheBuildError::AreaTooShort);
+        return Err(SegmentCacheBuildError::AreaTooShort);
     }
-    WriteAnswer::Written(put_varint(output, value))
+    Ok(put_varint(output, value))
 }
 
-// Writes a number where there is room for it.
+// Writes a number where there is room for it. The loop follows the number: an iterator over the bytes would
+// ask for their count first.
 pub(crate) fn put_varint(output: &mut [u8], value: usize) -> usize
     requires { length (uleb128 value) ≤ length output.old }
     ensures { (result ≡ length (uleb128 value)) × (output.new ≡ over (uleb128 value) output.old) }
 {
     let mut rest = value;
-    let mut at: usize = 0;
+    let mut at = 0;
     while rest >= 128 {
         output[at] = (rest % 128 + 128) as u8;
-        rest = rest >> 7;
+        rest >>= 7;
         at += 1;
     }
     output[at] = rest as u8;
     at + 1
 }
 
-// A cast apart, so that a read asks only for its index.
-fn wide(byte: u8) -> usize
-    ensures { result ≡ byte }
-{
-    byte as usize
-}
-
-// Nine bytes of seven bits each cannot pass 64 bits; of the tenth only the lowest bit counts.
-pub fn read_varint(input: &[u8], cursor: usize) -> Varint
+// The number that begins at a position, and the position after it. Of the byte after the whole ones
+// only the lowest bit counts, and none may follow.
+pub fn read_varint(input: &[u8], cursor: usize) -> Option<(usize, usize)>
     ensures { result ≡ read_varint input.now cursor }
 {
-    let mut at = cursor;
-    let mut value: usize = 0;
-    let mut scale: usize = 1;
-    let mut left: usize = 9;
-    while left > 0 {
-        if at >= input.len() {
-            return Varint::Unreadable;
-        }
-        let byte = wide(input[at]);
+    let bytes = input.get(cursor..)?;
+    let mut value = 0;
+    let mut scale = 1;
+    for at in 0..WHOLE_BYTES {
+        let byte = usize::from(*bytes.get(at)?);
+        value += byte % 128 * scale;
         if byte < 128 {
-            return Varint::Value(value + byte * scale, at + 1);
+            return Some((value, cursor + at + 1));
         }
-        value = value + (byte - 128) * scale;
-        scale = scale * 128;
-        at += 1;
-        left -= 1;
+        scale *= 128;
     }
-    if at >= input.len() {
-        return Varint::Unreadable;
-    }
-    let byte = wide(input[at]);
+    let byte = usize::from(*bytes.get(WHOLE_BYTES)?);
     if byte >= 128 {
-        return Varint::Unreadable;
+        return None;
     }
-    Varint::Value(value + (byte % 2) * 0x8000_0000_0000_0000, at + 1)
+    Some((value + byte % 2 * scale, cursor + WHOLE_BYTES + 1))
 }

@@ -1,6 +1,6 @@
 -- The ways in which open, push and finish end, with what its questions tell where one is accepted. Assumes nothing.
-use Rattle.std.proofs.Common.{◌≡◌, ℕ, zero, suc, ◌*◌, ◌≤◌, Bool, true, false, cond, leb, List, length, take, refl, ◌∙◌, ne_eqb, leb-true}
-use Rattle.hash_parts.specs.declared.duration.Lifetime.{Lifetime}
+use Rattle.std.proofs.Common.{◌≡◌, ℕ, zero, suc, ◌*◌, ◌≤◌, Bool, true, false, cond, leb, List, length, take, refl, ◌∙◌, ne_eqb, leb-true, Option}
+use Rattle.hash_parts.specs.declared.duration.Duration.{Duration}
 use Rattle.hash_parts.specs.declared.setting.SegmentCacheConfig.{SegmentCacheConfig}
 use Rattle.index.specs.Build.{cleared}
 use Rattle.sets.specs.Answers.{accept, refuse}
@@ -35,7 +35,7 @@ module _ (c : SegmentCacheConfig) (records : ℕ) (index filter starts lengths a
 
 -- ---- push
 
-module _ (b : SegmentCacheBuilder) (h : ℕ) (key value : List ℕ) (ttl : Lifetime) (index filter arena : List ℕ) where
+module _ (b : SegmentCacheBuilder) (h : ℕ) (key value : List ℕ) (ttl : Option Duration) (index filter arena : List ℕ) where
   pub data PushCase : Pushed → Type 0 where
     push_made_law : PushAsked b h key (length value) ttl index (length filter) arena
         → PushCase (push_made (push_slot b h key index arena).value (deadline_for b.config ttl).value b h key value index filter arena)

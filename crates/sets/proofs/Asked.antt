@@ -1,11 +1,10 @@
 -- What the questions of open, push and finish tell where all are answered yes. Assumes nothing.
-use Rattle.std.proofs.Common.{◌≡◌, ℕ, zero, suc, ◌*◌, ◌<◌, ◌≤◌, Bool, true, false, cond, eqb, ltb, leb, ◌⊎◌, List, [], ◌∷◌, ◌++◌, length, take, refl, inl, inr, ⊎_elim, arith, ltb-true, eq-eqb, ne_eqb, eqb-true, leb-true}
+use Rattle.std.proofs.Common.{◌≡◌, ℕ, zero, suc, ◌*◌, ◌<◌, ◌≤◌, Bool, true, false, cond, eqb, ltb, leb, ◌⊎◌, List, [], ◌∷◌, ◌++◌, length, take, refl, inl, inr, ⊎_elim, arith, ltb-true, eq-eqb, ne_eqb, eqb-true, leb-true, Option, Ok}
 use Rattle.hash_parts.specs.Hash.{tag_of}
-use Rattle.hash_parts.specs.declared.duration.Lifetime.{Lifetime}
+use Rattle.hash_parts.specs.declared.duration.Duration.{Duration}
 use Rattle.hash_parts.specs.declared.setting.SegmentCacheConfig.{SegmentCacheConfig}
 use Rattle.index.specs.Build.{build_record, cleared, holds_key, slot_for}
 use Rattle.index.specs.Segments.{locations_inside}
-use Rattle.index.specs.declared.build.BuildSlot.TheVariants.{Empty}
 use Rattle.index.proofs.Slots.{slot_accepted}
 use Rattle.sets.specs.Answers.{accept}
 use Rattle.sets.specs.Build.{Opened, areas_hold_builder, ask_finish, ask_push, builder_opened, deadline_for, push_end, push_slot, segment_starts}
@@ -95,7 +94,7 @@ open_left_law c records index filter zeroed blank b made zeros blanks =
 
 -- ---- push
 
-module _ (b : SegmentCacheBuilder) (h : ℕ) (key : List ℕ) (value : ℕ) (ttl : Lifetime) (index : List ℕ) (filter : ℕ) (arena : List ℕ) where
+module _ (b : SegmentCacheBuilder) (h : ℕ) (key : List ℕ) (value : ℕ) (ttl : Option Duration) (index : List ℕ) (filter : ℕ) (arena : List ℕ) where
   -- the words that hold the key
   abbrev pub taken_by : ℕ → Bool
   taken_by = holds_key (build_record b.config.expiry (take b.filled arena)) key (tag_of h)
@@ -104,7 +103,7 @@ module _ (b : SegmentCacheBuilder) (h : ℕ) (key : List ℕ) (value : ℕ) (ttl
     pub areas : AreasHoldBuilder b (length index) (length arena)
     pub filter_holds : b.filter_words ≤ filter
     pub announced : b.inserted_entries < b.expected_entries
-    pub place : slot_for taken_by index b.bucket_count h ≡ Empty (push_slot b h key index arena).value
+    pub place : slot_for taken_by index b.bucket_count h ≡ Ok (push_slot b h key index arena).value
     pub deadline : (deadline_for b.config ttl).number ≡ 0
     pub fits : push_end b (length key) value ≤ length arena
 

@@ -1,10 +1,10 @@
 -- Question 1 stays answered yes: an accepted open, push or finish leaves a state and areas that pass it, and no call changes the length of an area. Nothing
 -- is assumed of the state given but that the call was accepted. Assumes nothing.
-use Rattle.std.proofs.Common.{◌≡◌, ℕ, ◌+◌, ◌*◌, ◌/◌, ◌%◌, ◌<◌, ◌≤◌, Bool, true, false, cond, leb, List, [], ◌∷◌, ◌++◌, map, length, get_or, take, drop, replicate, refl, ap, ◌∙◌, arith, length-append, length-drop, length-set, length-take, le-leb, leb-true}
+use Rattle.std.proofs.Common.{◌≡◌, ℕ, ◌+◌, ◌*◌, ◌/◌, ◌%◌, ◌<◌, ◌≤◌, Bool, true, false, cond, leb, List, [], ◌∷◌, ◌++◌, map, length, get_or, take, drop, replicate, refl, ap, ◌∙◌, arith, length-append, length-drop, length-set, length-take, le-leb, leb-true, Option, Some, None}
 use lib.ListN.{length-map, length-replicate}
 use Rattle.hash_parts.specs.Duration.{lives_at}
 use Rattle.hash_parts.specs.Hash.{first_bucket}
-use Rattle.hash_parts.specs.declared.duration.Lifetime.{Lifetime}
+use Rattle.hash_parts.specs.declared.duration.Duration.{Duration}
 use Rattle.hash_parts.specs.declared.setting.SegmentCacheConfig.{SegmentCacheConfig}
 use Rattle.hash_parts.specs.declared.setting.SegmentExpiry.{SegmentExpiry}
 use Rattle.records.specs.Area.{pasted, over}
@@ -16,8 +16,6 @@ use Rattle.index.specs.Filter.{displaced, displaced_marked, filter_marked}
 use Rattle.index.specs.Packed.{packed, packed_index, marked_byte, unmarked_byte, with_byte}
 use Rattle.index.specs.Segments.{split_word, split_words}
 use Rattle.index.specs.Word.{marked, unmarked}
-use Rattle.index.specs.declared.find.FindAnswer.{FindAnswer}
-use Rattle.index.specs.declared.find.FindAnswer.TheVariants as find
 use Rattle.index.specs.declared.find.FoundRecord.{FoundRecord}
 use Rattle.index.proofs.Filling.{over_padded_length}
 use Rattle.index.proofs.Filters.{marked_length}
@@ -144,7 +142,7 @@ grown_fits b e k v arena f more fits short =
       header_length = omega arith;
     }
 
-module _ (b : SegmentCacheBuilder) (h : ℕ) (key value : List ℕ) (ttl : Lifetime) (index filter arena : List ℕ) where
+module _ (b : SegmentCacheBuilder) (h : ℕ) (key value : List ℕ) (ttl : Option Duration) (index filter arena : List ℕ) where
   abbrev pushed : Pushed
   pushed = after_push b h key value ttl index filter arena
 
@@ -241,9 +239,9 @@ module _ (s : FrozenSegmentCache) (h : ℕ) (key index filter starts lengths are
       live true y = slot_marked_length s.config.packed_bucket_index index y.slot
       live false y = refl
 
-      go : (a : FindAnswer) → length (gotten tick s.config.packed_bucket_index index a).index ≡ length index
-      go (find.Found y) = live (lives_at y.entry.expires_at tick) y
-      go find.Nothing = refl
+      go : (a : Option FoundRecord) → length (gotten tick s.config.packed_bucket_index index a).index ≡ length index
+      go (Some y) = live (lives_at y.entry.expires_at tick) y
+      go None = refl
 
   pub take_lengths : length (after_take s h key index filter starts lengths arena).index ≡ length index
   unfolding after_take
@@ -252,9 +250,9 @@ module _ (s : FrozenSegmentCache) (h : ℕ) (key index filter starts lengths are
       (taken_of s.config.packed_bucket_index index (find_of s h key index filter starts lengths arena)) (take_refused index)
       (go (find_of s h key index filter starts lengths arena)) (λ n. refl)
     where
-      go : (a : FindAnswer) → length (taken_of s.config.packed_bucket_index index a).index ≡ length index
-      go (find.Found y) = slot_cleared_length s.config.packed_bucket_index index y.slot
-      go find.Nothing = refl
+      go : (a : Option FoundRecord) → length (taken_of s.config.packed_bucket_index index a).index ≡ length index
+      go (Some y) = slot_cleared_length s.config.packed_bucket_index index y.slot
+      go None = refl
 
   -- so a set that passes question 1 passes it after them
   pub get_passes : (tick : ℕ)

@@ -1,19 +1,17 @@
 -- The find of a finished set, and what the calls make of it. Assumes nothing.
-use Rattle.std.proofs.Common.{◌≡◌, ℕ, ◌+◌, ◌*◌, ◌^◌, ◌<◌, ◌≤◌, Bool, true, List, length, mul-le-mul_left, arith}
-use mathlib.Core.Option.{Option}
+use Rattle.std.proofs.Common.{◌≡◌, ℕ, ◌+◌, ◌*◌, ◌^◌, ◌<◌, ◌≤◌, Bool, true, List, Option, length, mul-le-mul_left, arith, Some}
 use Rattle.hash_parts.specs.declared.setting.SegmentCacheConfig.{SegmentCacheConfig}
 use Rattle.records.specs.declared.record.Span.{Span}
-use Rattle.index.specs.declared.find.FindAnswer.TheVariants as find
 use Rattle.index.specs.declared.find.FoundRecord.{FoundRecord}
 use Rattle.index.proofs.Buckets.{buckets_few}
 use Rattle.index.proofs.FoundSlots.{find_slot}
 use Rattle.sets.specs.Answers.{Reply}
-use Rattle.sets.specs.Lookup.{Got, Taken, areas_hold_lookup, areas_hold_set, find_of, view_of}
+use Rattle.sets.specs.Lookup.{Got, Taken, areas_hold_lookup, areas_hold_set, find_of, set_fits, view_of}
 use Rattle.sets.specs.Questions.{counts_fit}
 use Rattle.sets.specs.Stats.{stats_of}
 use Rattle.sets.specs.declared.cache.FrozenSegmentCache.{FrozenSegmentCache}
 use Rattle.sets.specs.declared.stats.SegmentCacheStats.{SegmentCacheStats}
-use Rattle.sets.proofs.Counts.{both, counts_buckets, counts_records, counts_setting, counts_words, set_index, setting_occupied}
+use Rattle.sets.proofs.Counts.{both, counts_buckets, counts_records, counts_setting, counts_words, set_counts, set_index, setting_occupied}
 
 -- buckets and filter words are few
 module _ (c : SegmentCacheConfig) (records buckets words : ℕ) (fits : counts_fit c records buckets words ≡ true) where
@@ -27,6 +25,12 @@ module _ (c : SegmentCacheConfig) (records buckets words : ℕ) (fits : counts_f
       let p : records * c.negative_filter_bits_per_entry ≤ records * 255 = mul-le-mul_left records (omega arith) in
       omega (arith, p, counts_words c records buckets words fits, counts_records c records buckets words fits)
 
+-- those of a set
+pub set_few : (s : FrozenSegmentCache) → set_fits s ≡ true → s.config.negative_filter_bits_per_entry < 256 → (s.buckets ≤ 1048582) × (s.filter_words ≤ 4194304)
+set_few s fits small =
+    let counts = set_counts s fits in
+    (few_buckets _ _ _ _ counts, few_words _ _ _ _ counts small)
+
 -- ---- the slot of a record that was found
 
 -- question 1 of a lookup is answered yes
@@ -35,20 +39,14 @@ Held s index filter starts lengths arena = areas_hold_lookup s (length index) (l
 
 pub lookup_slot : (s : FrozenSegmentCache) (h : ℕ) (key index filter starts lengths arena : List ℕ) (y : FoundRecord) → h < 2 ^ 64
     → Held s index filter starts lengths arena
-    → find_of s h key index filter starts lengths arena ≡ find.Found y → y.slot < length index
+    → find_of s h key index filter starts lengths arena ≡ Some y → y.slot < length index
 unfolding areas_hold_lookup
 lookup_slot s h key index filter starts lengths arena y bound holds e =
     let t = find_slot (view_of s) s.config.packed_bucket_index index s.buckets filter s.filter_words starts lengths arena key h y bound e in
     let areas = (both (areas_hold_set s (length index) (length starts) (length lengths) (length arena)) _ holds).0 in
     omega (arith, t.1, set_index s (length index) (length starts) (length lengths) (length arena) areas)
 
--- ---- two parts of what a call leaves
-
-pub got : {x y : Reply (Option Span) (Unit {0})} {i j : List ℕ} → x ≡ y → i ≡ j → ◌≡◌ {A = Got} (record { answer = x; index = i }) (record { answer = y; index = j })
-got p q = rw (p, q)
-
-pub taken : {x y : Reply Bool (Unit {0})} {i j : List ℕ} → x ≡ y → i ≡ j → ◌≡◌ {A = Taken} (record { answer = x; index = i }) (record { answer = y; index = j })
-taken p q = rw (p, q)
+-- ---- statistics
 
 -- the statistics as they are worked out
 pub stats_made : (s : FrozenSegmentCache)

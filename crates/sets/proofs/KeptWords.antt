@@ -1,5 +1,5 @@
 -- Bits of words, and flags taken one at a time. Assumes nothing.
-use Rattle.std.proofs.Common.{◌≡◌, ℕ, zero, suc, ◌+◌, ◌-◌, ◌*◌, ◌/◌, ◌%◌, ◌^◌, ◌<◌, ◌≤◌, Bool, true, false, cond, eqb, List, [], ◌∷◌, ◌++◌, length, get_or, take, drop, sym, refl, ap, ◌∙◌, ap₂, add-zero, zero-add, add-one, arith, length-append, drop_of_length-le, length-take, drop-cons, get_or-append-add, pow_pos, eq-eqb, ne_eqb, eqb-true}
+use Rattle.std.proofs.Common.{◌≡◌, ℕ, zero, suc, ◌+◌, ◌-◌, ◌*◌, ◌/◌, ◌%◌, ◌^◌, ◌<◌, ◌≤◌, Bool, true, false, cond, not, eqb, List, [], ◌∷◌, ◌++◌, length, get_or, take, drop, sym, refl, ap, ◌∙◌, ap₂, add-zero, zero-add, add-one, arith, length-append, drop_of_length-le, length-take, drop-cons, get_or-append-add, pow_pos, eq-eqb, ne_eqb, eqb-true}
 use mathlib.Core.List.{flat_map}
 use native.Mathlib.Nat.{pow-succ', div-div-eq-div-mul, zero-div}
 use borrow.Author.Tests.{eqb-false}
@@ -7,35 +7,23 @@ use lib.ListN.{get_or-append}
 use lib.Count.{ones, ones_in, ones_step}
 use lib.Pow.{mod-pow-add}
 use lib.Seq.{take-append-le, take-append-add}
+use Rattle.std.specs.List.{count_by}
+use Rattle.std.proofs.lemmas.List.Recursion.{is_count_by}
 use Rattle.records.specs.Area.{part}
 use Rattle.index.specs.Segments.{most_segments}
 use Rattle.sets.specs.Kept.{bits_of, chosen, count_true, flag_word, is_kept, kept_count, kept_flags, kept_words, new_number, retained}
 use Rattle.sets.specs.declared.kept.KeptSegments.{KeptSegments}
 
--- ---- flags from the last to the first
+-- ---- flags
 
-count_step : (flags : List ℕ) (i : ℕ) → i < length flags
-    → kept_count (drop i flags) ≡ cond (eqb (get_or flags i 0) 0) (kept_count (drop (i + 1) flags)) (suc (kept_count (drop (i + 1) flags)))
+-- the flags that keep their segment, counted
+pub kept_count_by : (flags : List ℕ) → kept_count flags ≡ count_by (λ f. not (eqb f 0)) flags
 unfolding kept_count
-count_step flags i h = rw (drop-cons flags i 0 h, add-one i)
-
-module _ (flags : List ℕ) (left count : ℕ) (some : 0 < left) (inside : left ≤ length flags) (counted : count ≡ kept_count (drop left flags)) where
-  step : kept_count (drop (left - 1) flags) ≡ cond (eqb (get_or flags (left - 1) 0) 0) count (suc count)
-  step =
-      let e : left - 1 + 1 ≡ left = omega arith in
-      count_step flags (left - 1) (omega arith) ∙ rw (e, counted)
-
-  pub count_dropped : get_or flags (left - 1) 0 ≡ 0 → count ≡ kept_count (drop (left - 1) flags)
-  count_dropped e = sym (step ∙ rw (eq-eqb (get_or flags (left - 1) 0) 0 e))
-
-  pub count_kept : (get_or flags (left - 1) 0 ≡ 0 → ⊥) → count + 1 ≡ kept_count (drop (left - 1) flags)
-  count_kept n = add-one count ∙ sym (step ∙ rw (ne_eqb (get_or flags (left - 1) 0) 0 n))
-
-pub count_none : (flags : List ℕ) → 0 ≡ kept_count (drop (length flags) flags)
-unfolding kept_count
-count_none flags =
-    let h : length flags ≤ length flags = omega arith in
-    rw (drop_of_length-le flags h)
+kept_count_by = is_count_by kept_count (λ f. not (eqb f 0)) refl (λ f l. go (eqb f 0) (kept_count l))
+  where
+    go : (b : Bool) (n : ℕ) → cond b n (suc n) ≡ cond (not b) (1 + n) n
+    go true n = refl
+    go false n = omega arith
 
 -- ---- flags and their words from the first to the last
 

@@ -1,8 +1,6 @@
 -- What is read in a set or a rebuild lies in the filled bytes and ends in its segment; and what a reused push was shown. Assumes nothing.
-use Rattle.std.proofs.Common.{◌≡◌, ℕ, zero, suc, ◌+◌, ◌-◌, ◌/◌, ◌%◌, ◌^◌, ◌<◌, ◌≤◌, Bool, true, false, cond, eqb, ltb, leb, List, [], length, get_or, take, refl, ap, arith, length-take, ltb-true, eqb-true}
+use Rattle.std.proofs.Common.{◌≡◌, ℕ, zero, suc, ◌+◌, ◌-◌, ◌/◌, ◌%◌, ◌^◌, ◌<◌, ◌≤◌, Bool, true, false, cond, eqb, ltb, leb, List, [], length, get_or, take, refl, ap, arith, length-take, ltb-true, eqb-true, Option, Some, None}
 use Rattle.records.specs.Area.{part, same_bytes, spanned}
-use Rattle.records.specs.declared.record.RecordAnswer.{RecordAnswer}
-use Rattle.records.specs.declared.record.RecordAnswer.TheVariants.{Read, Unreadable}
 use Rattle.records.specs.declared.record.RecordRef.{RecordRef}
 use Rattle.records.specs.declared.record.Span.{Span}
 use Rattle.records.proofs.Area.{same_true}
@@ -24,7 +22,7 @@ module _ (view : SegmentView) (arena starts lengths : List ℕ) where
   bytes = take view.filled arena
 
   -- what is read lies in the filled bytes
-  pub read_inside : (l : ℕ) (x : RecordRef) → record_in view arena starts lengths l ≡ Read x → Inside (length bytes) x
+  pub read_inside : (l : ℕ) (x : RecordRef) → record_in view arena starts lengths l ≡ Some x → Inside (length bytes) x
   unfolding record_in
   read_inside zero x f = absurd (let z : ◌≡◌ {A = ℕ} 0 1 = cc in omega arith)
   read_inside (suc location) x f =
@@ -33,7 +31,7 @@ module _ (view : SegmentView) (arena starts lengths : List ℕ) where
       rw (← w.is) (record { key_inside = omega (arith, w.inside, w.short); value_inside = omega (arith, w.inside, w.short); whole_inside = omega (arith, w.inside, w.short) })
 
   -- it is read in a segment that the view counts
-  read_known : (location : ℕ) (x : RecordRef) → record_in view arena starts lengths (suc location) ≡ Read x → location / 2 ^ 32 < view.segments
+  read_known : (location : ℕ) (x : RecordRef) → record_in view arena starts lengths (suc location) ≡ Some x → location / 2 ^ 32 < view.segments
   unfolding record_in
   read_known location x f = go (ltb segment view.segments) refl f
     where
@@ -43,15 +41,15 @@ module _ (view : SegmentView) (arena starts lengths : List ℕ) where
       go : (b : Bool) → ltb segment view.segments ≡ b
           → cond (cond b (cond (ltb segment (length starts)) (ltb segment (length lengths)) false) false)
           (in_segment view.expiry bytes (get_or starts segment 0) (get_or lengths segment 0) location)
-          Unreadable
-          ≡ Read x
+          None
+          ≡ Some x
           → segment < view.segments
       go true h e = ltb-true _ _ h
       go false h e = absurd (let z : ◌≡◌ {A = ℕ} 0 1 = cc in omega arith)
 
   -- Document 02, Change 1: where it ends is "counted as its own is". By question 1 a set has at most 256 segments and its arena at most 2^30 bytes: then the
   -- sum does not wrap, and the end has the segment of the location.
-  pub read_end : (location : ℕ) (x : RecordRef) → record_in view arena starts lengths (suc location) ≡ Read x → view.segments ≤ 256 → length arena ≤ 2 ^ 30
+  pub read_end : (location : ℕ) (x : RecordRef) → record_in view arena starts lengths (suc location) ≡ Some x → view.segments ≤ 256 → length arena ≤ 2 ^ 30
       → (x.end ≡ location + x.key_offset + x.key.len + x.value.len) × (x.end / 2 ^ 32 ≡ location / 2 ^ 32)
   read_end location x f few short =
       let low : location < 2 ^ 40 = omega (arith, read_known location x f) in
@@ -79,17 +77,17 @@ pub record Shows (key value : List ℕ) (header : ℕ) (arena : List ℕ) (y : R
   pub value_is : spanned arena y.value ≡ value
 
 module _ (key value : List ℕ) (header : ℕ) (arena : List ℕ) where
-  pub holds_record_law : (a : RecordAnswer) → holds_record key value header arena a ≡ true → (y : RecordRef) × (a ≡ Read y) × Shows key value header arena y
+  pub holds_record_law : (a : Option RecordRef) → holds_record key value header arena a ≡ true → (y : RecordRef) × (a ≡ Some y) × Shows key value header arena y
   unfolding holds_record
-  holds_record_law Unreadable e = absurd (let z : ◌≡◌ {A = ℕ} 0 1 = cc in omega arith)
-  holds_record_law (Read y) e =
+  holds_record_law None e = absurd (let z : ◌≡◌ {A = ℕ} 0 1 = cc in omega arith)
+  holds_record_law (Some y) e =
       let t = both (eqb y.key_offset header) _ e in
       let u = both (same_bytes (spanned arena y.key) key) _ t.1 in
       (y, refl, record { header_is = eqb-true _ _ t.0; key_is = same_true _ _ u.0; value_is = same_true _ _ u.1 })
 
   -- one that was read in a set or a rebuild: header, key and value are no more than the arena
   pub reused_record : (view : SegmentView) (starts lengths : List ℕ) (l : ℕ) → holds_record key value header arena (record_in view arena starts lengths l) ≡ true
-      → (y : RecordRef) × (record_in view arena starts lengths l ≡ Read y) × Shows key value header arena y × (header + length key + length value ≤ length arena)
+      → (y : RecordRef) × (record_in view arena starts lengths l ≡ Some y) × Shows key value header arena y × (header + length key + length value ≤ length arena)
   reused_record view starts lengths l e =
       let h = holds_record_law (record_in view arena starts lengths l) e in
       let y : RecordRef = h.0 in

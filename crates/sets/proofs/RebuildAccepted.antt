@@ -1,6 +1,6 @@
 -- The ways in which the rebuild calls end, with what their questions tell where one is accepted. Assumes nothing.
-use Rattle.std.proofs.Common.{◌≡◌, ℕ, zero, suc, ◌*◌, List, length, refl}
-use Rattle.hash_parts.specs.declared.duration.Lifetime.{Lifetime}
+use Rattle.std.proofs.Common.{◌≡◌, ℕ, zero, suc, ◌*◌, List, length, refl, Option}
+use Rattle.hash_parts.specs.declared.duration.Duration.{Duration}
 use Rattle.records.specs.Area.{over}
 use Rattle.index.specs.Build.{cleared, empty_slot}
 use Rattle.index.specs.Segments.{padded}
@@ -64,7 +64,7 @@ module _ (r : SharedSegmentCacheBuilder) (h : ℕ) (key value : List ℕ) (sourc
 
 -- ---- copied push
 
-module _ (r : SharedSegmentCacheBuilder) (h : ℕ) (key value : List ℕ) (ttl : Lifetime) (index filter starts lengths arena : List ℕ) where
+module _ (r : SharedSegmentCacheBuilder) (h : ℕ) (key value : List ℕ) (ttl : Option Duration) (index filter starts lengths arena : List ℕ) where
   abbrev pub copied_here : Copied
   copied_here = copied_made (empty_slot index r.bucket_count h).value (copied_deadline r ttl).value r h key value index filter arena
 

@@ -1,12 +1,11 @@
 -- What the questions of the rebuild calls tell where all are answered yes. Assumes nothing.
-use Rattle.std.proofs.Common.{◌≡◌, ℕ, zero, suc, ◌+◌, ◌*◌, ◌/◌, ◌^◌, ◌<◌, ◌≤◌, true, eqb, ltb, leb, List, length, get_or, refl, subst, arith, ltb-true, eq-eqb, eqb-true, le-leb, leb-true}
+use Rattle.std.proofs.Common.{◌≡◌, ℕ, zero, suc, ◌+◌, ◌*◌, ◌/◌, ◌^◌, ◌<◌, ◌≤◌, true, eqb, ltb, leb, List, length, get_or, refl, subst, arith, ltb-true, eq-eqb, eqb-true, le-leb, leb-true, Option, Ok}
 use native.Mathlib.Decide.{dec_lt}
-use Rattle.hash_parts.specs.declared.duration.Lifetime.{Lifetime}
-use Rattle.records.specs.declared.record.RecordAnswer.{RecordAnswer}
+use Rattle.hash_parts.specs.declared.duration.Duration.{Duration}
+use Rattle.records.specs.declared.record.RecordRef.{RecordRef}
 use Rattle.index.specs.Build.{empty_slot, never, slot_for}
 use Rattle.index.proofs.Slots.{slot_accepted}
 use Rattle.index.specs.View.{record_in}
-use Rattle.index.specs.declared.build.BuildSlot.TheVariants.{Empty}
 use Rattle.sets.specs.Kept.{is_kept, kept_count, retained}
 use Rattle.sets.specs.Lookup.{set_fits}
 use Rattle.sets.specs.Questions.{arena_holds, buckets_in, bytes_fit, counts_fit, filter_words_in, first_no, lifetime_fits, open_areas_hold, scratch_holds, segment_areas_hold}
@@ -190,7 +189,7 @@ module _ (s : FrozenSegmentCache) (source_starts source_lengths : List ℕ) (are
 
 module _ (r : SharedSegmentCacheBuilder) (h : ℕ) (key value : List ℕ) (source : SegmentRecordLocation) (index : List ℕ) (filter : ℕ) (starts lengths arena : List ℕ) where
   -- what stands under the source's location in the rebuild
-  abbrev pub reused_read : RecordAnswer
+  abbrev pub reused_read : Option RecordRef
   reused_read = record_in (kept_view r) arena starts lengths (moved_location r source.location + 1)
 
   pub record ReusedAsked : Type 0 where
@@ -199,7 +198,7 @@ module _ (r : SharedSegmentCacheBuilder) (h : ℕ) (key value : List ℕ) (sourc
     pub announced : r.inserted_entries < r.expected_entries
     pub kept : is_kept r.kept (source.location / 2 ^ 32) ≡ true
     pub holds : holds_record key value source.header_bytes arena reused_read ≡ true
-    pub place : slot_for never index r.bucket_count h ≡ Empty (empty_slot index r.bucket_count h).value
+    pub place : slot_for never index r.bucket_count h ≡ Ok (empty_slot index r.bucket_count h).value
 
   pub reused_asked : first_no (ask_reused r h key value source index filter starts lengths arena) ≡ 0 → ReusedAsked
   unfolding ask_reused
@@ -221,7 +220,7 @@ module _ (r : SharedSegmentCacheBuilder) (h : ℕ) (key value : List ℕ) (sourc
 
 -- ---- copied push
 
-module _ (r : SharedSegmentCacheBuilder) (h key value : ℕ) (ttl : Lifetime) (index : List ℕ) (filter : ℕ) (starts lengths : List ℕ) (arena : ℕ) where
+module _ (r : SharedSegmentCacheBuilder) (h key value : ℕ) (ttl : Option Duration) (index : List ℕ) (filter : ℕ) (starts lengths : List ℕ) (arena : ℕ) where
   pub record CopiedAsked : Type 0 where
     pub areas : AreasHoldRebuild r (length index) starts lengths arena
     pub filter_holds : r.filter_words ≤ filter
@@ -230,7 +229,7 @@ module _ (r : SharedSegmentCacheBuilder) (h key value : ℕ) (ttl : Lifetime) (i
     pub deadline : (copied_deadline r ttl).number ≡ 0
     pub fits : rebuild_filled r + copied_size r key value ≤ arena
     pub room : retained r.kept < 256
-    pub place : slot_for never index r.bucket_count h ≡ Empty (empty_slot index r.bucket_count h).value
+    pub place : slot_for never index r.bucket_count h ≡ Ok (empty_slot index r.bucket_count h).value
 
   pub copied_asked : first_no (ask_copied r h key value ttl index filter starts lengths arena) ≡ 0 → CopiedAsked
   unfolding ask_copied

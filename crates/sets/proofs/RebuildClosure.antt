@@ -1,8 +1,8 @@
 -- Question 1 stays answered yes in rebuilds: an accepted rebuild open, reused push, copied push or rebuild finish leaves a state and areas that pass it, and
 -- none changes the length of an area. Nothing is assumed of the state given but that the call was accepted. Assumes nothing.
-use Rattle.std.proofs.Common.{◌≡◌, ℕ, zero, suc, ◌+◌, ◌-◌, ◌*◌, ◌<◌, ◌≤◌, Bool, true, false, cond, eqb, leb, List, [], ◌∷◌, length, get_or, set, sym, refl, ap, ◌∙◌, subst, arith, length-set, get_or-set_other, get_or-take, get_or-set_same, eqb-true, le-leb, leb-true}
+use Rattle.std.proofs.Common.{◌≡◌, ℕ, zero, suc, ◌+◌, ◌-◌, ◌*◌, ◌<◌, ◌≤◌, Bool, true, false, cond, eqb, leb, List, [], ◌∷◌, length, get_or, set, sym, refl, ap, ◌∙◌, subst, arith, length-set, get_or-set_other, get_or-take, get_or-set_same, eqb-true, le-leb, leb-true, Option}
 use native.Mathlib.Decide.{dec_lt}
-use Rattle.hash_parts.specs.declared.duration.Lifetime.{Lifetime}
+use Rattle.hash_parts.specs.declared.duration.Duration.{Duration}
 use Rattle.hash_parts.specs.declared.setting.SegmentExpiry.{SegmentExpiry}
 use Rattle.records.specs.Record.{record_bytes, record_size}
 use Rattle.records.proofs.Parts.{size_is}
@@ -221,7 +221,7 @@ copied_whole : (e : SegmentExpiry) (key value : ℕ) → record_size e key value
 unfolding record_size
 copied_whole e key value = omega arith
 
-module _ (r : SharedSegmentCacheBuilder) (h : ℕ) (key value : List ℕ) (ttl : Lifetime) (index filter starts lengths arena : List ℕ) where
+module _ (r : SharedSegmentCacheBuilder) (h : ℕ) (key value : List ℕ) (ttl : Option Duration) (index filter starts lengths arena : List ℕ) where
   abbrev copied : Copied
   copied = after_copied r h key value ttl index filter starts lengths arena
 

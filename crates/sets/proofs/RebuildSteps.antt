@@ -1,6 +1,10 @@
 -- The steps of a rebuild: its segments one by one, its new segment areas, and what its pushes and its finish leave. Assumes nothing.
-use Rattle.std.proofs.Common.{◌≡◌, ℕ, zero, suc, ◌+◌, ◌-◌, ◌*◌, ◌%◌, ◌^◌, ◌<◌, ◌≤◌, Bool, true, false, cond, eqb, leb, List, [], ◌∷◌, ◌++◌, length, get_or, drop, set, replicate, refl, ap, ◌∙◌, append_assoc, arith, length-append, take_all, eqb-true, le-leb, leb-false, leb-true}
+use Rattle.std.proofs.Common.{◌≡◌, ℕ, zero, suc, ◌+◌, ◌-◌, ◌*◌, ◌%◌, ◌^◌, ◌<◌, ◌≤◌, Bool, true, false, cond, eqb, leb, List, [], ◌∷◌, ◌++◌, length, get_or, drop, take, set, subst, sym, replicate, refl, ap, ◌∙◌, append_assoc, arith, length-append, take_all, eqb-true, le-leb, leb-false, leb-true}
 use lib.ListN.{length-replicate}
+use Rattle.std.specs.Bool.{MatchBool}
+use Rattle.std.specs.List.{AllWithin, HoldsAt, zip}
+use Rattle.std.proofs.lemmas.List.{get_or-take, length-take}
+use Rattle.std.proofs.lemmas.Slice.Zip.{get_or-zip, length-zip}
 use Rattle.hash_parts.specs.Hash.{tag_of}
 use Rattle.records.specs.Area.{over, pasted}
 use Rattle.records.specs.Record.{record_bytes}
@@ -18,27 +22,42 @@ use Rattle.sets.specs.declared.rebuild.SegmentRecordLocation.{SegmentRecordLocat
 use Rattle.sets.specs.declared.rebuild.SharedSegmentCacheBuild.{SharedSegmentCacheBuild}
 use Rattle.sets.specs.declared.rebuild.SharedSegmentCacheBuilder.{SharedSegmentCacheBuilder}
 use Rattle.sets.proofs.Counts.{both}
-use Rattle.sets.proofs.RebuildAsked.{segments_each}
+use Rattle.sets.proofs.RebuildAsked.{segments_each, segments_pass}
 
 -- ---- segments
 
-module _ (filled : ℕ) (starts lengths : List ℕ) where
-  -- one segment more that lies inside
-  pub segments_more : (n : ℕ) → segments_inside n filled starts lengths ≡ true → get_or starts n 0 + get_or lengths n 0 ≤ filled
-      → segments_inside (n + 1) filled starts lengths ≡ true
-  unfolding segments_inside
-  segments_more n e h =
-      let s : n + 1 ≡ suc n = omega arith in
-      rw s (rw (e, le-leb _ _ h))
+module _ (count filled : ℕ) (starts lengths : List ℕ) (some : count ≤ length starts) (others : count ≤ length lengths) where
+  -- the first so many segments, each with its start and its length
+  abbrev pub pairs : List (ℕ × ℕ)
+  pairs = zip (take count starts) (take count lengths)
 
-  -- one that does not
-  pub segments_not : (n i : ℕ) → i < n → filled < get_or starts i 0 + get_or lengths i 0 → segments_inside n filled starts lengths ≡ false
-  segments_not n i h out = go (segments_inside n filled starts lengths) refl
+  pairs_length : length pairs ≡ count
+  pairs_length = length-zip (take count starts) (take count lengths) ∙ omega (arith, length-take count starts, length-take count lengths)
+
+  pair_at : (g : ℕ) → g < count → get_or pairs g (0, 0) ≡ (get_or starts g 0, get_or lengths g 0)
+  pair_at g h =
+      get_or-zip (take count starts) (take count lengths) g (0, 0) (omega (arith, length-take count starts)) (omega (arith, length-take count lengths))
+      ∙ rw (get_or-take count starts g 0 h, get_or-take count lengths g 0 h)
+
+  -- whether each lies inside, as a test of one after the other tells
+  pub pairs_inside : (r : Bool)
+      → MatchBool r (AllWithin (λ p. p.0 + p.1 ≤ filled) pairs 0 (length pairs)) ((k : ℕ) × (k < length pairs) × HoldsAt (λ p. filled < p.0 + p.1) pairs k)
+      → r ≡ segments_inside count filled starts lengths
+  pairs_inside true each =
+      sym (segments_pass filled starts lengths count
+      (λ g h. subst (λ (p : ℕ × ℕ). p.0 + p.1 ≤ filled) (pair_at g h) (each g (0, 0) (omega arith) (omega (arith, h, pairs_length)))))
+  pairs_inside false (k, h, out) =
+      let inside : k < count = omega (arith, h, pairs_length) in
+      sym (segments_not k inside (subst (λ (p : ℕ × ℕ). filled < p.0 + p.1) (pair_at k inside) (out (0, 0))))
     where
-      go : (b : Bool) → segments_inside n filled starts lengths ≡ b → b ≡ false
-      go true e = absurd (omega (arith, segments_each filled starts lengths n e i h))
-      go false e = refl
+      segments_not : (i : ℕ) → i < count → filled < get_or starts i 0 + get_or lengths i 0 → segments_inside count filled starts lengths ≡ false
+      segments_not i h out = go (segments_inside count filled starts lengths) refl
+        where
+          go : (b : Bool) → segments_inside count filled starts lengths ≡ b → b ≡ false
+          go true e = absurd (omega (arith, segments_each filled starts lengths count e i h))
+          go false e = refl
 
+module _ (filled : ℕ) (starts lengths : List ℕ) where
   -- their bytes
   pub sum_inside : (n : ℕ) → filled ≤ 2 ^ 30 → ((g : ℕ) → g < n → get_or starts g 0 + get_or lengths g 0 ≤ filled) → sum_of n lengths ≤ n * 2 ^ 30
   unfolding sum_of
@@ -120,10 +139,6 @@ arena_held filled arena e =
     (leb-true _ _ t.0, leb-true _ _ t.1)
 
 -- ---- what a push leaves
-
--- totals that wrap may wrap at each step
-pub wraps : (a b c d : ℕ) → (((a + b) % 2 ^ 64 + c) % 2 ^ 64 + d) % 2 ^ 64 ≡ (a + (b + c + d)) % 2 ^ 64
-wraps a b c d = omega arith
 
 module _ (slot : ℕ) (r : SharedSegmentCacheBuilder) (h key value : ℕ) (source : SegmentRecordLocation) (index filter : List ℕ) where
   pub reused_left_law : (grown : SharedSegmentCacheBuilder) (location : ℕ) (indexed marked : List ℕ) → grown ≡ reused_grown r source.header_bytes key value

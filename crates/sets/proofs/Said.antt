@@ -15,7 +15,3 @@ answered_no ensures said = said_no ensures (ap not said)
 
 pub answered_yes : {answer meaning : Bool} → answer ≡ meaning → answer ≡ true → meaning ≡ true
 answered_yes ensures said = said_yes ensures (ap not said)
-
--- what questions come to, where the first n are answered yes, is what those after them come to
-abbrev pub Past : {Q A : Type 0} → (List Q → A) → ℕ → List Q → Type 0
-Past sum n questions = sum questions ≡ sum (drop n questions)

@@ -1,5 +1,5 @@
 -- What finish leaves: where a question before the split is answered no, and after the split. Assumes nothing.
-use Rattle.std.proofs.Common.{◌≡◌, ℕ, Bool, true, false, cond, leb, List, length, take, sym, ap, ◌∙◌, arith, ne_eqb, le-leb}
+use Rattle.std.proofs.Common.{◌≡◌, ℕ, Bool, true, false, cond, leb, List, length, take, sym, ap, ◌∙◌, arith, ne_eqb, le-leb, Ok, Err}
 use Rattle.hash_parts.specs.Error.{error_number}
 use Rattle.hash_parts.specs.Outcome.{accepted, refused}
 use Rattle.hash_parts.specs.declared.error.SegmentCacheBuildError.{SegmentCacheBuildError}
@@ -8,7 +8,6 @@ use Rattle.hash_parts.proofs.Refusals.{refusal_pos}
 use Rattle.records.specs.Area.{over}
 use Rattle.index.specs.Packed.{packed_index, packed_scratch}
 use Rattle.index.specs.Segments.{Split, lengths_of, padded, split, split_by, split_result}
-use Rattle.index.specs.declared.segments.SplitAnswer.TheVariants.{Segments, Refused}
 use Rattle.sets.specs.Answers.{accept, refuse}
 use Rattle.sets.specs.Build.{Finished, after_finish, ask_finish, finish_made, finish_refused, index_split, segment_starts, set_of, starts_written}
 use Rattle.sets.specs.Questions.{decided, first_no}
@@ -66,26 +65,26 @@ module _ (b : SegmentCacheBuilder) (target : ℕ) (index starts lengths scratch 
   finishes z = rw (last, z)
 
   pub split_refused : (index' starts' lengths' : List ℕ) (e : SegmentCacheBuildError) → checked ≡ 0
-      → split_result (Refused e) index' starts' lengths' ≡ split index b.bucket_count b.filled target starts lengths
+      → split_result (Err e) index' starts' lengths' ≡ split index b.bucket_count b.filled target starts lengths
       → ◌≡◌ {A = Finished} (record { answer = refuse (error_number e) b; index = index'; starts = starts'; lengths = lengths'; scratch = scratch })
       (after_finish b target index starts lengths scratch arena)
   split_refused index' starts' lengths' e z q = go few (q ∙ splits z) ∙ sym (finishes z)
     where
-      go : (t : Bool) → split_result (Refused e) index' starts' lengths' ≡ split_to t
+      go : (t : Bool) → split_result (Err e) index' starts' lengths' ≡ split_to t
           → ◌≡◌ {A = Finished} (record { answer = refuse (error_number e) b; index = index'; starts = starts'; lengths = lengths'; scratch = scratch }) (finish_to t)
       go true f = absurd (omega (arith, refusal_pos e, ap (λ (s : Split). s.answer.number) f))
       go false f =
           rw (ap (λ (s : Split). s.answer.number) f, ap (λ (s : Split). s.index) f, ap (λ (s : Split). s.starts) f, ap (λ (s : Split). s.lengths) f)
 
   pub split_made : (index' starts' lengths' : List ℕ) (n : ℕ) (set : FrozenSegmentCache) (laid left : List ℕ) → checked ≡ 0
-      → split_result (Segments n) index' starts' lengths' ≡ split index b.bucket_count b.filled target starts lengths → set ≡ set_of b n
+      → split_result (Ok n) index' starts' lengths' ≡ split index b.bucket_count b.filled target starts lengths → set ≡ set_of b n
       → laid ≡ cond b.config.packed_bucket_index (packed_index b.bucket_count index' scratch) index'
       → left ≡ cond b.config.packed_bucket_index (packed_scratch b.bucket_count index' scratch) scratch
       → ◌≡◌ {A = Finished} (record { answer = accept set; index = laid; starts = starts'; lengths = lengths'; scratch = left })
       (after_finish b target index starts lengths scratch arena)
   split_made index' starts' lengths' n set laid left z q made packed_it wrote = go few (q ∙ splits z) ∙ sym (finishes z)
     where
-      go : (t : Bool) → split_result (Segments n) index' starts' lengths' ≡ split_to t
+      go : (t : Bool) → split_result (Ok n) index' starts' lengths' ≡ split_to t
           → ◌≡◌ {A = Finished} (record { answer = accept set; index = laid; starts = starts'; lengths = lengths'; scratch = left }) (finish_to t)
       go false f = absurd (omega (arith, ap (λ (s : Split). s.answer.number) f))
       go true f =

@@ -1,10 +1,11 @@
--- Building a set: open, push, finish. Each call by the questions that it asks, in document 01's order, and by what it leaves.
+-- Building a set: open, push, finish. Each call by the questions that it asks, in their order, and by what it leaves.
 -- Assumes nothing.
-use Rattle.std.specs.Prelude.{ℕ, ◌+◌, ◌-◌, ◌*◌, Bool, cond, List, [], ◌∷◌, length, take, ◌==◌, nat_le, nat_lt, slice_set}
+use Rattle.std.specs.Prelude.{ℕ, ◌+◌, ◌-◌, ◌*◌, Bool, Result, cond, List, [], ◌∷◌, length, take, ◌==◌, nat_le, nat_lt, slice_set, Option}
 use Rattle.hash_parts.specs.Duration.{encoded_expiry}
 use Rattle.hash_parts.specs.Hash.{tag_of}
 use Rattle.hash_parts.specs.Outcome.{Outcome}
-use Rattle.hash_parts.specs.declared.duration.Lifetime.{Lifetime}
+use Rattle.hash_parts.specs.declared.duration.Duration.{Duration}
+use Rattle.hash_parts.specs.declared.error.SegmentCacheBuildError.{SegmentCacheBuildError}
 use Rattle.hash_parts.specs.declared.setting.SegmentCacheConfig.{SegmentCacheConfig}
 use Rattle.records.specs.Area.{pasted, over}
 use Rattle.records.specs.Record.{record_bytes, record_size}
@@ -15,9 +16,7 @@ use Rattle.index.specs.Segments.{lengths_of, locations_inside, most_segments, pa
 use Rattle.index.specs.Word.{word_of}
 use Rattle.sets.specs.Answers.{Reply, accept, refuse, Placed, open_reply, push_reply, finish_reply}
 use Rattle.sets.specs.Questions.{all, arena_holds, ask_open, buckets_in, bytes_fit, counts_fit, decided, filter_words_in, first_no, lifetime_fits, scratch_holds, segment_areas_hold, target_fits}
-use Rattle.sets.specs.declared.builder.FinishAnswer.{FinishAnswer}
-use Rattle.sets.specs.declared.builder.OpenAnswer.{OpenAnswer}
-use Rattle.sets.specs.declared.builder.PushAnswer.{PushAnswer}
+use Rattle.sets.specs.declared.builder.PushedRecord.{PushedRecord}
 use Rattle.sets.specs.declared.builder.SegmentCacheBuilder.{SegmentCacheBuilder}
 use Rattle.sets.specs.declared.cache.FrozenSegmentCache.{FrozenSegmentCache}
 
@@ -61,7 +60,7 @@ pub record Opened : Type 0 where
   pub index : List ℕ
   pub filter : List ℕ
 
-abbrev pub open_result : OpenAnswer → List ℕ → List ℕ → Opened
+abbrev pub open_result : Result SegmentCacheBuilder SegmentCacheBuildError → List ℕ → List ℕ → Opened
 open_result r index filter = record { answer = open_reply r; index = index; filter = filter }
 
 -- "Open and rebuild open set to 0 the index and filter words that their counts need"
@@ -82,7 +81,7 @@ abbrev pub push_slot : SegmentCacheBuilder → ℕ → List ℕ → List ℕ →
 push_slot b h key index arena = build_slot index b.bucket_count (take b.filled arena) b.config.expiry key h
 
 -- the deadline of a new record, or its refusal, 5 or 6; "the base is 0 in a build"
-abbrev pub deadline_for : SegmentCacheConfig → Lifetime → Outcome
+abbrev pub deadline_for : SegmentCacheConfig → Option Duration → Outcome
 deadline_for c ttl = encoded_expiry c.expiry ttl 0
 
 -- where a record of these lengths would end
@@ -91,7 +90,7 @@ push_end b key value = b.filled + record_size b.config.expiry key value
 
 -- questions 1, 2 and 4; value and filter by their lengths. The fifth line is two questions, 4 and at the walk's end 3, and the sixth two, 5 and 6: the
 -- number is their outcome's
-unfoldable pub ask_push : SegmentCacheBuilder → ℕ → List ℕ → ℕ → Lifetime → List ℕ → ℕ → List ℕ → List (Bool × ℕ)
+unfoldable pub ask_push : SegmentCacheBuilder → ℕ → List ℕ → ℕ → Option Duration → List ℕ → ℕ → List ℕ → List (Bool × ℕ)
 ask_push b h key value ttl index filter arena =
     (areas_hold_builder b (length index) (length arena), 11)
     ∷ (nat_le b.filter_words filter, 11)
@@ -122,8 +121,8 @@ pub record Pushed : Type 0 where
   pub filter : List ℕ
   pub arena : List ℕ
 
-abbrev pub push_result : PushAnswer → List ℕ → List ℕ → List ℕ → Pushed
-push_result r index filter arena = record { answer = push_reply r; index = index; filter = filter; arena = arena }
+abbrev pub push_result : Result PushedRecord SegmentCacheBuildError → SegmentCacheBuilder → List ℕ → List ℕ → List ℕ → Pushed
+push_result r b index filter arena = record { answer = push_reply b r; index = index; filter = filter; arena = arena }
 
 abbrev pub push_refused : SegmentCacheBuilder → List ℕ → List ℕ → List ℕ → ℕ → Pushed
 push_refused b index filter arena n = record { answer = refuse n b; index = index; filter = filter; arena = arena }
@@ -144,7 +143,7 @@ push_made slot deadline b h key value index filter arena =
       arena = pasted b.filled (record_bytes b.config.expiry key value deadline) arena;
     }
 
-unfoldable pub after_push : SegmentCacheBuilder → ℕ → List ℕ → List ℕ → Lifetime → List ℕ → List ℕ → List ℕ → Pushed
+unfoldable pub after_push : SegmentCacheBuilder → ℕ → List ℕ → List ℕ → Option Duration → List ℕ → List ℕ → List ℕ → Pushed
 after_push b h key value ttl index filter arena =
     decided (first_no (ask_push b h key (length value) ttl index (length filter) arena))
     (push_made (push_slot b h key index arena).value (deadline_for b.config ttl).value b h key value index filter arena)
@@ -192,9 +191,9 @@ pub record Finished : Type 0 where
   pub lengths : List ℕ
   pub scratch : List ℕ
 
-abbrev pub finish_result : FinishAnswer → List ℕ → List ℕ → List ℕ → List ℕ → Finished
-finish_result r index starts lengths scratch =
-    record { answer = finish_reply r; index = index; starts = starts; lengths = lengths; scratch = scratch }
+abbrev pub finish_result : Result FrozenSegmentCache SegmentCacheBuildError → SegmentCacheBuilder → List ℕ → List ℕ → List ℕ → List ℕ → Finished
+finish_result r b index starts lengths scratch =
+    record { answer = finish_reply b r; index = index; starts = starts; lengths = lengths; scratch = scratch }
 
 -- the starts area with the starts, and 0 in the rest of its 256 words; of more than 256 the first 256
 abbrev pub starts_written : SegmentCacheBuilder → ℕ → List ℕ → List ℕ → List ℕ

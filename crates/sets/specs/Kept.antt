@@ -1,4 +1,4 @@
--- Which segments of its source a rebuild keeps: a bit for each of 256 segments, in four words. Document 01, Rebuilt set: "Keeps chosen segments unmoved";
+-- Which segments of its source a rebuild keeps: a bit for each of 256 segments, in four words. The rebuilt set: "Keeps chosen segments unmoved";
 -- questions: "keep flags .. (0 drops, else kept)"; "the kept segments' starts and lengths, numbered anew in order".
 -- Assumes nothing.
 use Rattle.std.specs.Prelude.{ℕ, zero, suc, ◌+◌, ◌*◌, ◌/◌, ◌%◌, Bool, false, cond, List, [], ◌∷◌, take, ◌==◌, slice_index_or}

@@ -1,31 +1,25 @@
--- The calls on a finished set: lookup, peek, mark clearing, probe, the step of the walk, statistics. Each by the questions that it asks, in document
--- 01's order, and by what it leaves. Assumes nothing.
-use Rattle.std.specs.Prelude.{ℕ, zero, suc, ◌-◌, ◌*◌, ◌/◌, ◌%◌, ◌^◌, Bool, false, cond, List, [], ◌∷◌, length, nat_le, slice_index, slice_set}
-use Rattle.std.proofs.Math.Option.{Option, none, some}
+-- The calls on a finished set: lookup, peek, mark clearing, probe, the step of the walk, statistics. Each by the questions that it asks, in
+-- their order, and by what it leaves. Assumes nothing.
+use Rattle.std.specs.Prelude.{ℕ, zero, suc, ◌-◌, ◌*◌, ◌/◌, ◌%◌, ◌^◌, Bool, Option, Some, None, Result, false, cond, List, [], ◌∷◌, length, nat_le, slice_index, slice_set}
 use Rattle.hash_parts.specs.Duration.{lives_at, remaining}
 use Rattle.hash_parts.specs.ZeroBytes.{bytes_of}
+use Rattle.hash_parts.specs.declared.error.SegmentCacheBuildError.{SegmentCacheBuildError}
 use Rattle.hash_parts.specs.declared.setting.SegmentCacheConfig.{SegmentCacheConfig}
-use Rattle.records.specs.declared.record.RecordAnswer.{RecordAnswer}
-use Rattle.records.specs.declared.record.RecordAnswer.TheVariants.{Read, Unreadable}
+use Rattle.records.specs.declared.record.RecordRef.{RecordRef}
 use Rattle.records.specs.declared.record.Span.{Span}
 use Rattle.index.specs.Find.{find_in, slot_at}
 use Rattle.index.specs.Packed.{marked_byte, unmarked_byte, with_byte}
 use Rattle.index.specs.Segments.{most_segments}
 use Rattle.index.specs.View.{record_in}
 use Rattle.index.specs.Word.{marked, unmarked}
-use Rattle.index.specs.declared.find.FindAnswer.{FindAnswer}
-use Rattle.index.specs.declared.find.FindAnswer.TheVariants as find
 use Rattle.index.specs.declared.find.FoundRecord.{FoundRecord}
-use Rattle.index.specs.declared.slot.IndexSlot.{IndexSlot}
-use Rattle.index.specs.declared.slot.IndexSlot.TheVariants.{Empty, Used}
+use Rattle.index.specs.Slot.{IndexSlot}
 use Rattle.index.specs.declared.view.SegmentView.{SegmentView}
 use Rattle.sets.specs.Answers.{Reply, accept, refuse, get_reply, take_reply}
 use Rattle.sets.specs.Questions.{all, arena_holds, bytes_fit, counts_fit, decided, first_no, segment_areas_hold}
 use Rattle.sets.specs.Stats.{stats_of}
 use Rattle.sets.specs.declared.cache.FrozenSegmentCache.{FrozenSegmentCache}
-use Rattle.sets.specs.declared.cache.GetAnswer.{GetAnswer}
 use Rattle.sets.specs.declared.cache.SegmentBaseRecord.{SegmentBaseRecord}
-use Rattle.sets.specs.declared.cache.TakeAnswer.{TakeAnswer}
 use Rattle.sets.specs.declared.stats.SegmentCacheStats.{SegmentCacheStats}
 
 -- ---- question 1 of a finished set
@@ -71,7 +65,7 @@ abbrev pub view_of : FrozenSegmentCache → SegmentView
 view_of s = record { expiry = s.config.expiry; filled = s.filled; segments = s.segments }
 
 -- the record of a key, by the find of crates/index
-abbrev pub find_of : FrozenSegmentCache → ℕ → List ℕ → List ℕ → List ℕ → List ℕ → List ℕ → List ℕ → FindAnswer
+abbrev pub find_of : FrozenSegmentCache → ℕ → List ℕ → List ℕ → List ℕ → List ℕ → List ℕ → List ℕ → Option FoundRecord
 find_of s h key index filter starts lengths arena =
     find_in (view_of s) s.config.packed_bucket_index index s.buckets filter s.filter_words starts lengths arena key h
 
@@ -91,7 +85,7 @@ slot_accessed packed index slot = cond packed (nat_le 128 (slice_index (bytes_of
 -- ---- lookup: "A live hit sets its mark"
 
 unfoldable pub live_value : ℕ → FoundRecord → Reply (Option Span) (Unit {0})
-live_value tick y = cond (lives_at y.entry.expires_at tick) (accept (some y.entry.value)) (accept none)
+live_value tick y = cond (lives_at y.entry.expires_at tick) (accept (Some y.entry.value)) (accept None)
 
 unfoldable pub live_marked : ℕ → Bool → List ℕ → FoundRecord → List ℕ
 live_marked tick packed index y = cond (lives_at y.entry.expires_at tick) (slot_marked packed index y.slot) index
@@ -101,12 +95,12 @@ pub record Got : Type 0 where
   pub answer : Reply (Option Span) (Unit {0})
   pub index : List ℕ
 
-abbrev pub get_result : GetAnswer → List ℕ → Got
+abbrev pub get_result : Result (Option Span) SegmentCacheBuildError → List ℕ → Got
 get_result r index = record { answer = get_reply r; index = index }
 
-abbrev pub gotten : ℕ → Bool → List ℕ → FindAnswer → Got
-gotten tick packed index (find.Found y) = record { answer = live_value tick y; index = live_marked tick packed index y }
-gotten tick packed index find.Nothing = record { answer = accept none; index = index }
+abbrev pub gotten : ℕ → Bool → List ℕ → Option FoundRecord → Got
+gotten tick packed index (Some y) = record { answer = live_value tick y; index = live_marked tick packed index y }
+gotten tick packed index None = record { answer = accept None; index = index }
 
 abbrev pub got_refused : List ℕ → ℕ → Got
 got_refused index n = record { answer = refuse n tt; index = index }
@@ -129,12 +123,12 @@ pub record Taken : Type 0 where
   pub answer : Reply Bool (Unit {0})
   pub index : List ℕ
 
-abbrev pub take_result : TakeAnswer → List ℕ → Taken
+abbrev pub take_result : Result Bool SegmentCacheBuildError → List ℕ → Taken
 take_result r index = record { answer = take_reply r; index = index }
 
-abbrev pub taken_of : Bool → List ℕ → FindAnswer → Taken
-taken_of packed index (find.Found y) = record { answer = accept (slot_accessed packed index y.slot); index = slot_cleared packed index y.slot }
-taken_of packed index find.Nothing = record { answer = accept false; index = index }
+abbrev pub taken_of : Bool → List ℕ → Option FoundRecord → Taken
+taken_of packed index (Some y) = record { answer = accept (slot_accessed packed index y.slot); index = slot_cleared packed index y.slot }
+taken_of packed index None = record { answer = accept false; index = index }
 
 abbrev pub take_refused : List ℕ → ℕ → Taken
 take_refused index n = record { answer = refuse n tt; index = index }
@@ -160,9 +154,9 @@ base_record c tick y =
     }
 
 -- both tell of a find the record that it found
-abbrev pub tell_found : SegmentCacheConfig → ℕ → FindAnswer → Option SegmentBaseRecord
-tell_found c tick (find.Found y) = some (base_record c tick y)
-tell_found c tick find.Nothing = none
+abbrev pub tell_found : SegmentCacheConfig → ℕ → Option FoundRecord → Option SegmentBaseRecord
+tell_found c tick (Some y) = Some (base_record c tick y)
+tell_found c tick None = None
 
 unfoldable pub probe_answer : FrozenSegmentCache → ℕ → List ℕ → ℕ → List ℕ → List ℕ → List ℕ → List ℕ → List ℕ → Reply (Option SegmentBaseRecord) (Unit {0})
 probe_answer s h key tick index filter starts lengths arena =
@@ -172,24 +166,24 @@ probe_answer s h key tick index filter starts lengths arena =
 
 -- ---- the walk: the first slot from one on that names a readable record; no tag is compared
 
-abbrev pub named_by : (ℕ → RecordAnswer) → IndexSlot → RecordAnswer
-named_by read Empty = Unreadable
-named_by read (Used tag stored) = read stored
+abbrev pub named_by : (ℕ → Option RecordRef) → IndexSlot → Option RecordRef
+named_by read None = None
+named_by read (Some (tag, stored)) = read stored
 
-unfoldable pub entry_at : (ℕ → RecordAnswer) → Bool → ℕ → List ℕ → ℕ → RecordAnswer
+unfoldable pub entry_at : (ℕ → Option RecordRef) → Bool → ℕ → List ℕ → ℕ → Option RecordRef
 entry_at read packed buckets index slot = named_by read (slot_at packed buckets index slot)
 
 -- a record that can't be read is skipped
-abbrev pub found_or : ℕ → RecordAnswer → FindAnswer → FindAnswer
-found_or slot (Read r) after = find.Found (record { slot = slot; entry = r })
-found_or slot Unreadable after = after
+abbrev pub found_or : ℕ → Option RecordRef → Option FoundRecord → Option FoundRecord
+found_or slot (Some r) after = Some (record { slot = slot; entry = r })
+found_or slot None after = after
 
 -- of so many slots from one on
-unfoldable pub first_entry : (ℕ → RecordAnswer) → ℕ → ℕ → FindAnswer
-first_entry at slot zero = find.Nothing
+unfoldable pub first_entry : (ℕ → Option RecordRef) → ℕ → ℕ → Option FoundRecord
+first_entry at slot zero = None
 first_entry at slot (suc n) = found_or slot (at slot) (first_entry at (suc slot) n)
 
-unfoldable pub next_entry : (ℕ → RecordAnswer) → Bool → ℕ → List ℕ → ℕ → FindAnswer
+unfoldable pub next_entry : (ℕ → Option RecordRef) → Bool → ℕ → List ℕ → ℕ → Option FoundRecord
 next_entry read packed buckets index from = first_entry (entry_at read packed buckets index) from (8 * buckets - from)
 
 unfoldable pub walk_answer : FrozenSegmentCache → ℕ → ℕ → List ℕ → List ℕ → List ℕ → List ℕ → Reply (Option SegmentBaseRecord) (Unit {0})

@@ -1,21 +1,15 @@
--- Document 01, "The questions each call asks": what is asked of a setting, of a state's numbers and of the lengths of the areas lent with it.
+-- The questions each call asks: what is asked of a setting, of a state's numbers and of the lengths of the areas lent with it.
 -- Assumes nothing.
-use Rattle.std.specs.Prelude.{ℕ, zero, suc, ◌*◌, ◌^◌, Bool, true, false, cond, not, List, [], ◌∷◌, ◌==◌, nat_le, nat_lt}
+use Rattle.std.specs.Prelude.{ℕ, zero, suc, ◌*◌, ◌^◌, Bool, true, false, Result, Ok, Err, cond, not, List, [], ◌∷◌, ◌==◌, nat_le, nat_lt, Option, Some, None}
 use Rattle.hash_parts.specs.Duration.{ceil_div, nanos_of}
 use Rattle.hash_parts.specs.Error.{error_number}
-use Rattle.hash_parts.specs.declared.duration.EncodedExpiry.{EncodedExpiry}
-use Rattle.hash_parts.specs.declared.duration.EncodedExpiry.TheVariants as encoded
-use Rattle.hash_parts.specs.declared.duration.Lifetime.{Lifetime}
-use Rattle.hash_parts.specs.declared.duration.Lifetime.TheVariants as life
+use Rattle.hash_parts.specs.declared.duration.Duration.{Duration}
 use Rattle.hash_parts.specs.declared.error.SegmentCacheBuildError.{SegmentCacheBuildError}
-use Rattle.hash_parts.specs.declared.error.SegmentCacheBuildError.TheVariants.{ExpiryOutOfRange}
 use Rattle.hash_parts.specs.declared.setting.SegmentExpiry.{SegmentExpiry}
-use Rattle.hash_parts.specs.declared.setting.SegmentExpiry.TheVariants.{None, Relative16}
+use Rattle.hash_parts.specs.declared.setting.SegmentExpiry.TheVariants as setting
 use Rattle.hash_parts.specs.declared.setting.SegmentCacheConfig.{SegmentCacheConfig}
 use Rattle.index.specs.Build.{buckets_for}
 use Rattle.index.specs.Segments.{most_segments}
-use Rattle.sets.specs.declared.questions.Check.{Check}
-use Rattle.sets.specs.declared.questions.Check.TheVariants.{Passed, Refused}
 
 -- ---- questions in order
 
@@ -39,20 +33,20 @@ decided (suc n) left refused = refused (suc n)
 
 -- question 2: "Are nanoseconds below 1,000,000,000?" Of a tick, and of a lifetime
 unfoldable pub nanoseconds_fit : SegmentExpiry → Bool
-nanoseconds_fit None = true
-nanoseconds_fit (Relative16 tick) = nat_lt tick.nanos 1_000_000_000
+nanoseconds_fit setting.None = true
+nanoseconds_fit (setting.Relative16 tick) = nat_lt tick.nanos 1_000_000_000
 
-unfoldable pub lifetime_fits : Lifetime → Bool
-lifetime_fits life.Never = true
-lifetime_fits (life.For lifetime) = nat_lt lifetime.nanos 1_000_000_000
+unfoldable pub lifetime_fits : Option Duration → Bool
+lifetime_fits None = true
+lifetime_fits (Some lifetime) = nat_lt lifetime.nanos 1_000_000_000
 
 -- question 3: "occupancy 1 to 7? .. Tick length above zero?"
 unfoldable pub occupancy_fits : ℕ → Bool
 occupancy_fits occupied = all (nat_le 1 occupied ∷ nat_le occupied 7 ∷ [])
 
 unfoldable pub tick_runs : SegmentExpiry → Bool
-tick_runs None = true
-tick_runs (Relative16 tick) = not (nanos_of tick == 0)
+tick_runs setting.None = true
+tick_runs (setting.Relative16 tick) = not (nanos_of tick == 0)
 
 -- question 1: "Does the setting pass question 2 and question 3's occupancy and tick length"
 unfoldable pub setting_fits : SegmentCacheConfig → Bool
@@ -106,6 +100,15 @@ open_areas_hold c records index filter = all (nat_le (8 * buckets_in c records) 
 
 -- ---- the questions of open: all but question 1
 
+-- questions 2 and 3 of a setting and a number of records
+unfoldable pub ask_counts : SegmentCacheConfig → ℕ → List (Bool × ℕ)
+ask_counts c records =
+    (nanoseconds_fit c.expiry, 9)
+    ∷ (occupancy_fits c.target_occupied_slots, 1)
+    ∷ (tick_runs c.expiry, 2)
+    ∷ (nat_le records most_records, 3)
+    ∷ []
+
 unfoldable pub ask_open : SegmentCacheConfig → ℕ → ℕ → ℕ → ℕ → ℕ → ℕ → List (Bool × ℕ)
 ask_open c records index filter starts lengths arena =
     (nanoseconds_fit c.expiry, 9)
@@ -119,12 +122,7 @@ ask_open c records index filter starts lengths arena =
 
 -- ---- for private functions alone
 
--- the refusal in the answer of a deadline; where that has none, any
-abbrev pub deadline_refusal : EncodedExpiry → SegmentCacheBuildError
-deadline_refusal (encoded.Refused e) = e
-deadline_refusal (encoded.At d) = ExpiryOutOfRange
-
 -- the number of what a call's questions come to
-abbrev pub check_number : Check → ℕ
-check_number Passed = 0
-check_number (Refused e) = error_number e
+abbrev pub check_number : Result (Unit {0}) SegmentCacheBuildError → ℕ
+check_number (Ok passed) = 0
+check_number (Err e) = error_number e

@@ -1,16 +1,16 @@
--- Rebuilding a set: rebuild open, reused push, copied push, rebuild finish. Each call by the questions that it asks, in document 01's order, and by what it
+-- Rebuilding a set: rebuild open, reused push, copied push, rebuild finish. Each call by the questions that it asks, in their order, and by what it
 -- leaves. Rebuilt set: "Keeps chosen segments unmoved, appends copied records as one last segment after the filled arena (the rebuilt set's filled bytes are
 -- the source's plus the copied, whatever was dropped)".
 -- Assumes nothing.
-use Rattle.std.specs.Prelude.{ℕ, zero, suc, ◌+◌, ◌-◌, ◌*◌, ◌%◌, ◌^◌, Bool, true, false, cond, List, [], ◌∷◌, length, ◌==◌, nat_le, nat_lt, slice_index, slice_set}
+use Rattle.std.specs.Prelude.{ℕ, zero, suc, ◌+◌, ◌-◌, ◌*◌, ◌%◌, ◌^◌, Bool, true, false, Result, cond, List, [], ◌∷◌, length, ◌==◌, nat_le, nat_lt, slice_index, slice_set, Option, Some, None}
 use Rattle.hash_parts.specs.Duration.{encoded_expiry}
 use Rattle.hash_parts.specs.Hash.{tag_of}
 use Rattle.hash_parts.specs.Outcome.{Outcome}
-use Rattle.hash_parts.specs.declared.duration.Lifetime.{Lifetime}
+use Rattle.hash_parts.specs.declared.duration.Duration.{Duration}
+use Rattle.hash_parts.specs.declared.error.SegmentCacheBuildError.{SegmentCacheBuildError}
 use Rattle.records.specs.Area.{pasted, same_bytes, spanned, over}
 use Rattle.records.specs.Record.{record_bytes, record_size}
-use Rattle.records.specs.declared.record.RecordAnswer.{RecordAnswer}
-use Rattle.records.specs.declared.record.RecordAnswer.TheVariants.{Read, Unreadable}
+use Rattle.records.specs.declared.record.RecordRef.{RecordRef}
 use Rattle.index.specs.Build.{cleared, empty_slot}
 use Rattle.index.specs.Filter.{displaced_marked}
 use Rattle.index.specs.Packed.{packed_index, packed_scratch}
@@ -22,10 +22,8 @@ use Rattle.sets.specs.Answers.{Reply, accept, refuse, RebuildPlaced, rebuild_ope
 use Rattle.sets.specs.Kept.{chosen, is_kept, kept_count, kept_of, new_number, retained}
 use Rattle.sets.specs.Lookup.{set_fits}
 use Rattle.sets.specs.Questions.{all, arena_holds, buckets_in, bytes_fit, counts_fit, decided, filter_words_in, first_no, lifetime_fits, most_records, open_areas_hold, scratch_holds, segment_areas_hold}
+use Rattle.sets.specs.declared.builder.PushedRecord.{PushedRecord}
 use Rattle.sets.specs.declared.cache.FrozenSegmentCache.{FrozenSegmentCache}
-use Rattle.sets.specs.declared.rebuild.RebuildFinishAnswer.{RebuildFinishAnswer}
-use Rattle.sets.specs.declared.rebuild.RebuildOpenAnswer.{RebuildOpenAnswer}
-use Rattle.sets.specs.declared.rebuild.RebuildPushAnswer.{RebuildPushAnswer}
 use Rattle.sets.specs.declared.rebuild.SegmentRecordLocation.{SegmentRecordLocation}
 use Rattle.sets.specs.declared.rebuild.SharedSegmentCacheBuild.{SharedSegmentCacheBuild}
 use Rattle.sets.specs.declared.rebuild.SharedSegmentCacheBuilder.{SharedSegmentCacheBuilder}
@@ -118,9 +116,9 @@ pub record RebuildOpened : Type 0 where
   pub starts : List ℕ
   pub lengths : List ℕ
 
-abbrev pub rebuild_open_result : RebuildOpenAnswer → List ℕ → List ℕ → List ℕ → List ℕ → RebuildOpened
-rebuild_open_result r index filter starts lengths =
-    record { answer = rebuild_open_reply r; index = index; filter = filter; starts = starts; lengths = lengths }
+abbrev pub rebuild_open_result : Result SharedSegmentCacheBuilder SegmentCacheBuildError → FrozenSegmentCache → List ℕ → List ℕ → List ℕ → List ℕ → RebuildOpened
+rebuild_open_result r source index filter starts lengths =
+    record { answer = rebuild_open_reply source r; index = index; filter = filter; starts = starts; lengths = lengths }
 
 -- "Rebuild open writes the kept segments' starts and lengths, numbered anew in order, and 0 in the rest"
 unfoldable pub after_rebuild_open : FrozenSegmentCache → List ℕ → List ℕ → List ℕ → ℕ → ℕ → List ℕ → ℕ → List ℕ → List ℕ → List ℕ → List ℕ → RebuildOpened
@@ -147,9 +145,9 @@ abbrev pub moved_location : SharedSegmentCacheBuilder → ℕ → ℕ
 moved_location r location = location_in (new_number r.kept (segment_part location)) (offset_part location)
 
 -- "Does the location hold this key, value and header length?"
-unfoldable pub holds_record : List ℕ → List ℕ → ℕ → List ℕ → RecordAnswer → Bool
-holds_record key value header arena Unreadable = false
-holds_record key value header arena (Read y) =
+unfoldable pub holds_record : List ℕ → List ℕ → ℕ → List ℕ → Option RecordRef → Bool
+holds_record key value header arena None = false
+holds_record key value header arena (Some y) =
     all ((y.key_offset == header) ∷ same_bytes (spanned arena y.key) key ∷ same_bytes (spanned arena y.value) value ∷ [])
 
 -- questions 1 and 7; the filter by its length; "rebuild pushes walk after all their other questions"
@@ -194,8 +192,8 @@ pub record Reused : Type 0 where
   pub index : List ℕ
   pub filter : List ℕ
 
-abbrev pub reused_result : RebuildPushAnswer → List ℕ → List ℕ → Reused
-reused_result a index filter = record { answer = rebuild_push_reply a; index = index; filter = filter }
+abbrev pub reused_result : Result PushedRecord SegmentCacheBuildError → SharedSegmentCacheBuilder → List ℕ → List ℕ → Reused
+reused_result a r index filter = record { answer = rebuild_push_reply r a; index = index; filter = filter }
 
 abbrev pub reused_made : ℕ → SharedSegmentCacheBuilder → ℕ → ℕ → ℕ → SegmentRecordLocation → List ℕ → List ℕ → Reused
 reused_made slot r h key value source index filter =
@@ -220,7 +218,7 @@ after_reused r h key value source index filter starts lengths arena =
 -- ---- copied push
 
 -- "copies have a tick given at rebuild open as base"
-abbrev pub copied_deadline : SharedSegmentCacheBuilder → Lifetime → Outcome
+abbrev pub copied_deadline : SharedSegmentCacheBuilder → Option Duration → Outcome
 copied_deadline r ttl = encoded_expiry r.config.expiry ttl r.source_now_tick
 
 abbrev pub copied_size : SharedSegmentCacheBuilder → ℕ → ℕ → ℕ
@@ -234,7 +232,7 @@ abbrev pub copied_location : SharedSegmentCacheBuilder → ℕ
 copied_location r = location_in (retained r.kept) r.copied_bytes
 
 -- questions 1, 2 and 7; key, value, filter and arena by their lengths
-unfoldable pub ask_copied : SharedSegmentCacheBuilder → ℕ → ℕ → ℕ → Lifetime → List ℕ → ℕ → List ℕ → List ℕ → ℕ → List (Bool × ℕ)
+unfoldable pub ask_copied : SharedSegmentCacheBuilder → ℕ → ℕ → ℕ → Option Duration → List ℕ → ℕ → List ℕ → List ℕ → ℕ → List (Bool × ℕ)
 ask_copied r h key value ttl index filter starts lengths arena =
     (areas_hold_rebuild r (length index) starts lengths arena, 11)
     ∷ (nat_le r.filter_words filter, 11)
@@ -253,8 +251,8 @@ pub record Copied : Type 0 where
   pub filter : List ℕ
   pub arena : List ℕ
 
-abbrev pub copied_result : RebuildPushAnswer → List ℕ → List ℕ → List ℕ → Copied
-copied_result a index filter arena = record { answer = rebuild_push_reply a; index = index; filter = filter; arena = arena }
+abbrev pub copied_result : Result PushedRecord SegmentCacheBuildError → SharedSegmentCacheBuilder → List ℕ → List ℕ → List ℕ → Copied
+copied_result a r index filter arena = record { answer = rebuild_push_reply r a; index = index; filter = filter; arena = arena }
 
 abbrev pub copied_made : ℕ → ℕ → SharedSegmentCacheBuilder → ℕ → List ℕ → List ℕ → List ℕ → List ℕ → List ℕ → Copied
 copied_made slot deadline r h key value index filter arena =
@@ -271,7 +269,7 @@ copied_made slot deadline r h key value index filter arena =
       arena = pasted (rebuild_filled r) (record_bytes r.config.expiry key value deadline) arena;
     }
 
-unfoldable pub after_copied : SharedSegmentCacheBuilder → ℕ → List ℕ → List ℕ → Lifetime → List ℕ → List ℕ → List ℕ → List ℕ → List ℕ → Copied
+unfoldable pub after_copied : SharedSegmentCacheBuilder → ℕ → List ℕ → List ℕ → Option Duration → List ℕ → List ℕ → List ℕ → List ℕ → List ℕ → Copied
 after_copied r h key value ttl index filter starts lengths arena =
     decided (first_no (ask_copied r h (length key) (length value) ttl index (length filter) starts lengths (length arena)))
     (copied_made (empty_slot index r.bucket_count h).value (copied_deadline r ttl).value r h key value index filter arena)
@@ -329,9 +327,9 @@ pub record RebuildFinished : Type 0 where
   pub lengths : List ℕ
   pub scratch : List ℕ
 
-abbrev pub rebuild_finish_result : RebuildFinishAnswer → List ℕ → List ℕ → List ℕ → List ℕ → RebuildFinished
-rebuild_finish_result a index starts lengths scratch =
-    record { answer = rebuild_finish_reply a; index = index; starts = starts; lengths = lengths; scratch = scratch }
+abbrev pub rebuild_finish_result : Result SharedSegmentCacheBuild SegmentCacheBuildError → SharedSegmentCacheBuilder → List ℕ → List ℕ → List ℕ → List ℕ → RebuildFinished
+rebuild_finish_result a r index starts lengths scratch =
+    record { answer = rebuild_finish_reply r a; index = index; starts = starts; lengths = lengths; scratch = scratch }
 
 -- "its finish adds the last"
 abbrev pub with_last : SharedSegmentCacheBuilder → List ℕ → ℕ → List ℕ

@@ -3,7 +3,7 @@ ghost use Rattle.std.specs.Prelude.{◌≡◌, ◌≤◌, if◌then◌else◌};
 ghost use Rattle.sets.specs.Questions.{most_records};
 ghost use Rattle.sets.specs.Areas.{area_words_for, area_words_reply, words_needed};
 
-use crate::questions::{MAX_RECORDS, filter_words_for, nanoseconds_fit, occupancy_fits, tick_runs};
+use crate::questions::{check_counts, filter_words_for};
 use hash_parts::error::SegmentCacheBuildError;
 use hash_parts::setting::SegmentCacheConfig;
 use index::build::bucket_count;
@@ -11,7 +11,7 @@ use index::segments::MAX_RECORD_SEGMENTS;
 use index::word::BUCKET_SLOTS;
 
 // Words of 64 bits.
-#[derive(Clone, Copy)]
+#[derive(Clone, Copy, Debug, PartialEq, Eq)]
 pub struct AreaWords {
     pub index: usize,
     pub filter: usize,
@@ -21,32 +21,19 @@ pub struct AreaWords {
     pub scratch: usize,
 }
 
-#[derive(Clone, Copy)]
-pub enum AreaWordsAnswer {
-    Words(AreaWords),
-    Refused(SegmentCacheBuildError),
-}
-
 // The least lengths that open, finish and the rebuild calls take. An area may be longer.
-pub fn area_words(config: SegmentCacheConfig, entry_count: usize) -> AreaWordsAnswer
+#[tactic(auto, using(crate::proofs::Decides::decided_refused), unfolding(crate::specs::Areas::area_words_for, crate::specs::Questions::ask_counts, crate::specs::Questions::occupancy_fits))]
+pub fn area_words(
+    config: SegmentCacheConfig,
+    entry_count: usize,
+) -> Result<AreaWords, SegmentCacheBuildError>
     ensures { area_words_reply result ≡ area_words_for config entry_count }
 {
-    let expiry = config.expiry;
-    if !nanoseconds_fit(expiry) {
-        return AreaWordsAnswer::Refused(SegmentCacheBuildError::InvalidNanoseconds);
-    }
-    if !occupancy_fits(config.target_occupied_slots) {
-        return AreaWordsAnswer::Refused(SegmentCacheBuildError::InvalidBucketOccupancy);
-    }
-    if !tick_runs(expiry) {
-        return AreaWordsAnswer::Refused(SegmentCacheBuildError::ZeroExpiryTick);
-    }
-    if entry_count > MAX_RECORDS {
-        return AreaWordsAnswer::Refused(SegmentCacheBuildError::CapacityOverflow);
-    }
-    AreaWordsAnswer::Words(words_needed(config, entry_count))
+    check_counts(config, entry_count)?;
+    Ok(words_needed(config, entry_count))
 }
 
+#[tactic(auto, using(index::proofs::Buckets::buckets_few))]
 fn words_needed(config: SegmentCacheConfig, entry_count: usize) -> AreaWords
     requires { (entry_count ≤ most_records) × (config.target_occupied_slots ≤ 7) }
     ensures { result ≡ words_needed config entry_count }

@@ -7,128 +7,104 @@ ghost use Rattle.sets.specs.BuildPlans.{plan_push, plan_record, planned};
 
 use crate::builder::{PushPlan, SegmentCacheBuilder};
 use crate::questions::{
-    Check, arena_holds, bytes_fit, counts_fit, deadline_refusal, lifetime_fits, record_fits,
-    scratch_holds, segment_areas_hold, target_fits,
+    arena_holds, bytes_fit, counts_fit, lifetime_fits, record_fits, scratch_holds,
+    segment_areas_hold, target_fits,
 };
-use hash_parts::duration::{EncodedExpiry, Lifetime, encode_expiry_at_tick};
+use hash_parts::duration::{Duration, encode_expiry_at_tick};
 use hash_parts::error::SegmentCacheBuildError;
-use index::build::{BuildSlot, find_build_slot};
+use index::build::find_build_slot;
 use index::segments::locations_inside;
 use index::word::BUCKET_SLOTS;
+use records::record::Records;
 
 impl SegmentCacheBuilder {
     // Question 1: the state's own numbers.
+    #[tactic(auto, using(crate::proofs::Counts::counts_records), unfolding(crate::specs::Build::builder_fits))]
     fn fits(self) -> bool
         ensures { result ≡ builder_fits self }
     {
-        if !counts_fit(
+        let inserted = self.inserted_entries;
+        let keys = self.logical_key_bytes;
+        let values = self.logical_value_bytes;
+        counts_fit(
             self.config,
             self.expected_entries,
             self.bucket_count,
             self.filter_words,
-        ) {
-            return false;
-        }
-        let inserted = self.inserted_entries;
-        if inserted > self.expected_entries {
-            return false;
-        }
-        let keys = self.logical_key_bytes;
-        let values = self.logical_value_bytes;
-        if !bytes_fit(inserted, keys) {
-            return false;
-        }
-        if !bytes_fit(inserted, values) {
-            return false;
-        }
-        if keys + values > self.filled {
-            return false;
-        }
-        bytes_fit(inserted, self.filled - keys - values)
+        ) && inserted <= self.expected_entries
+            && bytes_fit(inserted, keys)
+            && bytes_fit(inserted, values)
+            && keys + values <= self.filled
+            && bytes_fit(inserted, self.filled - keys - values)
     }
 
     // Question 1: the index and the arena.
+    #[tactic(auto, unfolding(crate::specs::Build::areas_hold_builder))]
     fn areas_hold(self, index_len: usize, arena_len: usize) -> bool
         ensures { result ≡ areas_hold_builder self index_len arena_len }
     {
-        if !self.fits() {
-            return false;
-        }
-        if index_len / BUCKET_SLOTS < self.bucket_count {
-            return false;
-        }
-        arena_holds(self.filled, arena_len)
+        self.fits()
+            && self.bucket_count <= index_len / BUCKET_SLOTS
+            && arena_holds(self.filled, arena_len)
     }
 
     // The questions of a push.
+    #[tactic(auto, using(crate::proofs::Counts::builder_areas_asked, crate::proofs::Decides::decided_refused, crate::proofs::Decides::own_refused), unfolding(crate::specs::BuildPlans::plan_push, crate::specs::Build::ask_push, crate::specs::BuildPlans::plan_record, crate::specs::BuildPlans::ask_record))]
     pub(crate) fn plan_push(
         self,
         hash: u64,
         key: &[u8],
         value_bytes: usize,
-        ttl: Lifetime,
+        ttl: Option<Duration>,
         index: &[u64],
         filter_len: usize,
         arena: &[u8],
-    ) -> PushPlan
+    ) -> Result<PushPlan, SegmentCacheBuildError>
         ensures { planned result ≡ plan_push self hash key.now value_bytes ttl index.now filter_len arena.now }
     {
         if !self.areas_hold(index.len(), arena.len()) {
-            return PushPlan::Refused(SegmentCacheBuildError::InvalidState);
+            return Err(SegmentCacheBuildError::InvalidState);
         }
         if filter_len < self.filter_words {
-            return PushPlan::Refused(SegmentCacheBuildError::InvalidState);
+            return Err(SegmentCacheBuildError::InvalidState);
         }
         if !lifetime_fits(ttl) {
-            return PushPlan::Refused(SegmentCacheBuildError::InvalidNanoseconds);
+            return Err(SegmentCacheBuildError::InvalidNanoseconds);
         }
         if self.inserted_entries >= self.expected_entries {
-            return PushPlan::Refused(SegmentCacheBuildError::CapacityOverflow);
+            return Err(SegmentCacheBuildError::CapacityOverflow);
         }
-        let filled = self.filled;
-        let config = self.config;
-        let expiry = config.expiry;
-        match find_build_slot(
-            index,
-            self.bucket_count,
-            &arena[..filled],
-            expiry,
-            key,
-            hash,
-        ) {
-            BuildSlot::Duplicate => PushPlan::Refused(SegmentCacheBuildError::DuplicateKey),
-            BuildSlot::Full => PushPlan::Refused(SegmentCacheBuildError::CapacityOverflow),
-            BuildSlot::Empty(slot) => {
-                self.plan_record(slot, key.len(), value_bytes, ttl, arena.len())
-            }
-        }
+        let records = Records {
+            bytes: &arena[..self.filled],
+            expiry: self.config.expiry,
+        };
+        let slot = find_build_slot(index, self.bucket_count, records, key, hash)?;
+        self.plan_record(slot, key.len(), value_bytes, ttl, arena.len())
     }
 
     // The last of them: the deadline, and room in the arena.
+    #[tactic(auto, using(crate::proofs::Appends::room, crate::proofs::Decides::decided_refused, crate::proofs::Decides::own_refused), unfolding(crate::specs::BuildPlans::plan_record, crate::specs::BuildPlans::ask_record))]
     fn plan_record(
         self,
         slot: usize,
         key_bytes: usize,
         value_bytes: usize,
-        ttl: Lifetime,
+        ttl: Option<Duration>,
         arena_len: usize,
-    ) -> PushPlan
+    ) -> Result<PushPlan, SegmentCacheBuildError>
         requires { self.filled ≤ arena_len }
         ensures { planned result ≡ plan_record self slot key_bytes value_bytes ttl arena_len }
     {
-        let config = self.config;
-        let expiry = config.expiry;
-        let deadline = encode_expiry_at_tick(expiry, ttl, 0);
-        let EncodedExpiry::At(expires_at) = deadline else {
-            return PushPlan::Refused(deadline_refusal(deadline));
-        };
+        let expiry = self.config.expiry;
+        let expires_at = encode_expiry_at_tick(expiry, ttl, 0)?;
         if !record_fits(expiry, key_bytes, value_bytes, arena_len - self.filled) {
-            return PushPlan::Refused(SegmentCacheBuildError::AreaTooShort);
+            return Err(SegmentCacheBuildError::AreaTooShort);
         }
-        PushPlan::Place(slot, expires_at)
+        Ok(PushPlan { slot, expires_at })
     }
 
     // The questions of finish but the last, the number of segments.
+    #[tactic(auto, unfolding(crate::specs::Build::ask_finish))]
     pub(crate) fn check_finish(
         self,
         target: usize,
@@ -137,27 +113,27 @@ impl SegmentCacheBuilder {
         lengths_len: usize,
         scratch_len: usize,
         arena_len: usize,
-    ) -> Check
+    ) -> Result<(), SegmentCacheBuildError>
         ensures { check_number result ≡ first_no (take 6 (ask_finish self target index.now starts_len lengths_len scratch_len arena_len)) }
     {
         if !self.areas_hold(index.len(), arena_len) {
-            return Check::Refused(SegmentCacheBuildError::InvalidState);
+            return Err(SegmentCacheBuildError::InvalidState);
         }
         if !segment_areas_hold(starts_len, lengths_len) {
-            return Check::Refused(SegmentCacheBuildError::InvalidState);
+            return Err(SegmentCacheBuildError::InvalidState);
         }
         if self.inserted_entries != self.expected_entries {
-            return Check::Refused(SegmentCacheBuildError::CapacityOverflow);
+            return Err(SegmentCacheBuildError::CapacityOverflow);
         }
         if !target_fits(target) {
-            return Check::Refused(SegmentCacheBuildError::InvalidSegmentTarget);
+            return Err(SegmentCacheBuildError::InvalidSegmentTarget);
         }
         if !scratch_holds(self.config, self.bucket_count, scratch_len) {
-            return Check::Refused(SegmentCacheBuildError::AreaTooShort);
+            return Err(SegmentCacheBuildError::AreaTooShort);
         }
         if !locations_inside(index, self.bucket_count, self.filled) {
-            return Check::Refused(SegmentCacheBuildError::InvalidState);
+            return Err(SegmentCacheBuildError::InvalidState);
         }
-        Check::Passed
+        Ok(())
     }
 }

@@ -1,5 +1,5 @@
-// Building a set: opened for an announced number of records, filled by pushes, finished once. The
-// state goes in and comes back by value; index, filter, segment areas and arena are lent to each call.
+// Building a set: opened for an announced number of records, filled by pushes, finished once. Index,
+// filter, segment areas and arena are lent to each call.
 ghost use Rattle.std.specs.Prelude.{◌≡◌, ◌+◌, ◌*◌, ◌^◌, ◌<◌, ◌≤◌, length, if◌then◌else◌};
 ghost use Rattle.index.specs.Packed.{packed_index, packed_scratch};
 ghost use Rattle.records.specs.Record.{encoded_size, size_outcome};
@@ -7,19 +7,20 @@ ghost use Rattle.sets.specs.Questions.{most_arena_bytes, most_records};
 ghost use Rattle.sets.specs.Build.{after_finish, after_open, after_push, builder_grown, builder_opened, finish_result, open_result, push_end, push_made, push_result, set_of};
 
 use crate::cache::FrozenSegmentCache;
-use crate::questions::{Check, check_open, filter_words_for};
-use hash_parts::duration::Lifetime;
+use crate::questions::{check_open, filter_words_for};
+use hash_parts::duration::Duration;
 use hash_parts::error::SegmentCacheBuildError;
 use hash_parts::hash::hash_tag;
 use hash_parts::setting::SegmentCacheConfig;
 use index::build::{bucket_count, clear_words};
 use index::filter::mark_displaced;
 use index::packed::finish_packed_index;
-use index::segments::{SplitAnswer, split_record_segments};
+use index::segments::split_record_segments;
+use index::view::SegmentAreas;
 use index::word::{BUCKET_SLOTS, encode_index_word};
-use records::record::{SizeAnswer, append_record};
+use records::record::append_record;
 
-#[derive(Clone, Copy)]
+#[derive(Clone, Copy, Debug, PartialEq, Eq)]
 pub struct SegmentCacheBuilder {
     pub config: SegmentCacheConfig,
     pub expected_entries: usize,
@@ -32,69 +33,37 @@ pub struct SegmentCacheBuilder {
     pub logical_value_bytes: usize,
 }
 
-#[derive(Clone, Copy)]
-pub enum OpenAnswer {
-    Opened(SegmentCacheBuilder),
-    Refused(SegmentCacheBuildError),
-}
-
-#[derive(Clone, Copy)]
-pub enum PushAnswer {
-    Pushed {
-        builder: SegmentCacheBuilder,
-        slot: usize,
-        location: usize,
-    },
-    Refused {
-        refusal: SegmentCacheBuildError,
-        builder: SegmentCacheBuilder,
-    },
-}
-
-#[derive(Clone, Copy)]
-pub enum FinishAnswer {
-    Finished(FrozenSegmentCache),
-    Refused {
-        refusal: SegmentCacheBuildError,
-        builder: SegmentCacheBuilder,
-    },
+// Where a push put its record.
+#[derive(Clone, Copy, Debug, PartialEq, Eq)]
+pub struct PushedRecord {
+    pub slot: usize,
+    pub location: usize,
 }
 
 // Where a push will put its record, and with which deadline.
-#[derive(Clone, Copy)]
-pub(crate) enum PushPlan {
-    Place(usize, u16),
-    Refused(SegmentCacheBuildError),
+#[derive(Clone, Copy, Debug, PartialEq, Eq)]
+pub(crate) struct PushPlan {
+    pub slot: usize,
+    pub expires_at: u16,
 }
 
 impl SegmentCacheBuilder {
     // Opens a builder for so many records, and clears the index and filter words that they need.
+    #[tactic(auto, using(crate::proofs::Decides::decided_refused, crate::proofs::Asked::open_asked, crate::proofs::Asked::open_left_law, crate::proofs::Counts::counts_records), unfolding(crate::specs::Build::after_open))]
     pub fn try_new(
         config: SegmentCacheConfig,
         entry_count: usize,
         index: &mut [u64],
         filter: &mut [u64],
-        starts: &[u64],
-        lengths: &[u64],
-        arena: &[u8],
-    ) -> OpenAnswer
-        ensures { open_result result index.new filter.new ≡ after_open config entry_count index.old filter.old starts.now lengths.now arena.now }
+        areas: SegmentAreas<'_>,
+    ) -> Result<SegmentCacheBuilder, SegmentCacheBuildError>
+        ensures { open_result result index.new filter.new ≡ after_open config entry_count index.old filter.old areas.entry.starts.now areas.entry.lengths.now areas.entry.arena.now }
     {
-        if let Check::Refused(refusal) = check_open(
-            config,
-            entry_count,
-            index.len(),
-            filter.len(),
-            starts.len(),
-            lengths.len(),
-            arena.len(),
-        ) {
-            return OpenAnswer::Refused(refusal);
-        }
+        check_open(config, entry_count, index.len(), filter.len(), areas)?;
         let builder = opened_builder(config, entry_count);
         clear_words(index, builder.bucket_count * BUCKET_SLOTS);
         clear_words(filter, builder.filter_words);
-        OpenAnswer::Opened(builder)
+        Ok(builder)
     }
 
     // How many bytes a record of these lengths takes in a set of this setting.
@@ -102,47 +71,33 @@ impl SegmentCacheBuilder {
         config: SegmentCacheConfig,
         key_bytes: usize,
         value_bytes: usize,
-    ) -> SizeAnswer
+    ) -> Result<usize, SegmentCacheBuildError>
         ensures { size_outcome result ≡ encoded_size config.expiry key_bytes value_bytes }
     {
-        let expiry = config.expiry;
-        records::record::encoded_record_bytes(expiry, key_bytes, value_bytes)
+        records::record::encoded_record_bytes(config.expiry, key_bytes, value_bytes)
     }
 
-    // Adds a record whose key is new. A refusal leaves the areas as they were.
+    // Adds a record whose key is new. A refusal leaves builder and areas as they were.
+    #[tactic(auto, using(crate::proofs::Decides::planned_no, crate::proofs::Decides::planned_two, crate::proofs::Decides::decided_refused), unfolding(crate::specs::Build::after_push, crate::specs::BuildPlans::plan_push))]
     pub fn push(
-        self,
+        &mut self,
         hash: u64,
         key: &[u8],
         value: &[u8],
-        ttl: Lifetime,
+        ttl: Option<Duration>,
         index: &mut [u64],
         filter: &mut [u64],
         arena: &mut [u8],
-    ) -> PushAnswer
-        ensures { push_result result index.new filter.new arena.new ≡ after_push self hash key.now value.now ttl index.old filter.old arena.old }
+    ) -> Result<PushedRecord, SegmentCacheBuildError>
+        ensures { push_result result self.new index.new filter.new arena.new ≡ after_push self.old hash key.now value.now ttl index.old filter.old arena.old }
     {
-        match self.plan_push(
-            hash,
-            key,
-            value.len(),
-            ttl,
-            &index[..],
-            filter.len(),
-            &arena[..],
-        ) {
-            PushPlan::Refused(refusal) => PushAnswer::Refused {
-                refusal,
-                builder: self,
-            },
-            PushPlan::Place(slot, expires_at) => {
-                self.push_at(slot, expires_at, hash, key, value, index, filter, arena)
-            }
-        }
+        let plan = self.plan_push(hash, key, value.len(), ttl, index, filter.len(), arena)?;
+        Ok(self.push_at(plan, hash, key, value, index, filter, arena))
     }
 
     // Splits the records into segments and brings the index into the set's layout. Where there
-    // would be more than 256 segments, only the first 256 starts are written.
+    // would be more than 256 segments, only the first 256 starts are written. A refusal leaves the caller's builder open.
+    #[tactic(auto, using(crate::proofs::Splitting::finish_stopped, crate::proofs::Splitting::split_refused, crate::proofs::Splitting::split_made, crate::proofs::Asked::finish_asked))]
     pub fn finish(
         self,
         target: usize,
@@ -151,80 +106,66 @@ impl SegmentCacheBuilder {
         lengths: &mut [u64],
         scratch: &mut [u64],
         arena: &[u8],
-    ) -> FinishAnswer
-        ensures { finish_result result index.new starts.new lengths.new scratch.new ≡ after_finish self target index.old starts.old lengths.old scratch.old arena.now }
+    ) -> Result<FrozenSegmentCache, SegmentCacheBuildError>
+        ensures { finish_result result self index.new starts.new lengths.new scratch.new ≡ after_finish self target index.old starts.old lengths.old scratch.old arena.now }
     {
-        if let Check::Refused(refusal) = self.check_finish(
+        self.check_finish(
             target,
-            &index[..],
+            index,
             starts.len(),
             lengths.len(),
             scratch.len(),
             arena.len(),
-        ) {
-            return FinishAnswer::Refused {
-                refusal,
-                builder: self,
-            };
-        }
-        match split_record_segments(
-            index,
-            self.bucket_count,
-            self.filled,
-            target,
-            starts,
-            lengths,
-        ) {
-            SplitAnswer::Refused(refusal) => FinishAnswer::Refused {
-                refusal,
-                builder: self,
-            },
-            SplitAnswer::Segments(segments) => {
-                let packed = self.config.packed_bucket_index;
-                pack_index(packed, index, self.bucket_count, scratch);
-                FinishAnswer::Finished(self.into_cache(segments))
-            }
-        }
+        )?;
+        let buckets = self.bucket_count;
+        let segments = split_record_segments(index, buckets, self.filled, target, starts, lengths)?;
+        pack_index(self.config.packed_bucket_index, index, buckets, scratch);
+        Ok(self.into_cache(segments))
     }
 
     // Writes the record, then its word and its filter mark.
+    #[tactic(auto, using(crate::proofs::Appends::appended, crate::proofs::Appends::push_left_law, crate::proofs::Appends::size_holds))]
     fn push_at(
-        self,
-        slot: usize,
-        expires_at: u16,
+        &mut self,
+        plan: PushPlan,
         hash: u64,
         key: &[u8],
         value: &[u8],
         index: &mut [u64],
         filter: &mut [u64],
         arena: &mut [u8],
-    ) -> PushAnswer
-        requires { (push_end self (length key.now) (length value.now) ≤ length arena.old) × (length arena.old ≤ most_arena_bytes) × (slot < length index.old) × (self.inserted_entries < self.expected_entries) × (self.logical_key_bytes ≤ 2 ^ 50) × (self.logical_value_bytes ≤ 2 ^ 50) }
-        ensures { push_result result index.new filter.new arena.new ≡ push_made slot expires_at self hash key.now value.now index.old filter.old arena.old }
+    ) -> PushedRecord
+        requires room { push_end self.old (length key.now) (length value.now) ≤ length arena.old }
+        requires short { length arena.old ≤ most_arena_bytes }
+        requires slot { plan.slot < length index.old }
+        requires announced { self.old.inserted_entries < self.old.expected_entries }
+        requires key_bytes { self.old.logical_key_bytes ≤ 2 ^ 50 }
+        requires value_bytes { self.old.logical_value_bytes ≤ 2 ^ 50 }
+        ensures { push_result (Ok result) self.new index.new filter.new arena.new ≡ push_made plan.slot plan.expires_at self.old hash key.now value.now index.old filter.old arena.old }
     {
-        let filled = self.filled;
-        let config = self.config;
-        let expiry = config.expiry;
-        let size = append_record(&mut arena[filled..], expiry, key, value, expires_at);
-        index[slot] = encode_index_word(hash_tag(hash), filled as u64);
+        let PushPlan { slot, expires_at } = plan;
+        let location = self.filled;
+        let rest = &mut arena[location..];
+        let size = append_record(rest, self.config.expiry, key, value, expires_at);
+        index[slot] = encode_index_word(hash_tag(hash), location as u64);
         mark_displaced(filter, self.filter_words, hash, slot, self.bucket_count);
-        PushAnswer::Pushed {
-            builder: self.grown(size, key.len(), value.len()),
-            slot,
-            location: filled,
-        }
+        self.grow(size, key.len(), value.len());
+        PushedRecord { slot, location }
     }
 
-    // The state with one record more.
-    fn grown(mut self, size: usize, key_bytes: usize, value_bytes: usize) -> Self
-        requires { (self.inserted_entries < self.expected_entries) × (self.filled + size ≤ most_arena_bytes) × (self.logical_key_bytes ≤ 2 ^ 50) × (self.logical_value_bytes ≤ 2 ^ 50) × (key_bytes + value_bytes ≤ size) }
-        ensures { result ≡ builder_grown self size key_bytes value_bytes }
+    // Counts one record more.
+    fn grow(&mut self, size: usize, key_bytes: usize, value_bytes: usize)
+        requires announced { self.old.inserted_entries < self.old.expected_entries }
+        requires short { self.old.filled + size ≤ most_arena_bytes }
+        requires key_bytes { self.old.logical_key_bytes ≤ 2 ^ 50 }
+        requires value_bytes { self.old.logical_value_bytes ≤ 2 ^ 50 }
+        requires holds { key_bytes + value_bytes ≤ size }
+        ensures { self.new ≡ builder_grown self.old size key_bytes value_bytes }
     {
         self.inserted_entries += 1;
         self.filled += size;
         self.logical_key_bytes += key_bytes;
         self.logical_value_bytes += value_bytes;
-        self
     }
 
     // The finished set.
@@ -232,9 +173,8 @@ impl SegmentCacheBuilder {
         requires { self.logical_key_bytes + self.logical_value_bytes ≤ self.filled }
         ensures { result ≡ set_of self segments }
     {
-        let config = self.config;
         FrozenSegmentCache {
-            config,
+            config: self.config,
             entries: self.expected_entries,
             buckets: self.bucket_count,
             filter_words: self.filter_words,

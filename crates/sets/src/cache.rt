@@ -1,8 +1,9 @@
 // A finished set and its answers. The state is plain data that no call changes; marks stand in the
 // lent index.
-ghost use Rattle.std.specs.Prelude.{◌≡◌};
+ghost use Rattle.std.specs.Prelude.{◌≡◌, length};
 ghost use Rattle.sets.specs.Answers.{probe_reply, stats_reply, walk_reply};
-ghost use Rattle.sets.specs.Lookup.{areas_hold_lookup, areas_hold_set, after_get, after_peek, find_of, get_result, probe_answer, set_fits, stats_answer, after_take, take_result, view_of, walk_answer};
+ghost use Rattle.sets.specs.Questions.{check_number, first_no};
+ghost use Rattle.sets.specs.Lookup.{areas_hold_lookup, areas_hold_set, after_get, after_peek, ask_lookup, find_of, get_result, probe_answer, set_fits, stats_answer, after_take, take_result, view_of, walk_answer};
 
 use crate::lookup::{base_record, live_value, mark_live, next_entry};
 use crate::marks::clear_accessed;
@@ -11,13 +12,14 @@ use crate::stats::SegmentCacheStats;
 use hash_parts::duration::SegmentRemainingTtl;
 use hash_parts::error::SegmentCacheBuildError;
 use hash_parts::setting::SegmentCacheConfig;
-use index::find::{FindAnswer, FoundRecord, find_record};
+use index::filter::NegativeFilter;
+use index::find::{FinishedIndex, FoundRecord, find_record};
 use index::segments::MAX_RECORD_SEGMENTS;
-use index::view::SegmentView;
+use index::view::{SegmentAreas, SegmentView};
 use index::word::BUCKET_SLOTS;
 use records::record::Span;
 
-#[derive(Clone, Copy)]
+#[derive(Clone, Copy, Debug, PartialEq, Eq)]
 pub struct FrozenSegmentCache {
     pub config: SegmentCacheConfig,
     pub entries: usize,
@@ -35,7 +37,7 @@ pub struct FrozenSegmentCache {
 
 // A record as probe and walk tell it. Key and value are parts of the arena; location and end are
 // segment × 2^32 + offset.
-#[derive(Clone, Copy)]
+#[derive(Clone, Copy, Debug, PartialEq, Eq)]
 pub struct SegmentBaseRecord {
     pub slot: usize,
     pub location: usize,
@@ -43,45 +45,12 @@ pub struct SegmentBaseRecord {
     pub key: Span,
     pub value: Span,
     pub end: usize,
-    pub remaining_ttl: SegmentRemainingTtl,
-}
-
-#[derive(Clone, Copy)]
-pub enum GetAnswer {
-    Value(Span),
-    Nothing,
-    Refused(SegmentCacheBuildError),
-}
-
-#[derive(Clone, Copy)]
-pub enum TakeAnswer {
-    // Whether the mark was set; false too where no record was found.
-    Accessed(bool),
-    Refused(SegmentCacheBuildError),
-}
-
-#[derive(Clone, Copy)]
-pub enum ProbeAnswer {
-    Found(SegmentBaseRecord),
-    Nothing,
-    Refused(SegmentCacheBuildError),
-}
-
-#[derive(Clone, Copy)]
-pub enum WalkAnswer {
-    Entry(SegmentBaseRecord),
-    End,
-    Refused(SegmentCacheBuildError),
-}
-
-#[derive(Clone, Copy)]
-pub enum StatsAnswer {
-    Stats(SegmentCacheStats),
-    Refused(SegmentCacheBuildError),
+    pub remaining_ttl: Option<SegmentRemainingTtl>,
 }
 
 impl FrozenSegmentCache {
     // The value of a live record, as a part of the arena, and its mark set.
+    #[tactic(auto, using(crate::proofs::Finding::lookup_slot, crate::proofs::Decides::decided_refused), unfolding(crate::specs::Lookup::after_get, crate::specs::Lookup::ask_lookup))]
     pub fn get_at_tick(
         self,
         hash: u64,
@@ -89,31 +58,20 @@ impl FrozenSegmentCache {
         now_tick: u64,
         index: &mut [u64],
         filter: &[u64],
-        starts: &[u64],
-        lengths: &[u64],
-        arena: &[u8],
-    ) -> GetAnswer
-        ensures { get_result result index.new ≡ after_get self hash key.now now_tick index.old filter.now starts.now lengths.now arena.now }
+        areas: SegmentAreas<'_>,
+    ) -> Result<Option<Span>, SegmentCacheBuildError>
+        ensures { get_result result index.new ≡ after_get self hash key.now now_tick index.old filter.now areas.entry.starts.now areas.entry.lengths.now areas.entry.arena.now }
     {
-        if !self.lookup_areas_hold(
-            index.len(),
-            filter.len(),
-            starts.len(),
-            lengths.len(),
-            arena.len(),
-        ) {
-            return GetAnswer::Refused(SegmentCacheBuildError::InvalidState);
-        }
-        let answer = self.find(hash, key, &index[..], filter, starts, lengths, arena);
-        let FindAnswer::Found(found) = answer else {
-            return GetAnswer::Nothing;
+        self.check_lookup(index.len(), filter.len(), areas)?;
+        let Some(found) = self.find(hash, key, index, filter, areas) else {
+            return Ok(None);
         };
-        let packed = self.config.packed_bucket_index;
-        mark_live(found, now_tick, packed, index);
-        live_value(found, now_tick)
+        mark_live(found, now_tick, self.config.packed_bucket_index, index);
+        Ok(live_value(found, now_tick))
     }
 
     // The same with no mark set.
+    #[tactic(auto, using(crate::proofs::Decides::decided_refused), unfolding(crate::specs::Lookup::after_peek, crate::specs::Lookup::after_get, crate::specs::Lookup::ask_lookup))]
     pub fn peek_at_tick(
         self,
         hash: u64,
@@ -121,59 +79,38 @@ impl FrozenSegmentCache {
         now_tick: u64,
         index: &[u64],
         filter: &[u64],
-        starts: &[u64],
-        lengths: &[u64],
-        arena: &[u8],
-    ) -> GetAnswer
-        ensures { get_result result index.now ≡ after_peek self hash key.now now_tick index.now filter.now starts.now lengths.now arena.now }
+        areas: SegmentAreas<'_>,
+    ) -> Result<Option<Span>, SegmentCacheBuildError>
+        ensures { get_result result index.now ≡ after_peek self hash key.now now_tick index.now filter.now areas.entry.starts.now areas.entry.lengths.now areas.entry.arena.now }
     {
-        if !self.lookup_areas_hold(
-            index.len(),
-            filter.len(),
-            starts.len(),
-            lengths.len(),
-            arena.len(),
-        ) {
-            return GetAnswer::Refused(SegmentCacheBuildError::InvalidState);
-        }
-        let answer = self.find(hash, key, index, filter, starts, lengths, arena);
-        let FindAnswer::Found(found) = answer else {
-            return GetAnswer::Nothing;
+        self.check_lookup(index.len(), filter.len(), areas)?;
+        let Some(found) = self.find(hash, key, index, filter, areas) else {
+            return Ok(None);
         };
-        live_value(found, now_tick)
+        Ok(live_value(found, now_tick))
     }
 
     // Clears the mark of a record, lapsed or not, and says whether it was set.
+    #[tactic(auto, using(crate::proofs::Finding::lookup_slot, crate::proofs::Decides::decided_refused), unfolding(crate::specs::Lookup::after_take, crate::specs::Lookup::ask_lookup))]
     pub fn take_accessed(
         self,
         hash: u64,
         key: &[u8],
         index: &mut [u64],
         filter: &[u64],
-        starts: &[u64],
-        lengths: &[u64],
-        arena: &[u8],
-    ) -> TakeAnswer
-        ensures { take_result result index.new ≡ after_take self hash key.now index.old filter.now starts.now lengths.now arena.now }
+        areas: SegmentAreas<'_>,
+    ) -> Result<bool, SegmentCacheBuildError>
+        ensures { take_result result index.new ≡ after_take self hash key.now index.old filter.now areas.entry.starts.now areas.entry.lengths.now areas.entry.arena.now }
     {
-        if !self.lookup_areas_hold(
-            index.len(),
-            filter.len(),
-            starts.len(),
-            lengths.len(),
-            arena.len(),
-        ) {
-            return TakeAnswer::Refused(SegmentCacheBuildError::InvalidState);
-        }
-        let answer = self.find(hash, key, &index[..], filter, starts, lengths, arena);
-        let FindAnswer::Found(found) = answer else {
-            return TakeAnswer::Accessed(false);
+        self.check_lookup(index.len(), filter.len(), areas)?;
+        let Some(found) = self.find(hash, key, index, filter, areas) else {
+            return Ok(false);
         };
-        let packed = self.config.packed_bucket_index;
-        TakeAnswer::Accessed(clear_accessed(index, packed, found.slot))
+        Ok(clear_accessed(index, self.config.packed_bucket_index, found.slot))
     }
 
     // All that is known of a record, lapsed or not. No mark is set.
+    #[tactic(auto, using(crate::proofs::Decides::decided_refused), unfolding(crate::specs::Lookup::probe_answer, crate::specs::Lookup::ask_lookup))]
     pub fn probe_hashed_at_tick(
         self,
         hash: u64,
@@ -181,68 +118,49 @@ impl FrozenSegmentCache {
         now_tick: u64,
         index: &[u64],
         filter: &[u64],
-        starts: &[u64],
-        lengths: &[u64],
-        arena: &[u8],
-    ) -> ProbeAnswer
-        ensures { (probe_reply result ≡ probe_answer self hash key.now now_tick index.now filter.now starts.now lengths.now arena.now) × (index.now ≡ index.now) }
+        areas: SegmentAreas<'_>,
+    ) -> Result<Option<SegmentBaseRecord>, SegmentCacheBuildError>
+        ensures { (probe_reply result ≡ probe_answer self hash key.now now_tick index.now filter.now areas.entry.starts.now areas.entry.lengths.now areas.entry.arena.now) × (index.now ≡ index.now) }
     {
-        if !self.lookup_areas_hold(
-            index.len(),
-            filter.len(),
-            starts.len(),
-            lengths.len(),
-            arena.len(),
-        ) {
-            return ProbeAnswer::Refused(SegmentCacheBuildError::InvalidState);
-        }
-        let answer = self.find(hash, key, index, filter, starts, lengths, arena);
-        let FindAnswer::Found(found) = answer else {
-            return ProbeAnswer::Nothing;
+        self.check_lookup(index.len(), filter.len(), areas)?;
+        let Some(found) = self.find(hash, key, index, filter, areas) else {
+            return Ok(None);
         };
-        ProbeAnswer::Found(base_record(self.config, found, now_tick))
+        Ok(Some(base_record(self.config, found, now_tick)))
     }
 
     // A step of the walk over all records: the first from a slot on. The walk goes on from the
     // slot after the one answered. No mark is set.
+    #[tactic(auto, using(crate::proofs::Counts::set_index), unfolding(crate::specs::Lookup::walk_answer, crate::specs::Lookup::ask_walk))]
     pub fn next_physical_entry_at_tick(
         self,
         from: usize,
         now_tick: u64,
         index: &[u64],
-        starts: &[u64],
-        lengths: &[u64],
-        arena: &[u8],
-    ) -> WalkAnswer
-        ensures { (walk_reply result ≡ walk_answer self from now_tick index.now starts.now lengths.now arena.now) × (index.now ≡ index.now) }
+        areas: SegmentAreas<'_>,
+    ) -> Result<Option<SegmentBaseRecord>, SegmentCacheBuildError>
+        ensures { (walk_reply result ≡ walk_answer self from now_tick index.now areas.entry.starts.now areas.entry.lengths.now areas.entry.arena.now) × (index.now ≡ index.now) }
     {
-        if !self.areas_hold(index.len(), starts.len(), lengths.len(), arena.len()) {
-            return WalkAnswer::Refused(SegmentCacheBuildError::InvalidState);
-        }
-        let packed = self.config.packed_bucket_index;
-        let next = next_entry(
-            self.view(),
-            packed,
-            self.buckets,
-            from,
-            index,
+        let SegmentAreas {
             starts,
             lengths,
             arena,
-        );
-        let FindAnswer::Found(found) = next else {
-            return WalkAnswer::End;
-        };
-        WalkAnswer::Entry(base_record(self.config, found, now_tick))
+        } = areas;
+        if !self.areas_hold(index.len(), starts.len(), lengths.len(), arena.len()) {
+            return Err(SegmentCacheBuildError::InvalidState);
+        }
+        let found = next_entry(self.view(), self.finished_index(index), from, areas);
+        Ok(found.map(|found| base_record(self.config, found, now_tick)))
     }
 
-    pub fn stats(self) -> StatsAnswer
+    #[tactic(auto, using(crate::proofs::Finding::set_few, crate::proofs::Finding::stats_made), unfolding(crate::specs::Lookup::stats_answer, crate::specs::Lookup::ask_stats))]
+    pub fn stats(self) -> Result<SegmentCacheStats, SegmentCacheBuildError>
         ensures { stats_reply result ≡ stats_answer self }
     {
         if !self.fits() {
-            return StatsAnswer::Refused(SegmentCacheBuildError::InvalidState);
+            return Err(SegmentCacheBuildError::InvalidState);
         }
-        StatsAnswer::Stats(SegmentCacheStats {
+        Ok(SegmentCacheStats {
             entries: self.entries,
             buckets: self.buckets,
             index_slots: self.buckets * BUCKET_SLOTS,
@@ -261,29 +179,57 @@ impl FrozenSegmentCache {
         key: &[u8],
         index: &[u64],
         filter: &[u64],
-        starts: &[u64],
-        lengths: &[u64],
-        arena: &[u8],
-    ) -> FindAnswer
-        ensures { result ≡ find_of self hash key.now index.now filter.now starts.now lengths.now arena.now }
+        areas: SegmentAreas<'_>,
+    ) -> Option<FoundRecord>
+        ensures { result ≡ find_of self hash key.now index.now filter.now areas.entry.starts.now areas.entry.lengths.now areas.entry.arena.now }
     {
-        let packed = self.config.packed_bucket_index;
-        find_record(
-            self.view(),
-            packed,
-            index,
-            self.buckets,
-            filter,
-            self.filter_words,
+        let index = self.finished_index(index);
+        let filter = NegativeFilter {
+            words: filter,
+            count: self.filter_words,
+        };
+        find_record(self.view(), index, filter, areas, key, hash)
+    }
+
+    fn finished_index(self, words: &[u64]) -> FinishedIndex<'_>
+        ensures { (result.words.now ≡ words.now) × (result.packed ≡ self.config.packed_bucket_index) × (result.buckets ≡ self.buckets) }
+    {
+        FinishedIndex {
+            words,
+            packed: self.config.packed_bucket_index,
+            buckets: self.buckets,
+        }
+    }
+
+    // The question of a lookup.
+    #[tactic(auto, unfolding(crate::specs::Lookup::ask_lookup))]
+    fn check_lookup(
+        self,
+        index_len: usize,
+        filter_len: usize,
+        areas: SegmentAreas<'_>,
+    ) -> Result<(), SegmentCacheBuildError>
+        ensures { check_number result ≡ first_no (ask_lookup self index_len filter_len (length areas.entry.starts.now) (length areas.entry.lengths.now) (length areas.entry.arena.now)) }
+    {
+        let SegmentAreas {
             starts,
             lengths,
             arena,
-            key,
-            hash,
-        )
+        } = areas;
+        if !self.lookup_areas_hold(
+            index_len,
+            filter_len,
+            starts.len(),
+            lengths.len(),
+            arena.len(),
+        ) {
+            return Err(SegmentCacheBuildError::InvalidState);
+        }
+        Ok(())
     }
 
-    // Question 1 of a lookup: all five areas.
+    // Question 1 of a lookup: all five areas. They go by their lengths: a caller may have no more of them.
+    #[tactic(auto, unfolding(crate::specs::Lookup::areas_hold_lookup))]
     pub fn lookup_areas_hold(
         self,
         index_len: usize,
@@ -294,48 +240,36 @@ impl FrozenSegmentCache {
     ) -> bool
         ensures { result ≡ areas_hold_lookup self index_len filter_len starts_len lengths_len arena_len }
     {
-        if !self.areas_hold(index_len, starts_len, lengths_len, arena_len) {
-            return false;
-        }
-        self.filter_words <= filter_len
+        self.areas_hold(index_len, starts_len, lengths_len, arena_len)
+            && self.filter_words <= filter_len
     }
 
     // What a reader must know of the set.
     pub fn view(self) -> SegmentView
         ensures { result ≡ view_of self }
     {
-        let config = self.config;
-        let expiry = config.expiry;
         SegmentView {
-            expiry,
+            expiry: self.config.expiry,
             filled: self.filled,
             segments: self.segments,
         }
     }
 
     // Question 1: the state's own numbers.
+    #[tactic(auto, using(crate::proofs::Counts::counts_records), unfolding(crate::specs::Lookup::set_fits))]
     pub fn fits(self) -> bool
         ensures { result ≡ set_fits self }
     {
-        if !counts_fit(self.config, self.entries, self.buckets, self.filter_words) {
-            return false;
-        }
-        if self.segments < 1 {
-            return false;
-        }
-        if self.segments > MAX_RECORD_SEGMENTS {
-            return false;
-        }
-        if !bytes_fit(self.entries, self.logical_key_bytes) {
-            return false;
-        }
-        if !bytes_fit(self.entries, self.logical_value_bytes) {
-            return false;
-        }
-        bytes_fit(self.entries, self.record_header_bytes)
+        counts_fit(self.config, self.entries, self.buckets, self.filter_words)
+            && self.segments >= 1
+            && self.segments <= MAX_RECORD_SEGMENTS
+            && bytes_fit(self.entries, self.logical_key_bytes)
+            && bytes_fit(self.entries, self.logical_value_bytes)
+            && bytes_fit(self.entries, self.record_header_bytes)
     }
 
     // Question 1: index, segment areas and arena.
+    #[tactic(auto, unfolding(crate::specs::Lookup::areas_hold_set))]
     pub fn areas_hold(
         self,
         index_len: usize,
@@ -345,15 +279,9 @@ impl FrozenSegmentCache {
     ) -> bool
         ensures { result ≡ areas_hold_set self index_len starts_len lengths_len arena_len }
     {
-        if !self.fits() {
-            return false;
-        }
-        if index_len / BUCKET_SLOTS < self.buckets {
-            return false;
-        }
-        if !segment_areas_hold(starts_len, lengths_len) {
-            return false;
-        }
-        arena_holds(self.filled, arena_len)
+        self.fits()
+            && self.buckets <= index_len / BUCKET_SLOTS
+            && segment_areas_hold(starts_len, lengths_len)
+            && arena_holds(self.filled, arena_len)
     }
 }

@@ -10,8 +10,9 @@ const WORD_BITS: usize = 64;
 
 const WORDS: usize = 4;
 
-// Bit g % 64 of word g / 64 says whether segment g is kept.
-#[derive(Clone, Copy)]
+// Bit g % 64 of word g / 64 says whether segment g is kept. Not an array: in clauses that is a list of any
+// length, and each law of a rebuild would have to ask for four.
+#[derive(Clone, Copy, Debug, PartialEq, Eq)]
 pub struct KeptSegments {
     pub w0: u64,
     pub w1: u64,
@@ -46,6 +47,7 @@ impl KeptSegments {
     }
 
     // Whether a segment is kept.
+    #[tactic(auto, using(crate::proofs::KeptWords::is_kept_bit))]
     pub(crate) fn is_kept(self, segment: usize) -> bool
         ensures { result ≡ is_kept self segment }
     {
@@ -58,15 +60,14 @@ impl KeptSegments {
         ensures { result ≡ count_true (flat_map (bits_of 64) (take count (kept_words self))) }
     {
         let mut kept = 0;
-        let mut at = 0;
-        while at < count {
-            kept += u64::count_ones(self.word(at)) as usize;
-            at += 1;
+        for at in 0..count {
+            kept += self.word(at).count_ones() as usize;
         }
         kept
     }
 
     // How many segments are kept.
+    #[tactic(auto, using(crate::proofs::KeptWords::retained_words))]
     pub(crate) fn retained(self) -> usize
         ensures { result ≡ retained self }
     {
@@ -74,6 +75,7 @@ impl KeptSegments {
     }
 
     // The number of a kept segment in the rebuilt set.
+    #[tactic(auto, using(crate::proofs::KeptWords::new_number_sum, crate::proofs::KeptWords::new_number_256))]
     pub(crate) fn new_number(self, segment: usize) -> usize
         requires { segment < most_segments }
         ensures { result ≡ new_number self segment }
@@ -84,6 +86,7 @@ impl KeptSegments {
 }
 
 // Whether a bit of a word is set.
+#[tactic(auto, using(crate::proofs::KeptWords::bit_at))]
 fn bit_set(word: u64, at: usize) -> bool
     requires { at ≤ 63 }
     ensures { result ≡ slice_index_or (bits_of 64 word) at false }
@@ -96,7 +99,7 @@ fn set_bits(word: u64, count: usize) -> usize
     requires { count ≤ 63 }
     ensures { result ≡ count_true (bits_of count word) }
 {
-    u64::count_ones(word % (1u64 << count)) as usize
+    (word % (1u64 << count)).count_ones() as usize
 }
 
 // The word of 64 flags from one on; those past the last count as 0.
@@ -105,39 +108,28 @@ fn flag_word(flags: &[u8], from: usize) -> u64
     ensures { result ≡ flag_word (part from 64 flags.now) }
 {
     let mut word = 0;
-    let mut left = WORD_BITS;
-    while left > 0 {
-        left -= 1;
-        word = word * 2 + flag_bit(flags, from + left);
+    for at in (0..WORD_BITS).rev() {
+        word = word * 2 + flag_bit(flags, from + at);
     }
     word
 }
 
+#[tactic(auto, using(crate::proofs::KeptWords::flag_out, crate::proofs::KeptWords::flag_dropped, crate::proofs::KeptWords::flag_kept))]
 fn flag_bit(flags: &[u8], at: usize) -> u64
     ensures { result ≡ flag_word (part at 1 flags.now) }
 {
-    if at >= flags.len() {
-        return 0;
+    match flags.get(at) {
+        Some(&flag) if flag != 0 => 1,
+        _ => 0,
     }
-    if flags[at] == 0 {
-        return 0;
-    }
-    1
 }
 
 // How many flags keep their segment.
+#[tactic(auto, using(crate::proofs::KeptWords::kept_count_by))]
 pub(crate) fn kept_count(flags: &[u8]) -> usize
     ensures { result ≡ kept_count flags.now }
 {
-    let mut count = 0;
-    let mut left = flags.len();
-    while left > 0 {
-        left -= 1;
-        if flags[left] != 0 {
-            count += 1;
-        }
-    }
-    count
+    flags.iter().filter(|&&flag| flag != 0).count()
 }
 
 // Writes the words whose flag keeps them to the front of an area, in order.
@@ -146,12 +138,9 @@ pub(crate) fn copy_kept(flags: &[u8], words: &[u64], area: &mut [u64])
     ensures { area.new ≡ over (chosen flags.now words.now) area.old }
 {
     let mut kept = 0;
-    let mut next = 0;
-    while next < flags.len() {
-        let i = next;
-        next += 1;
-        if flags[i] != 0 {
-            area[kept] = words[i];
+    for (&flag, &word) in flags.iter().zip(words) {
+        if flag != 0 {
+            area[kept] = word;
             kept += 1;
         }
     }

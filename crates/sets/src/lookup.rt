@@ -4,29 +4,29 @@ ghost use Rattle.index.specs.View.{record_in};
 ghost use Rattle.sets.specs.Answers.{get_reply};
 ghost use Rattle.sets.specs.Lookup.{base_record, entry_at, live_marked, live_value, next_entry};
 
-use crate::cache::{GetAnswer, SegmentBaseRecord};
+use crate::cache::SegmentBaseRecord;
 use crate::marks::mark_accessed;
 use hash_parts::duration::{lives_at_tick, remaining_ttl};
 use hash_parts::setting::SegmentCacheConfig;
-use index::find::{FindAnswer, FoundRecord, slot_at};
-use index::slot::IndexSlot;
-use index::view::{SegmentView, record_at_location};
+use index::find::{FinishedIndex, FoundRecord};
+use index::view::{SegmentAreas, SegmentView};
 use index::word::BUCKET_SLOTS;
-use records::record::RecordAnswer;
+use records::record::{RecordRef, Span};
 
 // The value of a record, where it lives.
-pub(crate) fn live_value(found: FoundRecord, now_tick: u64) -> GetAnswer
-    ensures { get_reply result ≡ live_value now_tick found }
+#[tactic(auto, unfolding(crate::specs::Lookup::live_value))]
+pub(crate) fn live_value(found: FoundRecord, now_tick: u64) -> Option<Span>
+    ensures { get_reply (Ok result) ≡ live_value now_tick found }
 {
     let entry = found.entry;
     if !lives_at_tick(entry.expires_at, now_tick) {
-        return GetAnswer::Nothing;
+        return None;
     }
-    let value = entry.value;
-    GetAnswer::Value(value)
+    Some(entry.value)
 }
 
 // Sets the mark of a record, where it lives.
+#[tactic(auto, unfolding(crate::specs::Lookup::live_marked))]
 pub(crate) fn mark_live(found: FoundRecord, now_tick: u64, packed: bool, index: &mut [u64])
     requires { found.slot < length index.old }
     ensures { index.new ≡ live_marked now_tick packed index.old found }
@@ -45,62 +45,47 @@ pub(crate) fn base_record(
 ) -> SegmentBaseRecord
     ensures { result ≡ base_record config now_tick found }
 {
-    let expiry = config.expiry;
     let entry = found.entry;
-    let key = entry.key;
-    let value = entry.value;
     SegmentBaseRecord {
         slot: found.slot,
         location: entry.location,
         key_offset: entry.key_offset,
-        key,
-        value,
+        key: entry.key,
+        value: entry.value,
         end: entry.end,
-        remaining_ttl: remaining_ttl(expiry, entry.expires_at, now_tick),
+        remaining_ttl: remaining_ttl(config.expiry, entry.expires_at, now_tick),
     }
 }
 
 // The first record from a slot on, with its deadline as it is stored.
+#[tactic(auto, using(crate::proofs::WalkSteps::entry_hit, crate::proofs::WalkSteps::entry_miss, crate::proofs::WalkSteps::entry_none), unfolding(crate::specs::Lookup::next_entry))]
 pub(crate) fn next_entry(
     view: SegmentView,
-    packed: bool,
-    buckets: usize,
+    index: FinishedIndex<'_>,
     from: usize,
-    index: &[u64],
-    starts: &[u64],
-    lengths: &[u64],
-    arena: &[u8],
-) -> FindAnswer
-    requires { 8 * buckets ≤ length index.now }
-    ensures { result ≡ next_entry (record_in view arena.now starts.now lengths.now) packed buckets index.now from }
+    areas: SegmentAreas<'_>,
+) -> Option<FoundRecord>
+    requires { 8 * index.buckets ≤ length index.words.now }
+    ensures { result ≡ next_entry (record_in view areas.entry.arena.now areas.entry.starts.now areas.entry.lengths.now) index.entry.packed index.entry.buckets index.entry.words.now from }
 {
-    let slots = buckets * BUCKET_SLOTS;
-    let mut slot = from;
-    while slot < slots {
-        let read = entry_at(view, packed, buckets, slot, index, starts, lengths, arena);
-        if let RecordAnswer::Read(entry) = read {
-            return FindAnswer::Found(FoundRecord { slot, entry });
+    for slot in from..index.buckets * BUCKET_SLOTS {
+        if let Some(entry) = entry_at(view, index, slot, areas) {
+            return Some(FoundRecord { slot, entry });
         }
-        slot += 1;
     }
-    FindAnswer::Nothing
+    None
 }
 
 // The record that a slot names.
+#[tactic(auto, unfolding(crate::specs::Lookup::entry_at))]
 fn entry_at(
     view: SegmentView,
-    packed: bool,
-    buckets: usize,
+    index: FinishedIndex<'_>,
     slot: usize,
-    index: &[u64],
-    starts: &[u64],
-    lengths: &[u64],
-    arena: &[u8],
-) -> RecordAnswer
-    ensures { result ≡ entry_at (record_in view arena.now starts.now lengths.now) packed buckets index.now slot }
+    areas: SegmentAreas<'_>,
+) -> Option<RecordRef>
+    ensures { result ≡ entry_at (record_in view areas.entry.arena.now areas.entry.starts.now areas.entry.lengths.now) index.entry.packed index.entry.buckets index.entry.words.now slot }
 {
-    let IndexSlot::Used(_, stored) = slot_at(index, packed, buckets, slot) else {
-        return RecordAnswer::Unreadable;
-    };
-    record_at_location(view, arena, starts, lengths, stored)
+    let (_, stored) = index.slot_at(slot)?;
+    view.record_at_location(areas, stored)
 }

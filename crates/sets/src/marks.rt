@@ -6,6 +6,7 @@ ghost use Rattle.sets.specs.Lookup.{slot_accessed, slot_cleared, slot_marked};
 use index::packed::{clear_control, mark_control};
 use index::word::BUCKET_SLOTS;
 
+#[tactic(auto, unfolding(crate::specs::Lookup::slot_marked))]
 pub(crate) fn mark_accessed(index: &mut [u64], packed: bool, slot: usize)
     requires { slot < length index.old }
     ensures { index.new ≡ slot_marked packed index.old slot }
@@ -19,6 +20,7 @@ pub(crate) fn mark_accessed(index: &mut [u64], packed: bool, slot: usize)
 }
 
 // Clears a mark and says whether it was set.
+#[tactic(auto, unfolding(crate::specs::Lookup::slot_cleared, crate::specs::Lookup::slot_accessed))]
 pub(crate) fn clear_accessed(index: &mut [u64], packed: bool, slot: usize) -> bool
     requires { slot < length index.old }
     ensures { (result ≡ slot_accessed packed index.old slot) × (index.new ≡ slot_cleared packed index.old slot) }

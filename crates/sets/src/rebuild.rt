@@ -1,5 +1,5 @@
 // Rebuilding a set: a new index over segments that are kept where they are and records copied behind
-// them. The state goes in and comes back by value; all areas are lent to each call.
+// them. All areas are lent to each call.
 ghost use Rattle.std.specs.Prelude.{◌≡◌, ◌+◌, ◌*◌, ◌^◌, ◌<◌, ◌≤◌, true, length, set, slice_set};
 ghost use Rattle.hash_parts.specs.Hash.{tag_of};
 ghost use Rattle.records.specs.Area.{over};
@@ -10,30 +10,30 @@ ghost use Rattle.sets.specs.Questions.{most_arena_bytes, most_records};
 ghost use Rattle.sets.specs.Kept.{chosen, is_kept, retained};
 ghost use Rattle.sets.specs.Rebuild.{after_copied, after_rebuild_finish, after_rebuild_open, after_reused, copied_grown, copied_made, copied_result, copied_size, rebuild_filled, rebuild_finish_result, rebuild_open_result, rebuild_opened, reused_grown, reused_made, reused_result};
 
-use crate::builder::{PushPlan, pack_index};
+use crate::builder::{PushPlan, PushedRecord, pack_index};
 use crate::cache::FrozenSegmentCache;
 use crate::kept::{KeptSegments, copy_kept};
-use crate::questions::{Check, filter_words_for};
-use crate::rebuild_questions::{SEGMENT_BYTES, SlotPlan, check_rebuild_open};
-use hash_parts::duration::Lifetime;
+use crate::questions::filter_words_for;
+use crate::rebuild_questions::{SEGMENT_BYTES, check_rebuild_open};
+use hash_parts::duration::Duration;
 use hash_parts::error::SegmentCacheBuildError;
 use hash_parts::hash::hash_tag;
 use hash_parts::setting::SegmentCacheConfig;
 use index::build::{bucket_count, clear_words};
 use index::filter::mark_displaced;
 use index::segments::MAX_RECORD_SEGMENTS;
+use index::view::SegmentAreas;
 use index::word::{BUCKET_SLOTS, encode_index_word};
 use records::record::append_record;
-use std::num::wrapping_add_usize;
 
 // Where a record stands in the source, and how many bytes precede its key.
-#[derive(Clone, Copy)]
+#[derive(Clone, Copy, Debug, PartialEq, Eq)]
 pub struct SegmentRecordLocation {
     pub location: usize,
     pub header_bytes: usize,
 }
 
-#[derive(Clone, Copy)]
+#[derive(Clone, Copy, Debug, PartialEq, Eq)]
 pub struct SharedSegmentCacheBuilder {
     pub config: SegmentCacheConfig,
     pub expected_entries: usize,
@@ -54,7 +54,7 @@ pub struct SharedSegmentCacheBuilder {
 }
 
 // The rebuilt set, and what it took.
-#[derive(Clone, Copy)]
+#[derive(Clone, Copy, Debug, PartialEq, Eq)]
 pub struct SharedSegmentCacheBuild {
     pub cache: FrozenSegmentCache,
     pub reused_entries: usize,
@@ -63,45 +63,13 @@ pub struct SharedSegmentCacheBuild {
     pub newly_allocated_bytes: usize,
 }
 
-#[derive(Clone, Copy)]
-pub enum RebuildOpenAnswer {
-    Opened(SharedSegmentCacheBuilder),
-    Refused {
-        refusal: SegmentCacheBuildError,
-        source: FrozenSegmentCache,
-    },
-}
-
-#[derive(Clone, Copy)]
-pub enum RebuildPushAnswer {
-    Pushed {
-        builder: SharedSegmentCacheBuilder,
-        slot: usize,
-        location: usize,
-    },
-    Refused {
-        refusal: SegmentCacheBuildError,
-        builder: SharedSegmentCacheBuilder,
-    },
-}
-
-#[derive(Clone, Copy)]
-pub enum RebuildFinishAnswer {
-    Finished(SharedSegmentCacheBuild),
-    Refused {
-        refusal: SegmentCacheBuildError,
-        builder: SharedSegmentCacheBuilder,
-    },
-}
-
 impl SharedSegmentCacheBuilder {
     // Opens a rebuild of a source: clears the index and filter words that so many records need, and
     // numbers the kept segments anew.
+    #[tactic(auto, using(crate::proofs::Decides::decided_refused, crate::proofs::RebuildAsked::reopen_asked, crate::proofs::Counts::counts_records, crate::proofs::RebuildSteps::reopen_left_law), unfolding(crate::specs::Rebuild::after_rebuild_open))]
     pub fn try_new(
         source: FrozenSegmentCache,
-        source_starts: &[u64],
-        source_lengths: &[u64],
-        arena: &[u8],
+        source_areas: SegmentAreas<'_>,
         entry_count: usize,
         copied_record_capacity: usize,
         used_source_segments: &[u8],
@@ -110,14 +78,12 @@ impl SharedSegmentCacheBuilder {
         filter: &mut [u64],
         starts: &mut [u64],
         lengths: &mut [u64],
-    ) -> RebuildOpenAnswer
-        ensures { rebuild_open_result result index.new filter.new starts.new lengths.new ≡ after_rebuild_open source source_starts.now source_lengths.now arena.now entry_count copied_record_capacity used_source_segments.now source_now_tick index.old filter.old starts.old lengths.old }
+    ) -> Result<SharedSegmentCacheBuilder, SegmentCacheBuildError>
+        ensures { rebuild_open_result result source index.new filter.new starts.new lengths.new ≡ after_rebuild_open source source_areas.entry.starts.now source_areas.entry.lengths.now source_areas.entry.arena.now entry_count copied_record_capacity used_source_segments.now source_now_tick index.old filter.old starts.old lengths.old }
     {
-        if let Check::Refused(refusal) = check_rebuild_open(
+        check_rebuild_open(
             source,
-            source_starts,
-            source_lengths,
-            arena.len(),
+            source_areas,
             entry_count,
             copied_record_capacity,
             used_source_segments,
@@ -125,91 +91,67 @@ impl SharedSegmentCacheBuilder {
             filter.len(),
             starts.len(),
             lengths.len(),
-        ) {
-            return RebuildOpenAnswer::Refused { refusal, source };
-        }
+        )?;
         let builder = opened_rebuild(source, entry_count, used_source_segments, source_now_tick);
         clear_words(index, builder.bucket_count * BUCKET_SLOTS);
         clear_words(filter, builder.filter_words);
-        keep_words(used_source_segments, source_starts, starts);
-        keep_words(used_source_segments, source_lengths, lengths);
-        RebuildOpenAnswer::Opened(builder)
+        keep_words(used_source_segments, source_areas.starts, starts);
+        keep_words(used_source_segments, source_areas.lengths, lengths);
+        Ok(builder)
     }
 
-    // Takes over a record of a kept segment. A refusal leaves the areas as they were.
+    // Takes over a record of a kept segment. A refusal leaves rebuild and areas as they were.
+    #[tactic(auto, using(crate::proofs::Decides::planned_no, crate::proofs::Decides::planned_yes, crate::proofs::Decides::decided_refused), unfolding(crate::specs::Rebuild::after_reused, crate::specs::RebuildPlans::plan_reused))]
     pub fn push_reused(
-        self,
+        &mut self,
         hash: u64,
         key: &[u8],
         value: &[u8],
         source: SegmentRecordLocation,
         index: &mut [u64],
         filter: &mut [u64],
-        starts: &[u64],
-        lengths: &[u64],
-        arena: &[u8],
-    ) -> RebuildPushAnswer
-        ensures { reused_result result index.new filter.new ≡ after_reused self hash key.now value.now source index.old filter.old starts.now lengths.now arena.now }
+        areas: SegmentAreas<'_>,
+    ) -> Result<PushedRecord, SegmentCacheBuildError>
+        ensures { reused_result result self.new index.new filter.new ≡ after_reused self.old hash key.now value.now source index.old filter.old areas.entry.starts.now areas.entry.lengths.now areas.entry.arena.now }
     {
-        match self.plan_reused(
-            hash,
-            key,
-            value,
-            source,
-            &index[..],
-            filter.len(),
-            starts,
-            lengths,
-            arena,
-        ) {
-            SlotPlan::Refused(refusal) => RebuildPushAnswer::Refused {
-                refusal,
-                builder: self,
-            },
-            SlotPlan::Slot(slot) => {
-                self.reused_at(slot, hash, key.len(), value.len(), source, index, filter)
-            }
-        }
+        let slot = self.plan_reused(hash, key, value, source, index, filter.len(), areas)?;
+        Ok(self.reused_at(slot, hash, key.len(), value.len(), source, index, filter))
     }
 
     // Copies a record behind the filled arena. Key and value can't be parts of the arena, which is lent to be
-    // written: the caller copies them first. A refusal leaves the areas as they were.
+    // written: the caller copies them first. A refusal leaves rebuild and areas as they were.
+    #[tactic(auto, using(crate::proofs::Decides::planned_no, crate::proofs::Decides::planned_two, crate::proofs::Decides::decided_refused), unfolding(crate::specs::Rebuild::after_copied, crate::specs::RebuildPlans::plan_copied))]
     pub fn push_copied(
-        self,
+        &mut self,
         hash: u64,
         key: &[u8],
         value: &[u8],
-        ttl: Lifetime,
+        ttl: Option<Duration>,
         index: &mut [u64],
         filter: &mut [u64],
         starts: &[u64],
         lengths: &[u64],
         arena: &mut [u8],
-    ) -> RebuildPushAnswer
-        ensures { copied_result result index.new filter.new arena.new ≡ after_copied self hash key.now value.now ttl index.old filter.old starts.now lengths.now arena.old }
+    ) -> Result<PushedRecord, SegmentCacheBuildError>
+        ensures { copied_result result self.new index.new filter.new arena.new ≡ after_copied self.old hash key.now value.now ttl index.old filter.old starts.now lengths.now arena.old }
     {
-        match self.plan_copied(
+        let plan = self.plan_copied(
             hash,
             key.len(),
             value.len(),
             ttl,
-            &index[..],
+            index,
             filter.len(),
             starts,
             lengths,
             arena.len(),
-        ) {
-            PushPlan::Refused(refusal) => RebuildPushAnswer::Refused {
-                refusal,
-                builder: self,
-            },
-            PushPlan::Place(slot, expires_at) => {
-                self.copied_at(slot, expires_at, hash, key, value, index, filter, arena)
-            }
-        }
+        )?;
+        Ok(self.copied_at(plan, hash, key, value, index, filter, arena))
     }
 
-    // Adds the segment of the copied records and brings the index into the set's layout.
+    // Adds the segment of the copied records and brings the index into the set's layout. A refusal leaves the caller's
+    // rebuild open.
+    #[tactic(auto, using(crate::proofs::Decides::decided_refused, crate::proofs::RebuildAsked::refinish_asked, crate::proofs::KeptBits::retained_256, crate::proofs::RebuildSteps::adds_few, crate::proofs::RebuildSteps::sum_inside, crate::proofs::RebuildSteps::refinish_left_law), unfolding(crate::specs::Rebuild::after_rebuild_finish))]
     pub fn finish(
         self,
         index: &mut [u64],
@@ -217,31 +159,25 @@ impl SharedSegmentCacheBuilder {
         lengths: &mut [u64],
         scratch: &mut [u64],
         arena: &[u8],
-    ) -> RebuildFinishAnswer
-        ensures { rebuild_finish_result result index.new starts.new lengths.new scratch.new ≡ after_rebuild_finish self index.old starts.old lengths.old scratch.old arena.now }
+    ) -> Result<SharedSegmentCacheBuild, SegmentCacheBuildError>
+        ensures { rebuild_finish_result result self index.new starts.new lengths.new scratch.new ≡ after_rebuild_finish self index.old starts.old lengths.old scratch.old arena.now }
     {
-        if let Check::Refused(refusal) = self.check_finish(
-            index.len(),
-            &starts[..],
-            &lengths[..],
-            scratch.len(),
-            arena.len(),
-        ) {
-            return RebuildFinishAnswer::Refused {
-                refusal,
-                builder: self,
-            };
-        }
-        let build = self.into_build(&lengths[..]);
+        self.check_finish(index.len(), starts, lengths, scratch.len(), arena.len())?;
+        let build = self.into_build(lengths);
         self.add_segment(starts, lengths);
-        let packed = self.config.packed_bucket_index;
-        pack_index(packed, index, self.bucket_count, scratch);
-        RebuildFinishAnswer::Finished(build)
+        pack_index(
+            self.config.packed_bucket_index,
+            index,
+            self.bucket_count,
+            scratch,
+        );
+        Ok(build)
     }
 
     // Writes the word and the filter mark of a record of a kept segment.
+    #[tactic(auto, using(crate::proofs::RebuildSteps::reused_left_law))]
     fn reused_at(
-        self,
+        &mut self,
         slot: usize,
         hash: u64,
         key_bytes: usize,
@@ -249,46 +185,50 @@ impl SharedSegmentCacheBuilder {
         source: SegmentRecordLocation,
         index: &mut [u64],
         filter: &mut [u64],
-    ) -> RebuildPushAnswer
-        requires { (is_kept self.kept (segment_part source.location) ≡ true) × (slot < length index.old) × (self.inserted_entries < self.expected_entries) × (self.logical_key_bytes + key_bytes < 2 ^ 64) × (self.logical_value_bytes + value_bytes < 2 ^ 64) × (self.record_header_bytes + source.header_bytes < 2 ^ 64) }
-        ensures { reused_result result index.new filter.new ≡ reused_made slot self hash key_bytes value_bytes source index.old filter.old }
+    ) -> PushedRecord
+        requires kept { is_kept self.old.kept (segment_part source.location) ≡ true }
+        requires slot { slot < length index.old }
+        requires announced { self.old.inserted_entries < self.old.expected_entries }
+        requires key_bytes { self.old.logical_key_bytes + key_bytes < 2 ^ 64 }
+        requires value_bytes { self.old.logical_value_bytes + value_bytes < 2 ^ 64 }
+        requires header_bytes { self.old.record_header_bytes + source.header_bytes < 2 ^ 64 }
+        ensures { reused_result (Ok result) self.new index.new filter.new ≡ reused_made slot self.old hash key_bytes value_bytes source index.old filter.old }
     {
         let location = self.moved_location(source.location);
         self.push_index(slot, hash, location, index, filter);
-        RebuildPushAnswer::Pushed {
-            builder: self.reused_grown(source.header_bytes, key_bytes, value_bytes),
-            slot,
-            location,
-        }
+        self.count_reused(source.header_bytes, key_bytes, value_bytes);
+        PushedRecord { slot, location }
     }
 
     // Writes the record, then its word and its filter mark.
+    #[tactic(auto, using(crate::proofs::Appends::appended, crate::proofs::Appends::size_holds, crate::proofs::RebuildSteps::copied_left_law))]
     fn copied_at(
-        self,
-        slot: usize,
-        expires_at: u16,
+        &mut self,
+        plan: PushPlan,
         hash: u64,
         key: &[u8],
         value: &[u8],
         index: &mut [u64],
         filter: &mut [u64],
         arena: &mut [u8],
-    ) -> RebuildPushAnswer
-        requires { (rebuild_filled self + copied_size self (length key.now) (length value.now) ≤ length arena.old) × (length arena.old ≤ most_arena_bytes) × (retained self.kept < most_segments) × (slot < length index.old) × (self.inserted_entries < self.expected_entries) × (self.logical_key_bytes ≤ 2 ^ 50) × (self.logical_value_bytes ≤ 2 ^ 50) × (self.record_header_bytes ≤ 2 ^ 50) }
-        ensures { copied_result result index.new filter.new arena.new ≡ copied_made slot expires_at self hash key.now value.now index.old filter.old arena.old }
+    ) -> PushedRecord
+        requires room { rebuild_filled self.old + copied_size self.old (length key.now) (length value.now) ≤ length arena.old }
+        requires short { length arena.old ≤ most_arena_bytes }
+        requires segment { retained self.old.kept < most_segments }
+        requires slot { plan.slot < length index.old }
+        requires announced { self.old.inserted_entries < self.old.expected_entries }
+        requires key_bytes { self.old.logical_key_bytes ≤ 2 ^ 50 }
+        requires value_bytes { self.old.logical_value_bytes ≤ 2 ^ 50 }
+        requires header_bytes { self.old.record_header_bytes ≤ 2 ^ 50 }
+        ensures { copied_result (Ok result) self.new index.new filter.new arena.new ≡ copied_made plan.slot plan.expires_at self.old hash key.now value.now index.old filter.old arena.old }
     {
-        let filled = self.source_filled + self.copied_bytes;
-        let config = self.config;
-        let expiry = config.expiry;
-        let size = append_record(&mut arena[filled..], expiry, key, value, expires_at);
-        let kept = self.kept;
-        let location = kept.retained() * SEGMENT_BYTES + self.copied_bytes;
+        let PushPlan { slot, expires_at } = plan;
+        let rest = &mut arena[self.source_filled + self.copied_bytes..];
+        let size = append_record(rest, self.config.expiry, key, value, expires_at);
+        let location = self.kept.retained() * SEGMENT_BYTES + self.copied_bytes;
         self.push_index(slot, hash, location, index, filter);
-        RebuildPushAnswer::Pushed {
-            builder: self.copied_grown(size, key.len(), value.len()),
-            slot,
-            location,
-        }
+        self.count_copied(size, key.len(), value.len());
+        PushedRecord { slot, location }
     }
 
     // The word of a record, and its filter mark.
@@ -307,34 +247,40 @@ impl SharedSegmentCacheBuilder {
         mark_displaced(filter, self.filter_words, hash, slot, self.bucket_count);
     }
 
-    // The state with one reused record more. The totals of reused records are free numbers: they
-    // wrap at 64 bits.
-    fn reused_grown(mut self, header_bytes: usize, key_bytes: usize, value_bytes: usize) -> Self
-        requires { (self.inserted_entries < self.expected_entries) × (self.logical_key_bytes + key_bytes < 2 ^ 64) × (self.logical_value_bytes + value_bytes < 2 ^ 64) × (self.record_header_bytes + header_bytes < 2 ^ 64) }
-        ensures { result ≡ reused_grown self header_bytes key_bytes value_bytes }
+    // Counts one reused record more. The totals of reused records are free numbers: they wrap at 64 bits.
+    fn count_reused(&mut self, header_bytes: usize, key_bytes: usize, value_bytes: usize)
+        requires announced { self.old.inserted_entries < self.old.expected_entries }
+        requires key_bytes { self.old.logical_key_bytes + key_bytes < 2 ^ 64 }
+        requires value_bytes { self.old.logical_value_bytes + value_bytes < 2 ^ 64 }
+        requires header_bytes { self.old.record_header_bytes + header_bytes < 2 ^ 64 }
+        ensures { self.new ≡ reused_grown self.old header_bytes key_bytes value_bytes }
     {
-        let with_header = wrapping_add_usize(self.reused_record_bytes, header_bytes);
-        let with_key = wrapping_add_usize(with_header, key_bytes);
         self.inserted_entries += 1;
         self.logical_key_bytes += key_bytes;
         self.logical_value_bytes += value_bytes;
         self.record_header_bytes += header_bytes;
-        self.reused_entries = wrapping_add_usize(self.reused_entries, 1);
-        self.reused_record_bytes = wrapping_add_usize(with_key, value_bytes);
-        self
+        self.reused_entries = self.reused_entries.wrapping_add(1);
+        let with_header = self.reused_record_bytes.wrapping_add(header_bytes);
+        self.reused_record_bytes = with_header
+            .wrapping_add(key_bytes)
+            .wrapping_add(value_bytes);
     }
 
-    // The state with one copied record more.
-    fn copied_grown(mut self, size: usize, key_bytes: usize, value_bytes: usize) -> Self
-        requires { (self.inserted_entries < self.expected_entries) × (self.copied_bytes + size ≤ most_arena_bytes) × (key_bytes + value_bytes ≤ size) × (self.logical_key_bytes ≤ 2 ^ 50) × (self.logical_value_bytes ≤ 2 ^ 50) × (self.record_header_bytes ≤ 2 ^ 50) }
-        ensures { result ≡ copied_grown self size key_bytes value_bytes }
+    // Counts one copied record more.
+    fn count_copied(&mut self, size: usize, key_bytes: usize, value_bytes: usize)
+        requires announced { self.old.inserted_entries < self.old.expected_entries }
+        requires short { self.old.copied_bytes + size ≤ most_arena_bytes }
+        requires holds { key_bytes + value_bytes ≤ size }
+        requires key_bytes { self.old.logical_key_bytes ≤ 2 ^ 50 }
+        requires value_bytes { self.old.logical_value_bytes ≤ 2 ^ 50 }
+        requires header_bytes { self.old.record_header_bytes ≤ 2 ^ 50 }
+        ensures { self.new ≡ copied_grown self.old size key_bytes value_bytes }
     {
         self.inserted_entries += 1;
         self.copied_bytes += size;
         self.logical_key_bytes += key_bytes;
         self.logical_value_bytes += value_bytes;
         self.record_header_bytes += size - key_bytes - value_bytes;
-        self
     }
 }
 
@@ -348,14 +294,13 @@ fn opened_rebuild(
     ensures { result ≡ rebuild_opened source entry_count used_source_segments.now source_now_tick }
 {
     let config = source.config;
-    let kept = KeptSegments::from_flags(used_source_segments);
     SharedSegmentCacheBuilder {
         config,
         expected_entries: entry_count,
         inserted_entries: 0,
         bucket_count: bucket_count(entry_count, config.target_occupied_slots),
         filter_words: filter_words_for(entry_count, config.negative_filter_bits_per_entry),
-        kept,
+        kept: KeptSegments::from_flags(used_source_segments),
         source_filled: source.filled,
         copied_bytes: 0,
         logical_key_bytes: 0,
@@ -368,6 +313,7 @@ fn opened_rebuild(
 }
 
 // The kept words of a source's segment area in a new one, and 0 in the rest of its 256.
+#[tactic(auto, using(crate::proofs::RebuildSteps::kept_most, crate::proofs::KeptBits::chosen_length, crate::proofs::RebuildSteps::over_cleared))]
 fn keep_words(flags: &[u8], words: &[u64], area: &mut [u64])
     requires { (length flags.now ≤ length words.now) × (length flags.now ≤ most_segments) × (most_segments ≤ length area.old) }
     ensures { area.new ≡ over (padded (chosen flags.now words.now)) area.old }

@@ -6,12 +6,13 @@ ghost use Rattle.sets.specs.Questions.{check_number, counts_fit, first_no, most_
 ghost use Rattle.sets.specs.Rebuild.{adds_segment, ask_rebuild_finish, build_of, rebuild_filled, rebuilt_set, sum_of, with_last};
 
 use crate::cache::FrozenSegmentCache;
-use crate::questions::{Check, scratch_holds};
+use crate::questions::scratch_holds;
 use crate::rebuild::{SharedSegmentCacheBuild, SharedSegmentCacheBuilder};
 use hash_parts::error::SegmentCacheBuildError;
 
 impl SharedSegmentCacheBuilder {
     // The questions of finish.
+    #[tactic(auto, unfolding(crate::specs::Rebuild::ask_rebuild_finish))]
     pub(crate) fn check_finish(
         self,
         index_len: usize,
@@ -19,48 +20,51 @@ impl SharedSegmentCacheBuilder {
         lengths: &[u64],
         scratch_len: usize,
         arena_len: usize,
-    ) -> Check
+    ) -> Result<(), SegmentCacheBuildError>
         ensures { check_number result ≡ first_no (ask_rebuild_finish self index_len starts.now lengths.now scratch_len arena_len) }
     {
         if !self.areas_hold(index_len, starts, lengths, arena_len) {
-            return Check::Refused(SegmentCacheBuildError::InvalidState);
+            return Err(SegmentCacheBuildError::InvalidState);
         }
         if self.inserted_entries != self.expected_entries {
-            return Check::Refused(SegmentCacheBuildError::CapacityOverflow);
+            return Err(SegmentCacheBuildError::CapacityOverflow);
         }
         if !scratch_holds(self.config, self.bucket_count, scratch_len) {
-            return Check::Refused(SegmentCacheBuildError::AreaTooShort);
+            return Err(SegmentCacheBuildError::AreaTooShort);
         }
-        Check::Passed
+        Ok(())
     }
 
     // No segment is added for no copied bytes, unless none is kept.
+    #[tactic(auto, unfolding(crate::specs::Rebuild::adds_segment))]
     fn adds_segment(self) -> bool
         ensures { result ≡ adds_segment self }
     {
-        if self.copied_bytes != 0 {
-            return true;
-        }
-        let kept = self.kept;
-        kept.retained() == 0
+        self.copied_bytes != 0 || self.kept.retained() == 0
     }
 
     // The start and the length of the segment of the copied records, where there is one.
+    #[tactic(auto, using(crate::proofs::RebuildSteps::adds_below))]
     pub(crate) fn add_segment(self, starts: &mut [u64], lengths: &mut [u64])
-        requires { (most_segments ≤ length starts.old) × (most_segments ≤ length lengths.old) × (retained self.kept + (if adds_segment self then 1 else 0) ≤ most_segments) }
+        requires starts { most_segments ≤ length starts.old }
+        requires lengths { most_segments ≤ length lengths.old }
+        requires few { retained self.kept + (if adds_segment self then 1 else 0) ≤ most_segments }
         ensures { (starts.new ≡ with_last self starts.old self.source_filled) × (lengths.new ≡ with_last self lengths.old self.copied_bytes) }
     {
         if self.adds_segment() {
-            let kept = self.kept;
-            let last = kept.retained();
+            let last = self.kept.retained();
             starts[last] = self.source_filled as u64;
             lengths[last] = self.copied_bytes as u64;
         }
     }
 
     // The finished set, and what it took.
+    #[tactic(auto, using(crate::proofs::Finding::few_buckets, crate::proofs::Finding::few_words))]
     pub(crate) fn into_build(self, lengths: &[u64]) -> SharedSegmentCacheBuild
-        requires { (retained self.kept ≤ length lengths.now) × (sum_of (retained self.kept) lengths.now ≤ 2 ^ 38) × (rebuild_filled self ≤ most_arena_bytes) × (counts_fit self.config self.expected_entries self.bucket_count self.filter_words ≡ true) }
+        requires lengths { retained self.kept ≤ length lengths.now }
+        requires sum { sum_of (retained self.kept) lengths.now ≤ 2 ^ 38 }
+        requires short { rebuild_filled self ≤ most_arena_bytes }
+        requires counts { counts_fit self.config self.expected_entries self.bucket_count self.filter_words ≡ true }
         ensures { result ≡ build_of self lengths.now }
     {
         let index_bytes = self.bucket_count * 64 + self.filter_words * 8;
@@ -74,19 +78,19 @@ impl SharedSegmentCacheBuilder {
     }
 
     fn into_cache(self, lengths: &[u64]) -> FrozenSegmentCache
-        requires { (retained self.kept ≤ length lengths.now) × (sum_of (retained self.kept) lengths.now ≤ 2 ^ 38) × (rebuild_filled self ≤ most_arena_bytes) }
+        requires lengths { retained self.kept ≤ length lengths.now }
+        requires sum { sum_of (retained self.kept) lengths.now ≤ 2 ^ 38 }
+        requires short { rebuild_filled self ≤ most_arena_bytes }
         ensures { result ≡ rebuilt_set self lengths.now }
     {
-        let config = self.config;
-        let kept = self.kept;
         FrozenSegmentCache {
-            config,
+            config: self.config,
             entries: self.expected_entries,
             buckets: self.bucket_count,
             filter_words: self.filter_words,
             segments: self.segment_count(),
             filled: self.source_filled + self.copied_bytes,
-            record_bytes: sum_of(lengths, kept.retained()) + self.copied_bytes,
+            record_bytes: sum_of(lengths, self.kept.retained()) + self.copied_bytes,
             logical_key_bytes: self.logical_key_bytes,
             logical_value_bytes: self.logical_value_bytes,
             record_header_bytes: self.record_header_bytes,
@@ -94,28 +98,28 @@ impl SharedSegmentCacheBuilder {
     }
 
     // The kept segments, and that of the copied records.
+    #[tactic(auto, using(crate::proofs::KeptBits::retained_256))]
     fn segment_count(self) -> usize
         ensures { result ≡ retained self.kept + (if adds_segment self then 1 else 0) }
     {
-        let kept = self.kept;
-        let retained = kept.retained();
+        let retained = self.kept.retained();
         if self.adds_segment() {
-            return retained + 1;
+            retained + 1
+        } else {
+            retained
         }
-        retained
     }
 }
 
 // The sum of the first words of an area.
 fn sum_of(words: &[u64], count: usize) -> usize
-    requires { (count ≤ length words.now) × (sum_of count words.now < 2 ^ 64) }
+    requires inside { count ≤ length words.now }
+    requires fits { sum_of count words.now < 2 ^ 64 }
     ensures { result ≡ sum_of count words.now }
 {
     let mut sum = 0;
-    let mut i = 0;
-    while i < count {
-        sum += words[i] as usize;
-        i += 1;
+    for &word in &words[..count] {
+        sum += word as usize;
     }
     sum
 }

@@ -1,7 +1,6 @@
 // The questions of rebuilds, which only read. Every number of a state and of the areas lent to it is
 // free: sums are made only after what bounds them was asked.
-ghost use Rattle.std.specs.Prelude.{◌≡◌, ◌+◌, ◌*◌, ◌/◌, ◌^◌, ◌<◌, ◌≤◌, true, length};
-ghost use Rattle.records.specs.declared.record.RecordAnswer.TheVariants as readings;
+ghost use Rattle.std.specs.Prelude.{◌≡◌, ◌+◌, ◌*◌, ◌/◌, ◌^◌, ◌<◌, ◌≤◌, true, Some, length};
 ghost use Rattle.index.specs.View.{record_in};
 ghost use Rattle.index.specs.Word.{segment_part};
 ghost use Rattle.sets.specs.BuildPlans.{planned};
@@ -14,59 +13,42 @@ use crate::builder::PushPlan;
 use crate::cache::FrozenSegmentCache;
 use crate::kept::kept_count;
 use crate::questions::{
-    Check, MAX_RECORDS, arena_holds, bytes_fit, counts_fit, deadline_refusal, lifetime_fits,
-    open_areas_hold, record_fits, segment_areas_hold,
+    MAX_RECORDS, arena_holds, bytes_fit, counts_fit, lifetime_fits, open_areas_hold, record_fits,
+    segment_areas_hold,
 };
 use crate::rebuild::{SegmentRecordLocation, SharedSegmentCacheBuilder};
-use hash_parts::duration::{EncodedExpiry, Lifetime, encode_expiry_at_tick};
+use hash_parts::duration::{Duration, encode_expiry_at_tick};
 use hash_parts::error::SegmentCacheBuildError;
-use index::build::{BuildSlot, find_empty_build_slot};
+use index::build::find_empty_build_slot;
 use index::segments::MAX_RECORD_SEGMENTS;
-use index::view::{SegmentView, record_at_location};
+use index::view::{SegmentAreas, SegmentView};
 use index::word::BUCKET_SLOTS;
-use records::record::{RecordAnswer, RecordRef, same_bytes, value_slice};
+use records::record::{RecordRef, same_bytes, value_slice};
 
 // Locations in records and states are a usize.
 pub(crate) const SEGMENT_BYTES: usize = index::word::SEGMENT_BYTES as usize;
 
-// Where a reused push will put its word.
-#[derive(Clone, Copy)]
-pub(crate) enum SlotPlan {
-    Slot(usize),
-    Refused(SegmentCacheBuildError),
-}
-
 impl SharedSegmentCacheBuilder {
     // Question 1: the state's own numbers.
+    #[tactic(auto, using(crate::proofs::Counts::counts_records, crate::proofs::RebuildSteps::segment_most, crate::proofs::KeptBits::retained_256), unfolding(crate::specs::Rebuild::rebuild_fits))]
     fn fits(self) -> bool
         ensures { result ≡ rebuild_fits self }
     {
-        if !counts_fit(
+        let inserted = self.inserted_entries;
+        counts_fit(
             self.config,
             self.expected_entries,
             self.bucket_count,
             self.filter_words,
-        ) {
-            return false;
-        }
-        let inserted = self.inserted_entries;
-        if inserted > self.expected_entries {
-            return false;
-        }
-        let kept = self.kept;
-        if kept.retained() + segment_for(self.copied_bytes) > MAX_RECORD_SEGMENTS {
-            return false;
-        }
-        if !bytes_fit(inserted, self.logical_key_bytes) {
-            return false;
-        }
-        if !bytes_fit(inserted, self.logical_value_bytes) {
-            return false;
-        }
-        bytes_fit(inserted, self.record_header_bytes)
+        ) && inserted <= self.expected_entries
+            && self.kept.retained() + segment_for(self.copied_bytes) <= MAX_RECORD_SEGMENTS
+            && bytes_fit(inserted, self.logical_key_bytes)
+            && bytes_fit(inserted, self.logical_value_bytes)
+            && bytes_fit(inserted, self.record_header_bytes)
     }
 
     // Question 1: index, segment areas and arena.
+    #[tactic(auto, using(crate::proofs::RebuildAsked::rebuild_asked, crate::proofs::RebuildSteps::areas_256, crate::proofs::RebuildSteps::arena_held, crate::proofs::KeptBits::retained_256), unfolding(crate::specs::Rebuild::areas_hold_rebuild))]
     pub(crate) fn areas_hold(
         self,
         index_len: usize,
@@ -76,25 +58,22 @@ impl SharedSegmentCacheBuilder {
     ) -> bool
         ensures { result ≡ areas_hold_rebuild self index_len starts.now lengths.now arena_len }
     {
-        if !self.fits() {
-            return false;
-        }
-        if index_len / BUCKET_SLOTS < self.bucket_count {
-            return false;
-        }
-        if !segment_areas_hold(starts.len(), lengths.len()) {
-            return false;
-        }
         let source_filled = self.source_filled;
         let copied = self.copied_bytes;
-        if !arena_holds_both(source_filled, copied, arena_len) {
-            return false;
-        }
-        let kept = self.kept;
-        segments_inside(kept.retained(), source_filled + copied, starts, lengths)
+        self.fits()
+            && self.bucket_count <= index_len / BUCKET_SLOTS
+            && segment_areas_hold(starts.len(), lengths.len())
+            && arena_holds_both(source_filled, copied, arena_len)
+            && segments_inside(
+                self.kept.retained(),
+                source_filled + copied,
+                starts,
+                lengths,
+            )
     }
 
     // The questions of a reused push.
+    #[tactic(auto, using(crate::proofs::RebuildAsked::rebuild_areas_asked, crate::proofs::Decides::decided_refused, crate::proofs::Decides::own_refused), unfolding(crate::specs::RebuildPlans::plan_reused, crate::specs::Rebuild::ask_reused))]
     pub(crate) fn plan_reused(
         self,
         hash: u64,
@@ -103,54 +82,45 @@ impl SharedSegmentCacheBuilder {
         source: SegmentRecordLocation,
         index: &[u64],
         filter_len: usize,
-        starts: &[u64],
-        lengths: &[u64],
-        arena: &[u8],
-    ) -> SlotPlan
-        ensures { slot_planned result ≡ plan_reused self hash key.now value.now source index.now filter_len starts.now lengths.now arena.now }
+        areas: SegmentAreas<'_>,
+    ) -> Result<usize, SegmentCacheBuildError>
+        ensures { slot_planned result ≡ plan_reused self hash key.now value.now source index.now filter_len areas.entry.starts.now areas.entry.lengths.now areas.entry.arena.now }
     {
-        if !self.areas_hold(index.len(), starts, lengths, arena.len()) {
-            return SlotPlan::Refused(SegmentCacheBuildError::InvalidState);
+        if !self.areas_hold(index.len(), areas.starts, areas.lengths, areas.arena.len()) {
+            return Err(SegmentCacheBuildError::InvalidState);
         }
         if filter_len < self.filter_words {
-            return SlotPlan::Refused(SegmentCacheBuildError::InvalidState);
+            return Err(SegmentCacheBuildError::InvalidState);
         }
         if self.inserted_entries >= self.expected_entries {
-            return SlotPlan::Refused(SegmentCacheBuildError::CapacityOverflow);
+            return Err(SegmentCacheBuildError::CapacityOverflow);
         }
-        let kept = self.kept;
-        if !kept.is_kept(source.location / SEGMENT_BYTES) {
-            return SlotPlan::Refused(SegmentCacheBuildError::CapacityOverflow);
+        if !self.kept.is_kept(source.location / SEGMENT_BYTES) {
+            return Err(SegmentCacheBuildError::CapacityOverflow);
         }
-        if !self.holds_record(key, value, source, starts, lengths, arena) {
-            return SlotPlan::Refused(SegmentCacheBuildError::RecordMismatch);
+        if !self.holds_record(key, value, source, areas) {
+            return Err(SegmentCacheBuildError::RecordMismatch);
         }
-        match find_empty_build_slot(index, self.bucket_count, hash) {
-            BuildSlot::Duplicate => SlotPlan::Refused(SegmentCacheBuildError::DuplicateKey),
-            BuildSlot::Full => SlotPlan::Refused(SegmentCacheBuildError::CapacityOverflow),
-            BuildSlot::Empty(slot) => SlotPlan::Slot(slot),
-        }
+        find_empty_build_slot(index, self.bucket_count, hash)
     }
 
     // Whether a kept segment holds this record where the source held it.
+    #[tactic(auto, using(crate::proofs::KeptBits::number_below, crate::proofs::KeptBits::retained_256), unfolding(crate::specs::Rebuild::holds_record))]
     fn holds_record(
         self,
         key: &[u8],
         value: &[u8],
         source: SegmentRecordLocation,
-        starts: &[u64],
-        lengths: &[u64],
-        arena: &[u8],
+        areas: SegmentAreas<'_>,
     ) -> bool
         requires { (is_kept self.kept (segment_part source.location) ≡ true) × (rebuild_filled self < 2 ^ 64) }
-        ensures { result ≡ holds_record key.now value.now source.header_bytes arena.now (record_in (kept_view self) arena.now starts.now lengths.now (moved_location self source.location + 1)) }
+        ensures { result ≡ holds_record key.now value.now source.header_bytes areas.entry.arena.now (record_in (kept_view self) areas.entry.arena.now areas.entry.starts.now areas.entry.lengths.now (moved_location self source.location + 1)) }
     {
         let stored = self.moved_location(source.location) as u64 + 1;
-        let read = record_at_location(self.view(), arena, starts, lengths, stored);
-        let RecordAnswer::Read(record) = read else {
+        let Some(record) = self.view().record_at_location(areas, stored) else {
             return false;
         };
-        same_record(record, key, value, source.header_bytes, arena)
+        same_record(record, key, value, source.header_bytes, areas.arena)
     }
 
     // What a reader must know of the kept segments.
@@ -158,63 +128,57 @@ impl SharedSegmentCacheBuilder {
         requires { rebuild_filled self < 2 ^ 64 }
         ensures { result ≡ kept_view self }
     {
-        let config = self.config;
-        let expiry = config.expiry;
-        let kept = self.kept;
         SegmentView {
-            expiry,
+            expiry: self.config.expiry,
             filled: self.source_filled + self.copied_bytes,
-            segments: kept.retained(),
+            segments: self.kept.retained(),
         }
     }
 
     // A location of the source, with its segment numbered anew.
+    #[tactic(auto, using(crate::proofs::KeptBits::kept_below, crate::proofs::KeptBits::number_below, crate::proofs::KeptBits::retained_256))]
     pub(crate) fn moved_location(self, location: usize) -> usize
         requires { is_kept self.kept (segment_part location) ≡ true }
         ensures { result ≡ moved_location self location }
     {
-        let kept = self.kept;
-        let segment = kept.new_number(location / SEGMENT_BYTES);
+        let segment = self.kept.new_number(location / SEGMENT_BYTES);
         segment * SEGMENT_BYTES + location % SEGMENT_BYTES
     }
 
     // The questions of a copied push.
+    #[tactic(auto, using(crate::proofs::RebuildAsked::rebuild_areas_asked, crate::proofs::Decides::decided_refused, crate::proofs::Decides::own_refused), unfolding(crate::specs::RebuildPlans::plan_copied, crate::specs::Rebuild::ask_copied, crate::specs::RebuildPlans::plan_room, crate::specs::RebuildPlans::ask_room))]
     pub(crate) fn plan_copied(
         self,
         hash: u64,
         key_bytes: usize,
         value_bytes: usize,
-        ttl: Lifetime,
+        ttl: Option<Duration>,
         index: &[u64],
         filter_len: usize,
         starts: &[u64],
         lengths: &[u64],
         arena_len: usize,
-    ) -> PushPlan
+    ) -> Result<PushPlan, SegmentCacheBuildError>
         ensures { planned result ≡ plan_copied self hash key_bytes value_bytes ttl index.now filter_len starts.now lengths.now arena_len }
     {
         if !self.areas_hold(index.len(), starts, lengths, arena_len) {
-            return PushPlan::Refused(SegmentCacheBuildError::InvalidState);
+            return Err(SegmentCacheBuildError::InvalidState);
         }
         if filter_len < self.filter_words {
-            return PushPlan::Refused(SegmentCacheBuildError::InvalidState);
+            return Err(SegmentCacheBuildError::InvalidState);
         }
         if !lifetime_fits(ttl) {
-            return PushPlan::Refused(SegmentCacheBuildError::InvalidNanoseconds);
+            return Err(SegmentCacheBuildError::InvalidNanoseconds);
         }
         if self.inserted_entries >= self.expected_entries {
-            return PushPlan::Refused(SegmentCacheBuildError::CapacityOverflow);
+            return Err(SegmentCacheBuildError::CapacityOverflow);
         }
-        let config = self.config;
-        let expiry = config.expiry;
-        let deadline = encode_expiry_at_tick(expiry, ttl, self.source_now_tick);
-        let EncodedExpiry::At(expires_at) = deadline else {
-            return PushPlan::Refused(deadline_refusal(deadline));
-        };
+        let expires_at = encode_expiry_at_tick(self.config.expiry, ttl, self.source_now_tick)?;
         self.plan_room(expires_at, hash, key_bytes, value_bytes, index, arena_len)
     }
 
     // The last of them: room in the arena, a segment number, and a slot.
+    #[tactic(auto, using(crate::proofs::Appends::room, crate::proofs::Decides::decided_refused, crate::proofs::Decides::own_refused), unfolding(crate::specs::RebuildPlans::plan_room, crate::specs::RebuildPlans::ask_room))]
     fn plan_room(
         self,
         expires_at: u16,
@@ -223,25 +187,19 @@ impl SharedSegmentCacheBuilder {
         value_bytes: usize,
         index: &[u64],
         arena_len: usize,
-    ) -> PushPlan
+    ) -> Result<PushPlan, SegmentCacheBuildError>
         requires { rebuild_filled self ≤ arena_len }
         ensures { planned result ≡ plan_room self expires_at hash key_bytes value_bytes index.now arena_len }
     {
-        let config = self.config;
-        let expiry = config.expiry;
         let rest = arena_len - (self.source_filled + self.copied_bytes);
-        if !record_fits(expiry, key_bytes, value_bytes, rest) {
-            return PushPlan::Refused(SegmentCacheBuildError::AreaTooShort);
+        if !record_fits(self.config.expiry, key_bytes, value_bytes, rest) {
+            return Err(SegmentCacheBuildError::AreaTooShort);
         }
-        let kept = self.kept;
-        if kept.retained() >= MAX_RECORD_SEGMENTS {
-            return PushPlan::Refused(SegmentCacheBuildError::ArenaTooLarge);
+        if self.kept.retained() >= MAX_RECORD_SEGMENTS {
+            return Err(SegmentCacheBuildError::ArenaTooLarge);
         }
-        match find_empty_build_slot(index, self.bucket_count, hash) {
-            BuildSlot::Duplicate => PushPlan::Refused(SegmentCacheBuildError::DuplicateKey),
-            BuildSlot::Full => PushPlan::Refused(SegmentCacheBuildError::CapacityOverflow),
-            BuildSlot::Empty(slot) => PushPlan::Place(slot, expires_at),
-        }
+        let slot = find_empty_build_slot(index, self.bucket_count, hash)?;
+        Ok(PushPlan { slot, expires_at })
     }
 }
 
@@ -249,10 +207,7 @@ impl SharedSegmentCacheBuilder {
 fn segment_for(bytes: usize) -> usize
     ensures { result ≡ segment_for bytes }
 {
-    if bytes == 0 {
-        return 0;
-    }
-    1
+    if bytes == 0 { 0 } else { 1 }
 }
 
 // Whether each of the first segments lies in the filled arena.
@@ -261,33 +216,22 @@ fn segments_inside(count: usize, filled: usize, starts: &[u64], lengths: &[u64])
     ensures { result ≡ segments_inside count filled starts.now lengths.now }
 {
     let end = filled as u64;
-    let mut i = 0;
-    while i < count {
-        if lengths[i] > end {
-            return false;
-        }
-        if starts[i] > end - lengths[i] {
-            return false;
-        }
-        i += 1;
-    }
-    true
+    let mut segments = starts[..count].iter().zip(&lengths[..count]);
+    segments.all(|(&start, &length)| length <= end && start <= end - length)
 }
 
 // Whether the arena holds the source's bytes and the copied ones after them.
+#[tactic(auto, unfolding(crate::specs::Questions::arena_holds))]
 fn arena_holds_both(source_filled: usize, copied: usize, arena_len: usize) -> bool
     ensures { result ≡ arena_holds (source_filled + copied) arena_len }
 {
-    if source_filled > arena_len {
-        return false;
-    }
-    if copied > arena_len - source_filled {
-        return false;
-    }
-    arena_holds(source_filled + copied, arena_len)
+    source_filled <= arena_len
+        && copied <= arena_len - source_filled
+        && arena_holds(source_filled + copied, arena_len)
 }
 
-// Question 1 of a source.
+// Question 1 of a source. A caller may have no more of the arena than its length.
+#[tactic(auto, using(crate::proofs::RebuildSteps::areas_256, crate::proofs::Counts::set_segments), unfolding(crate::specs::Rebuild::areas_hold_source))]
 pub fn source_holds(
     source: FrozenSegmentCache,
     starts: &[u64],
@@ -296,24 +240,17 @@ pub fn source_holds(
 ) -> bool
     ensures { result ≡ areas_hold_source source starts.now lengths.now arena_len }
 {
-    if !source.fits() {
-        return false;
-    }
-    if !segment_areas_hold(starts.len(), lengths.len()) {
-        return false;
-    }
-    if !arena_holds(source.filled, arena_len) {
-        return false;
-    }
-    segments_inside(source.segments, source.filled, starts, lengths)
+    source.fits()
+        && segment_areas_hold(starts.len(), lengths.len())
+        && arena_holds(source.filled, arena_len)
+        && segments_inside(source.segments, source.filled, starts, lengths)
 }
 
 // The questions of rebuild open.
+#[tactic(auto, using(crate::proofs::RebuildAsked::source_areas_asked, crate::proofs::RebuildSteps::kept_most, crate::proofs::RebuildSteps::segment_most), unfolding(crate::specs::Rebuild::ask_rebuild_open))]
 pub(crate) fn check_rebuild_open(
     source: FrozenSegmentCache,
-    source_starts: &[u64],
-    source_lengths: &[u64],
-    arena_len: usize,
+    source_areas: SegmentAreas<'_>,
     entry_count: usize,
     copied_record_capacity: usize,
     used_source_segments: &[u8],
@@ -321,32 +258,38 @@ pub(crate) fn check_rebuild_open(
     filter_len: usize,
     starts_len: usize,
     lengths_len: usize,
-) -> Check
-    ensures { check_number result ≡ first_no (ask_rebuild_open source source_starts.now source_lengths.now arena_len entry_count copied_record_capacity used_source_segments.now index_len filter_len starts_len lengths_len) }
+) -> Result<(), SegmentCacheBuildError>
+    ensures { check_number result ≡ first_no (ask_rebuild_open source source_areas.entry.starts.now source_areas.entry.lengths.now (length source_areas.entry.arena.now) entry_count copied_record_capacity used_source_segments.now index_len filter_len starts_len lengths_len) }
 {
-    if !source_holds(source, source_starts, source_lengths, arena_len) {
-        return Check::Refused(SegmentCacheBuildError::InvalidState);
+    let SegmentAreas {
+        starts,
+        lengths,
+        arena,
+    } = source_areas;
+    if !source_holds(source, starts, lengths, arena.len()) {
+        return Err(SegmentCacheBuildError::InvalidState);
     }
     if used_source_segments.len() != source.segments {
-        return Check::Refused(SegmentCacheBuildError::CapacityOverflow);
+        return Err(SegmentCacheBuildError::CapacityOverflow);
     }
     if entry_count > MAX_RECORDS {
-        return Check::Refused(SegmentCacheBuildError::CapacityOverflow);
+        return Err(SegmentCacheBuildError::CapacityOverflow);
     }
     let retained = kept_count(used_source_segments);
     if retained + segment_for(copied_record_capacity) > MAX_RECORD_SEGMENTS {
-        return Check::Refused(SegmentCacheBuildError::ArenaTooLarge);
+        return Err(SegmentCacheBuildError::ArenaTooLarge);
     }
     if !open_areas_hold(source.config, entry_count, index_len, filter_len) {
-        return Check::Refused(SegmentCacheBuildError::AreaTooShort);
+        return Err(SegmentCacheBuildError::AreaTooShort);
     }
     if !segment_areas_hold(starts_len, lengths_len) {
-        return Check::Refused(SegmentCacheBuildError::AreaTooShort);
+        return Err(SegmentCacheBuildError::AreaTooShort);
     }
-    Check::Passed
+    Ok(())
 }
 
 // Whether a record that was read is this one.
+#[tactic(auto, unfolding(crate::specs::Rebuild::holds_record))]
 fn same_record(
     record: RecordRef,
     key: &[u8],
@@ -354,15 +297,9 @@ fn same_record(
     header_bytes: usize,
     arena: &[u8],
 ) -> bool
-    ensures { result ≡ holds_record key.now value.now header_bytes arena.now (readings.Read «record») }
+    ensures { result ≡ holds_record key.now value.now header_bytes arena.now (Some «record») }
 {
-    if record.key_offset != header_bytes {
-        return false;
-    }
-    let key_span = record.key;
-    if !same_bytes(value_slice(arena, key_span), key) {
-        return false;
-    }
-    let value_span = record.value;
-    same_bytes(value_slice(arena, value_span), value)
+    record.key_offset == header_bytes
+        && same_bytes(value_slice(arena, record.key), key)
+        && same_bytes(value_slice(arena, record.value), value)
 }

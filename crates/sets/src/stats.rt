@@ -2,9 +2,7 @@
 ghost use Rattle.std.specs.Prelude.{◌≡◌, ◌+◌, ◌-◌, ◌*◌, ◌%◌, ◌^◌, min};
 ghost use Rattle.sets.specs.Stats.{load_of};
 
-use std::num::wrapping_add_usize;
-
-#[derive(Clone, Copy)]
+#[derive(Clone, Copy, Debug, PartialEq, Eq)]
 pub struct SegmentCacheStats {
     // Records.
     pub entries: usize,
@@ -26,42 +24,28 @@ impl SegmentCacheStats {
     pub fn modeled_retained_bytes(self) -> usize
         ensures { result ≡ (self.index_bytes + self.record_bytes) % 2 ^ 64 }
     {
-        wrapping_add_usize(self.index_bytes, self.record_bytes)
+        self.index_bytes.wrapping_add(self.record_bytes)
     }
 
     // What is retained beyond keys and values.
     pub fn modeled_overhead_bytes(self) -> usize
         ensures { result ≡ (self.index_bytes + self.record_bytes) % 2 ^ 64 - (self.logical_key_bytes + self.logical_value_bytes) % 2 ^ 64 }
     {
-        let retained = self.modeled_retained_bytes();
-        let logical = wrapping_add_usize(self.logical_key_bytes, self.logical_value_bytes);
-        if retained < logical {
-            return 0;
-        }
-        retained - logical
+        let logical = self
+            .logical_key_bytes
+            .wrapping_add(self.logical_value_bytes);
+        self.modeled_retained_bytes().saturating_sub(logical)
     }
 
     // Occupied slots in basis points; 10,000 where they pass 16 bits.
+    #[tactic(auto, unfolding(crate::specs::Stats::load_of))]
     pub fn index_load_bps(self) -> u16
         ensures { result ≡ load_of self.entries self.index_slots }
     {
         if self.index_slots == 0 {
             return 0;
         }
-        let basis_points = ten_thousand_times(self.entries) / self.index_slots;
-        if basis_points > 65_535 {
-            return 10_000;
-        }
-        basis_points as u16
+        let basis_points = self.entries.saturating_mul(10_000) / self.index_slots;
+        u16::try_from(basis_points).unwrap_or(10_000)
     }
-}
-
-// At most the largest number.
-fn ten_thousand_times(n: usize) -> usize
-    ensures { result ≡ min (n * 10000) (2 ^ 64 - 1) }
-{
-    if n > usize::MAX / 10_000 {
-        return usize::MAX;
-    }
-    n * 10_000
 }

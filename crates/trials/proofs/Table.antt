@@ -1,5 +1,6 @@
 -- Document 01's trials marked P, as one table of tests on the definitions that the contracts cite; worked values of document 02's Change 3.
 -- Assumes nothing.
+use Rattle.std.specs.Prelude.{Some}
 use mathlib.Core.Path.{◌≡◌}
 use mathlib.Core.Bool.{Bool, true, false, cond, not, ◌&&◌}
 use mathlib.Core.List.{List, [], ◌∷◌}
@@ -11,7 +12,6 @@ use Rattle.hash_parts.specs.Duration.{encoded_expiry, deadline_at, lives_at, nan
 use Rattle.hash_parts.specs.Hash.{tag_of, first_bucket, control_tag, secondary_tag, mixed_hash, rotated}
 use Rattle.hash_parts.specs.Outcome.{Outcome}
 use Rattle.hash_parts.specs.ZeroBytes.{zero_marks, zero_bytes, marks, bytes_of}
-use Rattle.hash_parts.specs.declared.duration.Lifetime.TheVariants.{For}
 use Rattle.hash_parts.specs.declared.setting.SegmentExpiry.TheVariants.{Relative16}
 use Rattle.index.specs.Filter.{bit_past, filter_word, filter_mask}
 use Rattle.index.specs.Packed.{control_byte, reference_bytes}
@@ -31,7 +31,7 @@ gives o number value = eqb o.number number && eqb o.value value
 
 -- the deadline of a lifetime in a build, with ticks of one second
 abbrev of_lifetime : ℕ → ℕ → Outcome
-of_lifetime secs nanos = encoded_expiry (Relative16 record { secs = 1; nanos = 0 }) (For record { secs = secs; nanos = nanos }) 0
+of_lifetime secs nanos = encoded_expiry (Relative16 record { secs = 1; nanos = 0 }) (Some record { secs = secs; nanos = nanos }) 0
 
 pub p_trials : T
     (all
@@ -79,7 +79,7 @@ words_worked = tt
 
 -- deadlines with a tick of 2^64 nanoseconds
 abbrev by_long_tick : ℕ → ℕ → ℕ → Outcome
-by_long_tick secs nanos base = encoded_expiry (Relative16 record { secs = 18446744073; nanos = 709551616 }) (For record { secs = secs; nanos = nanos }) base
+by_long_tick secs nanos base = encoded_expiry (Relative16 record { secs = 18446744073; nanos = 709551616 }) (Some record { secs = secs; nanos = nanos }) base
 
 pub long_ticks : T
     (all

@@ -1,5 +1,4 @@
 // Calls of builder and set with their refusals shown.
-use hash_parts::duration::Lifetime;
 use records::record::value_slice;
 use sets::builder::{PushAnswer, SegmentCacheBuilder};
 use sets::cache::{FrozenSegmentCache, GetAnswer};
@@ -12,7 +11,7 @@ pub(crate) fn push(
     hash: u64,
     key: &[u8],
     value: &[u8],
-    ttl: Lifetime,
+    ttl: Option<Duration>,
     index: &mut [u64],
     arena: &mut [u8],
 ) -> io::Result<SegmentCacheBuilder> {

@@ -1,7 +1,7 @@
 // Document 01's example through the calls of builder and set: the arena's bytes, the answers, and the
 // control word at the end.
 use crate::calls::{get, push};
-use hash_parts::duration::{Duration, Lifetime};
+use hash_parts::duration::Duration;
 use hash_parts::setting::SegmentCacheConfig;
 use sets::builder::{FinishAnswer, OpenAnswer, SegmentCacheBuilder};
 use sets::cache::FrozenSegmentCache;
@@ -14,12 +14,12 @@ fn fill(
     index: &mut [u64],
     arena: &mut [u8],
 ) -> io::Result<SegmentCacheBuilder> {
-    let life = Lifetime::For(Duration {
+    let life = Some(Duration {
         secs: 9,
         nanos: 500_000_000,
     });
     let one = push(rt, builder, 1, b"a", b"AB", life, index, arena)?;
-    let two = push(rt, one, 2, b"b", b"", Lifetime::Never, index, arena)?;
+    let two = push(rt, one, 2, b"b", b"", None, index, arena)?;
     show::text(rt, b"arena:")?;
     show::front(rt, &arena[..], two.filled)?;
     show::text(rt, b"\n")?;

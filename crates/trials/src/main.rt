@@ -8,14 +8,13 @@ mod orders;
 mod seventeen;
 mod targets;
 
-use hash_parts::duration::{Duration, EncodedExpiry, Lifetime};
+use hash_parts::duration::Duration;
 use hash_parts::setting::SegmentExpiry;
-use records::varint::WriteAnswer;
 use std::io;
 
 fn prefix(rt: &impl Print, length: usize) -> io::Result<()> {
     let mut out = [0u8; 10];
-    let WriteAnswer::Written(n) = records::varint::write_varint(&mut out, length) else {
+    let Ok(n) = records::varint::write_varint(&mut out, length) else {
         return show::text(rt, b"refused\n");
     };
     show::text(rt, b"length ")?;
@@ -27,10 +26,10 @@ fn lifetime(rt: &impl Print, secs: u64, nanos: u32) -> io::Result<()> {
     let expiry = SegmentExpiry::Relative16 {
         tick: Duration { secs: 1, nanos: 0 },
     };
-    let life = Lifetime::For(Duration { secs, nanos });
+    let life = Some(Duration { secs, nanos });
     match hash_parts::duration::encode_expiry_at_tick(expiry, life, 0) {
-        EncodedExpiry::At(deadline) => show::number(rt, b"deadline", deadline as u64),
-        EncodedExpiry::Refused(refusal) => show::number(rt, b"refusal", refusal.number() as u64),
+        Ok(deadline) => show::number(rt, b"deadline", deadline as u64),
+        Err(refusal) => show::number(rt, b"refusal", refusal.number() as u64),
     }
 }
 

@@ -3,7 +3,6 @@
 // next record joins its segment, and there are 256.
 use crate::calls::push;
 use crate::targets::finish;
-use hash_parts::duration::Lifetime;
 use hash_parts::setting::SegmentCacheConfig;
 use sets::builder::{OpenAnswer, SegmentCacheBuilder};
 use std::io;
@@ -27,7 +26,7 @@ fn push_long(
             next << 56,
             &[key],
             b"",
-            Lifetime::Never,
+            None,
             index,
             arena,
         )?;
@@ -43,7 +42,7 @@ fn push_short(
     index: &mut [u64],
     arena: &mut [u8],
 ) -> io::Result<SegmentCacheBuilder> {
-    push(rt, builder, 1, b"", b"", Lifetime::Never, index, arena)
+    push(rt, builder, 1, b"", b"", None, index, arena)
 }
 
 fn push_all(

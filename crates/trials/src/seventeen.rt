@@ -1,6 +1,5 @@
 // Seventeen records of hash 0 with distinct keys, occupancy 7, filter bits 8: the last stands in
 // bucket 2 and alone is marked. Through the calls of a builder.
-use hash_parts::duration::Lifetime;
 use hash_parts::setting::SegmentCacheConfig;
 use sets::builder::{OpenAnswer, PushAnswer, SegmentCacheBuilder};
 use std::io;
@@ -36,7 +35,7 @@ fn push(
     filter: &mut [u64],
     arena: &mut [u8],
 ) -> io::Result<SegmentCacheBuilder> {
-    match builder.push(0, &[key], b"", Lifetime::Never, index, filter, arena) {
+    match builder.push(0, &[key], b"", None, index, filter, arena) {
         PushAnswer::Pushed {
             builder: next,
             slot,

@@ -1,7 +1,6 @@
 // The two target trials: no expiry, target 4,096. Records of 4,096 and 2 bytes make two segments; of
 // 4,095 and 3 bytes, one. The first two in the other order make one.
 use crate::calls::push;
-use hash_parts::duration::Lifetime;
 use hash_parts::setting::SegmentCacheConfig;
 use sets::builder::{FinishAnswer, OpenAnswer, SegmentCacheBuilder};
 use std::io;
@@ -55,7 +54,7 @@ fn segments_of(
         1,
         key,
         value,
-        Lifetime::Never,
+        None,
         &mut index,
         &mut arena,
     )?;
@@ -66,7 +65,7 @@ fn segments_of(
         2,
         second_key,
         second_value,
-        Lifetime::Never,
+        None,
         &mut index,
         &mut arena,
     )?;

@@ -4,8 +4,5 @@ use lib.Count.{trailing_le}
 use Rattle.hash_parts.proofs.LowestSet.{lowest_right}
 use Rattle.hash_parts.proofs.zero_bytes.lowest_marked_byte.Goals as goal
 
-pub overflow_cast-result : goal.overflow_cast-result
-overflow_cast-result c = omega (arith, trailing_le 64 c.args.word)
-
 pub returns : goal.returns
 returns c = (lowest_right c.args.word, omega (arith, trailing_le 64 c.args.word))

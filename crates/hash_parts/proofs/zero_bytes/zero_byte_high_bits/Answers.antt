@@ -9,5 +9,5 @@ pub returns : goal.returns
 unfolding zero_marks zero_bytes
 returns c =
     let v = c.args.value in
-    ap (λ (x : ℕ). bit_and ((2 ^ 64 - 1) - bit_or (bit_or x v) (lo 8)) (hi 8)) (c.wrapping_add_u64-sums.ensures.value ∙ no_wrap v)
+    ap (λ (x : ℕ). bit_and ((2 ^ 64 - 1) - bit_or (bit_or x v) (lo 8)) (hi 8)) (no_wrap v)
     ∙ test_right 8 v c.ranges.value.fits

@@ -6,4 +6,4 @@ pub returns-then-probe-ne1 : goal.returns-then-probe-ne1
 returns-then-probe-ne1 c = simp (ne_eqb c.args.probe 1 c.if-probe-ne1.true)
 
 pub returns : goal.returns
-returns c = rw c.negative_filter_may_contain.ensures (simp (eq-eqb _ _ c.if-probe-ne1.false))
+returns c = rw c.may_contain.ensures (simp (eq-eqb _ _ c.if-probe-ne1.false))

@@ -1,68 +1,70 @@
 -- `find_in_bucket` meets its contract: the candidates left say what the bucket's slots say. Assumes nothing.
-use Rattle.std.proofs.Common.{◌≡◌, ℕ, ◌+◌, ◌*◌, ◌<◌, cond, sym, ◌∙◌, arith}
-use Rattle.hash_parts.specs.ZeroBytes.{lowest_set}
-use Rattle.records.specs.declared.record.RecordAnswer.{RecordAnswer}
+use Rattle.std.proofs.Common.{◌≡◌, ℕ, ◌+◌, ◌*◌, ◌<◌, Bool, false, cond, ltb, get_or, sym, ◌∙◌, arith}
+use Rattle.std.specs.Prelude.{Option}
+use Rattle.hash_parts.specs.ZeroBytes.{lowest_set, marks}
+use Rattle.records.specs.declared.record.RecordRef.{RecordRef}
 use Rattle.index.specs.Find.{in_bucket}
+use Rattle.index.specs.FindSteps.{tagged}
 use Rattle.index.specs.View.{record_in}
 use Rattle.index.specs.declared.find.FindStep.{FindStep}
 use Rattle.index.specs.declared.find.FindStep.TheVariants.{Stop, Next}
-use Rattle.index.proofs.Sweeps.{Visiting, says, searched, slots, visiting_begins, visiting_below, visiting_less, visiting_hit, visiting_on, visiting_ends, bucket_step, bucket_ends}
+use Rattle.index.proofs.Sweeps.{says, searched, slots, visiting_begins, visiting_below, visiting_less, visiting_hit, visiting_on, visiting_ends, bucket_step, bucket_ends}
 use Rattle.index.proofs.find.find_in_bucket.Goals as goal
-use Rattle.index.proofs.find.find_in_bucket.Goals.{After-find_in_slot-step, After-has_empty, Start}
+use Rattle.index.proofs.find.find_in_bucket.Goals.{After-find_in_slot-step, Start}
 
-abbrev reads : Start → ℕ → RecordAnswer
+abbrev reads : Start → ℕ → Option RecordRef
 reads s =
     let a = s.args in
-    record_in a.view a.arena.now a.starts.now a.lengths.now
+    record_in a.view a.areas.arena.now a.areas.starts.now a.areas.lengths.now
 
 -- what each slot of the bucket says, and what all of them do
 abbrev slot_says : Start → ℕ → FindStep
 slot_says s =
     let a = s.args in
-    says (reads s) a.arena.now a.key.now a.packed a.tag a.buckets a.index.now a.bucket
+    let x = a.index in
+    says (reads s) a.areas.arena.now a.key.now x.packed a.tag x.buckets x.words.now a.bucket
 
 abbrev bucket_says : Start → FindStep
 bucket_says s =
     let a = s.args in
-    searched (reads s) a.arena.now a.key.now a.packed a.tag a.buckets a.index.now a.bucket
+    let x = a.index in
+    searched (reads s) a.areas.arena.now a.key.now x.packed a.tag x.buckets x.words.now a.bucket
 
 pub loop-candidates-init : goal.loop-candidates-init
 loop-candidates-init c =
-    let at = goal.at.loop-candidates-init c in
+    let s = (goal.at.loop-candidates-init c).Start in
     let a = c.args in
-    visiting_begins (reads at.Start) a.arena.now a.key.now a.packed a.tag a.buckets a.index.now a.bucket _ (omega arith) c.candidate_marks-candidates.ensures
+    let x = a.index in
+    visiting_begins (reads s) a.areas.arena.now a.key.now x.packed a.tag x.buckets x.words.now a.bucket _ (omega arith) c.candidate_marks-candidates.ensures
 
-pub bucket_slot-requires : goal.bucket_slot-requires
-bucket_slot-requires c =
-    let s = (goal.at.bucket_slot-requires c).Start in
+pub bucket_slot-content-requires : goal.bucket_slot-content-requires
+bucket_slot-content-requires c =
+    let s = (goal.at.bucket_slot-content-requires c).Start in
     let some : 0 < c.loop-candidates.candidates = omega arith in
     (c.requires.0, c.requires.1, omega (arith, c.lowest_marked_byte-offset.ensures.0, visiting_below (bucket_says s) (slot_says s) c.loop-candidates.invariant some))
 
--- the start, from where a slot was looked at and from behind the last mark
-abbrev looked_from : After-find_in_slot-step → Start
-looked_from c = c.before.before.before.before.before.before.before.before.before.before.before.before.before
-
-abbrev ended_from : After-has_empty → Start
-ended_from c = c.before.before.before.before.before.before.before.before.before.before.before
-
 -- what the slot of the lowest mark says
-said : (c : After-find_in_slot-step) → c.find_in_slot-step.result ≡ slot_says (looked_from c) (lowest_set c.loop-candidates.candidates)
+said : (c : After-find_in_slot-step) → let a = c.args in let x = a.index in
+    c.find_in_slot-step.result
+    ≡ says (record_in a.view a.areas.arena.now a.areas.starts.now a.areas.lengths.now) a.areas.arena.now a.key.now x.packed a.tag x.buckets x.words.now
+    a.bucket (lowest_set c.loop-candidates.candidates)
 said c =
     let a = c.args in
     let at : a.bucket * 8 + c.lowest_marked_byte-offset.result ≡ 8 * a.bucket + c.lowest_marked_byte-offset.result = omega arith in
-    rw (← c.lowest_marked_byte-offset.ensures.0, ← at, ← c.bucket_slot.ensures, ← c.kept_tag-kept.ensures) c.find_in_slot-step.ensures
+    rw (← c.lowest_marked_byte-offset.ensures.0, ← at, ← c.bucket_slot-content.ensures, ← c.kept_tag-kept.ensures) c.find_in_slot-step.ensures
 
 pub returns-in_default : goal.returns-in_default
 returns-in_default c =
     let at = goal.at.returns-in_default c in
     let s = at.Start in
     let a = c.args in
+    let x = a.index in
     let some : 0 < c.loop-candidates.candidates = omega arith in
     let r = c.find_in_slot-step.result in
     let e = said at.After-find_in_slot-step in
     let n = c.in_default.not-Next in
     let hit : bucket_says s ≡ r = rw e (visiting_hit (bucket_says s) (slot_says s) c.loop-candidates.invariant some (λ f. n (e ∙ f))) in
-    bucket_step (reads s) a.arena.now a.key.now a.packed a.tag a.buckets a.index.now a.bucket r hit n
+    bucket_step (reads s) a.areas.arena.now a.key.now x.packed a.tag x.buckets x.words.now a.bucket r hit n
 
 pub loop-candidates-smaller : goal.loop-candidates-smaller
 loop-candidates-smaller c =
@@ -80,18 +82,22 @@ loop-candidates-preserved c =
     (sym (said at.After-find_in_slot-step) ∙ c.in-Next.is))
 
 -- where no mark is left, an empty slot ends the walk
-ended : (c : After-has_empty) → let a = c.args in
-    let s = ended_from c in
-    Visiting (bucket_says s) (slot_says s) c.loop-candidates.candidates
-    → cond c.has_empty.result Stop Next ≡ in_bucket a.packed (slots (reads s) a.arena.now a.key.now a.packed a.tag a.buckets a.index.now a.bucket)
-ended c v =
-    let a = c.args in
-    let s = ended_from c in
-    bucket_ends (reads s) a.arena.now a.key.now a.packed a.tag a.buckets a.index.now a.bucket c.has_empty.result
-    c.has_empty.ensures (visiting_ends (bucket_says s) (slot_says s) v c.loop-candidates-test.false)
+ended : (s : Start) (gap : Bool) → let a = s.args in let x = a.index in
+    gap ≡ cond x.packed (ltb 0 (marks (tagged 0 (get_or x.words.now a.bucket 0)))) false → bucket_says s ≡ Next
+    → cond gap Stop Next ≡ in_bucket x.packed (slots (reads s) a.areas.arena.now a.key.now x.packed a.tag x.buckets x.words.now a.bucket)
+ended s gap g none =
+    let a = s.args in
+    let x = a.index in
+    bucket_ends (reads s) a.areas.arena.now a.key.now x.packed a.tag x.buckets x.words.now a.bucket gap g none
 
 pub returns-then-has_empty : goal.returns-then-has_empty
-returns-then-has_empty c = rw c.if-has_empty.true at (ended (goal.at.returns-then-has_empty c).After-has_empty c.loop-candidates.invariant)
+returns-then-has_empty c =
+    let s = (goal.at.returns-then-has_empty c).Start in
+    let none = visiting_ends (bucket_says s) (slot_says s) c.loop-candidates.invariant c.loop-candidates-test.false in
+    rw c.if-has_empty.true at (ended s c.has_empty.result c.has_empty.ensures none)
 
 pub returns : goal.returns
-returns c = rw c.if-has_empty.false at (ended (goal.at.returns c).After-has_empty c.loop-candidates.invariant)
+returns c =
+    let s = (goal.at.returns c).Start in
+    let none = visiting_ends (bucket_says s) (slot_says s) c.loop-candidates.invariant c.loop-candidates-test.false in
+    rw c.if-has_empty.false at (ended s c.has_empty.result c.has_empty.ensures none)

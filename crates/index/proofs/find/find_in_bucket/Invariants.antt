@@ -5,7 +5,9 @@ use Rattle.index.proofs.find.find_in_bucket.Given as goal
 
 abbrev pub invariant-loop-candidates : goal.invariant-loop-candidates
 invariant-loop-candidates l =
-    Visiting (searched (record_in l.view l.arena l.starts l.lengths) l.arena l.key l.packed l.tag l.buckets l.index l.bucket) (says (record_in l.view l.arena l.starts l.lengths) l.arena l.key l.packed l.tag l.buckets l.index l.bucket) l.candidates
+    let reads = record_in l.view l.areas.arena.now l.areas.starts.now l.areas.lengths.now in
+    let x = l.index in
+    Visiting (searched reads l.areas.arena.now l.key x.packed l.tag x.buckets x.words.now l.bucket) (says reads l.areas.arena.now l.key x.packed l.tag x.buckets x.words.now l.bucket) l.candidates
 
 abbrev pub decreases-loop-candidates : goal.decreases-loop-candidates
 decreases-loop-candidates l = l.candidates

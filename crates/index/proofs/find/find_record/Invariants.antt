@@ -1,16 +1,18 @@
 -- What each turn of the loop keeps.
-use Rattle.std.proofs.Common.{◌≡◌, ◌+◌, ◌-◌, ◌<◌, ◌≤◌}
+use Rattle.std.proofs.Common.{◌≡◌, ◌-◌, ◌<◌, ◌≤◌}
 use Rattle.index.specs.Filter.{filter_has}
 use Rattle.index.specs.Find.{find_in}
 use Rattle.index.proofs.Finds.{buckets_found, Looks}
 use Rattle.index.proofs.find.find_record.Given as goal
 
-abbrev pub invariant-loop-left : goal.invariant-loop-left
-invariant-loop-left l =
-    (l.bucket ≤ l.buckets - 1) × (l.left ≤ l.buckets)
-    × (find_in l.view l.packed l.index l.buckets l.filter l.filter_words l.starts l.lengths l.arena l.key l.hash
-    ≡ buckets_found l.packed (filter_has l.filter l.filter_words l.hash) (Looks l.view l.packed l.index l.buckets l.starts l.lengths l.arena l.key l.hash) l.buckets l.probe l.left l.bucket)
-    × (l.probe + l.left ≡ l.buckets) × (0 < l.probe → l.filter_hash ≡ l.hash)
-
-abbrev pub decreases-loop-left : goal.decreases-loop-left
-decreases-loop-left l = l.left
+-- the buckets left answer as the whole walk does; the filter is asked for the hash from the second bucket on
+abbrev pub invariant-loop-probe : goal.invariant-loop-probe
+invariant-loop-probe l =
+    let x = l.index in
+    let f = l.filter in
+    let s = l.areas in
+    (l.bucket ≤ x.buckets - 1)
+    × (find_in l.view x.packed x.words.now x.buckets f.words.now f.count s.starts.now s.lengths.now s.arena.now l.key l.hash
+    ≡ buckets_found x.packed (filter_has f.words.now f.count l.hash) (Looks l.view x.packed x.words.now x.buckets s.starts.now s.lengths.now s.arena.now l.key l.hash)
+    x.buckets l.probe (x.buckets - l.probe) l.bucket)
+    × (0 < l.probe → l.filter_hash ≡ l.hash)

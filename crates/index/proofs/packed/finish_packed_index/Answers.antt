@@ -1,5 +1,5 @@
 -- `finish_packed_index` meets its contract: a bucket's references never reach the words of the buckets before it. Assumes nothing.
-use Rattle.std.proofs.Common.{ℕ, ◌-◌, set, ap, arith}
+use Rattle.std.proofs.Common.{ℕ, ◌-◌, ◌++◌, drop, set, ap, arith}
 use Rattle.index.proofs.PackingLoop.{packing_begins, packing_next, packing_ends, short_index, short_scratch}
 use Rattle.index.proofs.packed.finish_packed_index.Goals as goal
 
@@ -13,19 +13,19 @@ returns-then-scratch-buckets c =
     let a = c.args in
     short_scratch a.buckets a.index.now a.scratch.now c.if-scratch-buckets.true
 
-pub loop-left-init : goal.loop-left-init
-loop-left-init c =
+pub loop-bucket-init : goal.loop-bucket-init
+loop-bucket-init c =
     let a = c.args in
     packing_begins a.buckets a.index.now a.scratch.now (omega arith) (omega arith)
 
-pub loop-left-preserved : goal.loop-left-preserved
-loop-left-preserved c =
-    let l = c.loop-left in
+pub loop-bucket-preserved : goal.loop-bucket-preserved
+loop-bucket-preserved c =
+    let l = c.loop-bucket in
     let p = c.pack_bucket in
-    let b : ℕ = l.left - 1 in
+    let b : ℕ = l.bucket - 1 in
     packing_next b p.new.index (set l.scratch b p.result) l.invariant (omega arith) p.ensures.1 (ap (set l.scratch b) p.ensures.0)
 
 pub returns : goal.returns
 returns c =
-    let p = c.copy_words in
-    packing_ends p.new.to c.loop-left.invariant (omega arith) p.ensures
+    let l = c.loop-bucket in
+    packing_ends _ l.invariant (omega arith) (ap (λ words. words ++ drop c.args.buckets l.index) c.copy_from_slice.ensures.after)

@@ -1,22 +1,12 @@
--- `find_segment` meets its contract: the start at `low` is not above the location, the one at `high` is, or there is none. Assumes nothing.
-use Rattle.std.proofs.Common.{sym, refl, inl, inr, arith}
-use Rattle.index.proofs.Splits.{segment_found}
+-- `find_segment` meets its contract: the starts rise, so those not above the location come first. Assumes nothing.
+use Rattle.std.proofs.Common.{leb, rules}
+use Rattle.std.proofs.lemmas.List.Sorted.{IsPartitionPoint-from_clause}
+use Rattle.index.proofs.Splits.{last_start, later, starts_parted}
 use Rattle.index.proofs.segments.find_segment.Goals as goal
-
-pub loop-high-init : goal.loop-high-init
-loop-high-init c = (omega arith, omega arith, omega arith, inl refl)
-
-pub loop-high-preserved-then-starts-middle : goal.loop-high-preserved-then-starts-middle
-loop-high-preserved-then-starts-middle c = (omega arith, omega arith, c.if-starts-middle.true, c.loop-high.invariant.3)
-
-pub loop-high-preserved : goal.loop-high-preserved
-loop-high-preserved c = (omega arith, omega arith, c.loop-high.invariant.2, inr c.if-starts-middle.false)
 
 pub returns : goal.returns
 returns c =
     let a = c.args in
-    let v = c.loop-high.invariant in
-    let found =
-    segment_found a.starts.now a.count a.location c.loop-high.low c.loop-high.high
-    c.requires v.0 (omega arith) v.1 v.2 v.3 in
-    (sym found, omega arith, v.2)
+    let above = c.partition_point.ensures in
+    last_start c.requires a.location _ above.bound
+    (IsPartitionPoint-from_clause (λ s. leb s a.location) (later c.requires) _ above.partitioned (starts_parted c.requires a.location) (λ x r q k. search rules))

@@ -1,6 +1,7 @@
 -- `split_record_segments` meets its contract, case by case: what the three writers left is what a split leaves. Assumes nothing.
 use Rattle.std.proofs.Common.{arith}
-use Rattle.index.proofs.Splits.{short_index, short_starts, short_lengths, split_refused, starts_written_law, split_whole, split_parts}
+use Rattle.std.proofs.lemmas.Result.{err_from_is_err_and}
+use Rattle.index.proofs.Splits.{short_index, short_starts, short_lengths, split_refused, starts_written_law, few, split_whole, split_parts}
 use Rattle.index.proofs.segments.split_record_segments.Goals as goal
 
 pub returns-then-index-buckets : goal.returns-then-index-buckets
@@ -19,56 +20,61 @@ returns-then-lengths-lt-MAX_RECORD_SEGMENTS c =
     short_lengths a.index.now a.buckets a.filled a.target a.starts.now a.lengths.now
     c.if-index-buckets.false c.if-starts-lt-MAX_RECORD_SEGMENTS.false c.if-lengths-lt-MAX_RECORD_SEGMENTS.true
 
-pub returns-then-count-gt-MAX_RECORD_SEGMENTS : goal.returns-then-count-gt-MAX_RECORD_SEGMENTS
-returns-then-count-gt-MAX_RECORD_SEGMENTS c =
+pub returns-in_err-count : goal.returns-in_err-count
+returns-in_err-count c =
     let a = c.args in
-    let w = c.write_starts-count in
-    split_refused a.index.now a.buckets a.filled a.target a.starts.now a.lengths.now
+    let w = c.write_starts in
+    let p = err_from_is_err_and c.from_residual.result c.from_residual.ensures.1 in
+    rw (p.1, p.2)
+    (split_refused a.index.now a.buckets a.filled a.target a.starts.now a.lengths.now
     c.if-index-buckets.false c.if-starts-lt-MAX_RECORD_SEGMENTS.false c.if-lengths-lt-MAX_RECORD_SEGMENTS.false
-    w.result w.new.starts w.ensures.0 w.ensures.1
-    c.if-count-gt-MAX_RECORD_SEGMENTS.true
+    w.result w.new.starts w.ensures.0 w.ensures.1 _ c.in_err-count.was)
 
 pub write_lengths-requires : goal.write_lengths-requires
 write_lengths-requires c =
     let a = c.args in
-    let w = c.write_starts-count in
-    let few = c.if-count-gt-MAX_RECORD_SEGMENTS.false in
+    let w = c.write_starts in
+    let n = c.in_ok-count.count in
     let starts =
     starts_written_law a.index.now a.buckets a.filled a.target a.starts.now a.lengths.now
     c.if-index-buckets.false c.if-starts-lt-MAX_RECORD_SEGMENTS.false c.if-lengths-lt-MAX_RECORD_SEGMENTS.false
-    w.result w.new.starts w.ensures.0 w.ensures.1
-    few in
-    (starts, few, c.if-lengths-lt-MAX_RECORD_SEGMENTS.false)
-
-pub returns-then-filled-target : goal.returns-then-filled-target
-returns-then-filled-target c =
-    let a = c.args in
-    let w = c.write_starts-count in
-    split_whole a.index.now a.buckets a.filled a.target a.starts.now a.lengths.now
+    w.result w.new.starts w.ensures.0 w.ensures.1 n c.in_ok-count.was in
+    let few =
+    few a.index.now a.buckets a.filled a.target a.starts.now a.lengths.now
     c.if-index-buckets.false c.if-starts-lt-MAX_RECORD_SEGMENTS.false c.if-lengths-lt-MAX_RECORD_SEGMENTS.false
-    w.result w.new.starts w.ensures.0 w.ensures.1
-    c.if-count-gt-MAX_RECORD_SEGMENTS.false c.write_lengths.new.lengths c.write_lengths.ensures
-    c.if-filled-target.true
+    w.result w.new.starts w.ensures.0 w.ensures.1 n c.in_ok-count.was in
+    (starts, few, c.if-lengths-lt-MAX_RECORD_SEGMENTS.false)
 
 pub split_words-requires : goal.split_words-requires
 split_words-requires c =
     let a = c.args in
-    let w = c.write_starts-count in
-    let few = c.if-count-gt-MAX_RECORD_SEGMENTS.false in
+    let w = c.write_starts in
+    let n = c.in_ok-count.count in
     let starts =
     starts_written_law a.index.now a.buckets a.filled a.target a.starts.now a.lengths.now
     c.if-index-buckets.false c.if-starts-lt-MAX_RECORD_SEGMENTS.false c.if-lengths-lt-MAX_RECORD_SEGMENTS.false
-    w.result w.new.starts w.ensures.0 w.ensures.1
-    few in
+    w.result w.new.starts w.ensures.0 w.ensures.1 n c.in_ok-count.was in
+    let few =
+    few a.index.now a.buckets a.filled a.target a.starts.now a.lengths.now
+    c.if-index-buckets.false c.if-starts-lt-MAX_RECORD_SEGMENTS.false c.if-lengths-lt-MAX_RECORD_SEGMENTS.false
+    w.result w.new.starts w.ensures.0 w.ensures.1 n c.in_ok-count.was in
     (omega (arith, c.if-index-buckets.false), starts, few)
 
-pub returns : goal.returns
-returns c =
+pub returns-then-filled-target : goal.returns-then-filled-target
+returns-then-filled-target c =
     let a = c.args in
-    let w = c.write_starts-count in
+    let w = c.write_starts in
     let s = c.split_words in
     split_parts a.index.now a.buckets a.filled a.target a.starts.now a.lengths.now
     c.if-index-buckets.false c.if-starts-lt-MAX_RECORD_SEGMENTS.false c.if-lengths-lt-MAX_RECORD_SEGMENTS.false
-    w.result w.new.starts w.ensures.0 w.ensures.1
-    c.if-count-gt-MAX_RECORD_SEGMENTS.false c.write_lengths.new.lengths c.write_lengths.ensures
-    c.if-filled-target.false s.new.index s.ensures
+    w.result w.new.starts w.ensures.0 w.ensures.1 c.in_ok-count.count c.in_ok-count.was
+    c.write_lengths.new.lengths c.write_lengths.ensures c.if-filled-target.true s.new.index s.ensures
+
+pub returns-else-filled-target : goal.returns-else-filled-target
+returns-else-filled-target c =
+    let a = c.args in
+    let w = c.write_starts in
+    split_whole a.index.now a.buckets a.filled a.target a.starts.now a.lengths.now
+    c.if-index-buckets.false c.if-starts-lt-MAX_RECORD_SEGMENTS.false c.if-lengths-lt-MAX_RECORD_SEGMENTS.false
+    w.result w.new.starts w.ensures.0 w.ensures.1 c.in_ok-count.count c.in_ok-count.was
+    c.write_lengths.new.lengths c.write_lengths.ensures c.if-filled-target.false

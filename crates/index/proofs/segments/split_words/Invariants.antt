@@ -1,11 +1,9 @@
--- What each turn of the loop keeps.
-use Rattle.std.proofs.Common.{◌≡◌, ◌-◌, ◌*◌, ◌≤◌, ◌++◌, map, length, take, drop}
+-- What each turn of the loop keeps: the words passed are split, the others as they were.
+use Rattle.std.proofs.Common.{◌≡◌, ◌*◌, ◌++◌, map, take, drop}
 use Rattle.index.specs.Segments.{split_word}
 use Rattle.index.proofs.segments.split_words.Given as goal
 
-abbrev pub invariant-loop-i : goal.invariant-loop-i
-invariant-loop-i l =
-    (l.i ≤ 8 * l.buckets) × (l.index ≡ map (split_word (take l.count l.starts)) (take l.i l.initial.index) ++ drop l.i l.initial.index) × (length l.index ≡ length l.initial.index)
-
-abbrev pub decreases-loop-i : goal.decreases-loop-i
-decreases-loop-i l = 8 * l.buckets - l.i
+abbrev pub invariant-loop-word : goal.invariant-loop-word
+invariant-loop-word l =
+    let words = take (8 * l.buckets) l.fn.index in
+    l.word-items ≡ map (split_word (take l.count l.starts)) (take l.word-index words) ++ drop l.word-index words

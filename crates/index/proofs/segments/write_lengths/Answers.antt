@@ -53,12 +53,9 @@ returns c =
     let cleared = c.clear_segments in
     let whole = lengths_of a.filled (take a.count starts) in
     let last : a.count - 1 ≡ i = omega arith in
-    let stored = c.bytes_past.ensures ∙ ap (λ (k : ℕ). a.filled - get_or starts k 0) last in
+    let stored = c.saturating_sub.ensures ∙ ap (λ (k : ℕ). a.filled - get_or starts k 0) last in
     let left = lengths_last starts a.count i given a.filled (omega arith) in
     let f = filling_end (filling_next (a.filled - get_or starts i 0) [] c.loop-i.invariant.1 left (omega arith)) refl in
     ap₂ (λ (k x : ℕ). set c.loop-i.lengths k x) last stored
     ∙ f.1
     ∙ over_padded_cleared whole a.lengths.now cleared.new.area cleared.ensures
-
-pub bytes_past-requires : goal.bytes_past-requires
-bytes_past-requires c = tt

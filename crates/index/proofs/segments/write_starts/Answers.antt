@@ -3,6 +3,7 @@ use Rattle.std.proofs.Common.{◌+◌, ◌-◌, ◌*◌, [], length, take, ap, �
 use Rattle.index.specs.Segments.{starts_of}
 use Rattle.index.proofs.Starts.{starts_from, starts_from_law, from_none, from_next, from_last}
 use Rattle.index.proofs.Filling.{filling_none, filling_length, filling_next, filling_end, filling_over, over_padded_cleared, over_padded_length}
+use Rattle.index.proofs.Splits.{counted_few, counted_many}
 use Rattle.index.proofs.segments.write_starts.Goals as goal
 
 pub loop-next-init : goal.loop-next-init
@@ -27,7 +28,7 @@ returns-then-count-eq-MAX_RECORD_SEGMENTS c =
     let whole = starts_of words a.filled a.target in
     let last = from_last words a.filled a.target (256 - c.loop-next.count) c.loop-next.next c.loop-next-test.true (omega arith) in
     let f = filling_over c.loop-next.next c.loop-next.invariant.1 last c.if-count-eq-MAX_RECORD_SEGMENTS.true in
-    (f.0, f.1 ∙ over_padded_cleared whole a.starts.now cleared.new.area cleared.ensures)
+    (counted_many whole f.0, f.1 ∙ over_padded_cleared whole a.starts.now cleared.new.area cleared.ensures)
 
 pub offset_bounds-starts-count : goal.offset_bounds-starts-count
 offset_bounds-starts-count c = omega (arith, filling_length c.loop-next.invariant.1)
@@ -59,4 +60,4 @@ returns c =
     let cleared = c.clear_segments in
     let whole = starts_of words a.filled a.target in
     let f = filling_end c.loop-next.invariant.1 (from_none words a.filled a.target (256 - c.loop-next.count) c.loop-next.next c.loop-next-test.false) in
-    (f.0, f.1 ∙ over_padded_cleared whole a.starts.now cleared.new.area cleared.ensures)
+    (counted_few whole c.loop-next.count f.0 (omega arith), f.1 ∙ over_padded_cleared whole a.starts.now cleared.new.area cleared.ensures)

@@ -8,7 +8,7 @@ use Rattle.records.specs.Record.{record_bytes, record_size, size_outcome}
 use Rattle.records.proofs.Area.{written_in_law, written_out}
 use Rattle.records.proofs.Parts.{size_is, size_accepted, size_refused}
 use Rattle.records.proofs.record.append_record.Goals as goal
-use Rattle.records.proofs.record.append_record.Goals.{In-Bytes, Start}
+use Rattle.records.proofs.record.append_record.Goals.{In-Ok, Start}
 
 -- the record's bytes
 abbrev bytes : Start → List ℕ
@@ -18,14 +18,14 @@ bytes_size : (s : Start) → length (bytes s) ≡ record_size s.args.expiry (len
 bytes_size s = size_is s.args.expiry s.args.key.now s.args.value.now s.args.expires_at
 
 -- the start, from where the size is known
-abbrev from : In-Bytes → Start
+abbrev from : In-Ok → Start
 from c = c.before.before.before.before.before.before
 
-sized : (c : In-Bytes) → c.in-Bytes.size ≡ length (bytes (from c))
+sized : (c : In-Ok) → c.in-Ok.size ≡ length (bytes (from c))
 sized c =
     let a = c.args in
-    size_accepted a.expiry (length a.key.now) (length a.value.now) c.in-Bytes.size
-    (sym (ap size_outcome c.in-Bytes.is) ∙ c.encoded_record_bytes.ensures)
+    size_accepted a.expiry (length a.key.now) (length a.value.now) c.in-Ok.size
+    (sym (ap size_outcome c.in-Ok.is) ∙ c.encoded_record_bytes.ensures)
     ∙ sym (bytes_size (from c))
 
 pub returns-in_default : goal.returns-in_default
@@ -40,13 +40,13 @@ returns-in_default c =
 pub returns-then-rest-size : goal.returns-then-rest-size
 returns-then-rest-size c =
     let at = goal.at.returns-then-rest-size c in
-    rw (written_out (bytes at.Start) c.args.rest.now (omega (arith, sized at.In-Bytes))) (refl, refl)
+    rw (written_out (bytes at.Start) c.args.rest.now (omega (arith, sized at.In-Ok))) (refl, refl)
 
 pub put_record-requires : goal.put_record-requires
-put_record-requires c = omega (arith, sized (goal.at.put_record-requires c).In-Bytes)
+put_record-requires c = omega (arith, sized (goal.at.put_record-requires c).In-Ok)
 
 pub returns : goal.returns
 returns c =
     let at = goal.at.returns c in
     let p = c.put_record in
-    rw (written_in_law (bytes at.Start) c.args.rest.now (omega (arith, sized at.In-Bytes))) (sized at.In-Bytes, p.ensures)
+    rw (written_in_law (bytes at.Start) c.args.rest.now (omega (arith, sized at.In-Ok))) (sized at.In-Ok, p.ensures)

@@ -1,110 +1,125 @@
 -- `read_varint` meets its contract: what is read so far and what the standard's reader reads in the rest are what was asked. Assumes nothing.
 use mathlib.Core.Path.{◌≡◌, refl, sym, ap, ◌∙◌}
 use mathlib.Core.List.{List}
-use Prim.Native.Nat.{ℕ, ◌+◌, ◌*◌, ◌-◌, ◌^◌, ◌≤◌, ◌<◌}
+use Prim.Native.Nat.{ℕ, ◌+◌, ◌*◌, ◌-◌, ◌%◌, ◌^◌, ◌≤◌, ◌<◌}
 use native.Mathlib.Omega.{arith}
-use lib.ListN.{drop}
+use lib.ListN.{length, get_or, drop}
+use Rattle.std.proofs.lemmas.Slice.{between_to_end}
 use Rattle.records.specs.Uleb128.{Decoded, decode}
 use Rattle.records.specs.Varint.{read_varint}
-use Rattle.records.proofs.Prefix.{byte_none, byte_last, byte_next, answer, answer_start, answer_next, answer_last, answer_tenth, answer_over, scale_next, scale_last, part_small}
+use Rattle.records.proofs.Prefix.{read_past, byte_none, byte_last, byte_next, scale_next, scale_last, part_small, tenth_small}
+use Rattle.records.proofs.Prefix.{answer, answer_start, answer_next, answer_last, answer_tenth, answer_over}
 use Rattle.records.proofs.varint.read_varint.Goals as goal
-use Rattle.records.proofs.varint.read_varint.Goals.{After-wide-byte, At-loop-left}
-
-abbrev input_of : At-loop-left → List ℕ
-input_of c = c.before.before.args.input.now
+use Rattle.records.proofs.varint.read_varint.Goals.{At-loop-at, After-from-byte, After-from-byte-2}
 
 -- what the rest reads answers what was asked
-rest_is : (c : At-loop-left) {d : Decoded} → decode (drop c.loop-left.at (input_of c)) ≡ d
-    → answer c.loop-left.value c.loop-left.scale c.loop-left.at c.loop-left.left d ≡ read_varint (input_of c) c.before.before.args.cursor
-rest_is c e = let l = c.loop-left in sym (l.invariant.0 ∙ ap (answer l.value l.scale l.at l.left) e)
-
--- the byte read
-byte_of : (c : After-wide-byte) → c.wide-byte.result < 256
-byte_of c = omega (arith, c.before.shared_slice_known-in-loop-left-1.given c.before.before.before.before.loop-left.at)
+rest_is : (c : At-loop-at) {d : Decoded} → decode (drop c.loop-at.at c.in_ok-bytes.bytes.now) ≡ d
+    → answer c.loop-at.value c.loop-at.scale (c.args.cursor + c.loop-at.at) (9 - c.loop-at.at) d ≡ read_varint c.args.input.now c.args.cursor
+rest_is c e = let l = c.loop-at in sym (l.invariant.answers ∙ ap (answer l.value l.scale (c.args.cursor + l.at) (9 - l.at)) e)
 
 -- a payload's part of the number fits
-part_of : (c : After-wide-byte) (b : ℕ) → b < 128
-    → let l = c.before.before.before.before.loop-left in (b * l.scale ≤ 127 * l.scale) × (l.value + b * l.scale < l.scale * 128) × (l.scale * 128 ≤ 2 ^ 63)
-part_of c b h =
-    let l = c.before.before.before.before.loop-left in
-    part_small l.value l.scale l.left b l.invariant.1 c.before.before.before.loop-left-test.true l.invariant.2 h
+part_of : (c : After-from-byte) → let l = c.loop-at in let b = c.from-byte.result % 128 in
+    (b * l.scale ≤ 127 * l.scale) × (l.value + b * l.scale < l.scale * 128) × (l.scale * 128 ≤ 2 ^ 63)
+part_of c =
+    let l = c.loop-at in
+    part_small l.value l.scale (9 - l.at) (c.from-byte.result % 128) l.invariant.below (omega arith) l.invariant.scale_left (omega arith)
 
-payload_of : (c : After-wide-byte)
-    → let l = c.before.before.before.before.loop-left in
-    ((c.wide-byte.result - 128) * l.scale ≤ 127 * l.scale) × (l.value + (c.wide-byte.result - 128) * l.scale < l.scale * 128) × (l.scale * 128 ≤ 2 ^ 63)
-payload_of c = part_of c (c.wide-byte.result - 128) (omega (arith, byte_of c))
+byte_is : (c : After-from-byte) → (c.from-byte.result ≡ get_or c.in_ok-bytes.bytes.now c.loop-at.at 0) × (c.loop-at.at < length c.in_ok-bytes.bytes.now)
+byte_is c = let r = c.in_ok-get.ensures.lookup in (c.from-byte.ensures ∙ r.4 (omega arith) 0, r.3.0)
 
-pub loop-left-init : goal.loop-left-init
-loop-left-init c = (answer_start c.args.input.now c.args.cursor, omega arith, refl)
+last_byte : (c : After-from-byte-2) → (c.from-byte-2.result ≡ get_or c.in_ok-bytes.bytes.now c.loop-at.at 0) × (c.loop-at.at < length c.in_ok-bytes.bytes.now)
+last_byte c =
+    let r = c.in_ok-get-2.ensures.lookup in
+    let e : c.loop-at.at ≡ 9 = omega arith in
+    rw e (c.from-byte-2.ensures ∙ r.4 (omega arith) 0, r.3.0)
 
-pub returns-then-at-input : goal.returns-then-at-input
-returns-then-at-input c =
-    let known = goal.at.returns-then-at-input c in
-    rest_is known.At-loop-left (byte_none (input_of known.At-loop-left) c.loop-left.at c.if-at-input.true)
+pub returns-in_err-bytes : goal.returns-in_err-bytes
+returns-in_err-bytes c = c.from_residual.ensures ∙ sym (read_past c.args.input.now c.args.cursor (omega (arith, c.in_err-bytes.ensures.lookup)))
 
-pub overflow_mul-result : goal.overflow_mul-result
-overflow_mul-result c = omega (arith, part_of (goal.at.overflow_mul-result c).After-wide-byte c.wide-byte.result c.if-byte-lt128.true)
+pub loop-at-init : goal.loop-at-init
+loop-at-init c =
+    let start : c.args.cursor + 0 ≡ c.args.cursor = omega arith in
+    let all = between_to_end c.args.input.now c.args.cursor (length c.args.input.now) (omega arith) in
+    record {
+      answers = rw (c.in_ok-bytes.ensures.lookup.0.2, all, start) (answer_start c.args.input.now c.args.cursor);
+      below = omega arith;
+      scale_left = refl;
+    }
 
-pub overflow_add-result : goal.overflow_add-result
-overflow_add-result c = omega (arith, part_of (goal.at.overflow_add-result c).After-wide-byte c.wide-byte.result c.if-byte-lt128.true)
+pub returns-in_err-get : goal.returns-in_err-get
+returns-in_err-get c =
+    let at = goal.at.returns-in_err-get c in
+    c.from_residual-in_err-get.ensures
+    ∙ rest_is at.At-loop-at (byte_none c.in_ok-bytes.bytes.now c.loop-at.at (omega (arith, c.in_err-get.ensures.lookup)))
+
+pub overflow_mul-value : goal.overflow_mul-value
+overflow_mul-value c = omega (arith, part_of c)
+
+pub overflow_add-value : goal.overflow_add-value
+overflow_add-value c = omega (arith, part_of c)
 
 pub returns-then-byte-lt128 : goal.returns-then-byte-lt128
 returns-then-byte-lt128 c =
-    let known = goal.at.returns-then-byte-lt128 c in
-    let l = c.loop-left in
-    let b : ℕ = c.wide-byte.result in
-    sym (answer_last l.value l.scale l.at b l.left (omega (arith, part_of known.After-wide-byte b c.if-byte-lt128.true)))
-    ∙ rest_is known.At-loop-left (byte_last (input_of known.At-loop-left) l.at b c.wide-byte.ensures c.if-at-input.false c.if-byte-lt128.true)
-
-pub overflow_mul-value : goal.overflow_mul-value
-overflow_mul-value c = omega (arith, payload_of (goal.at.overflow_mul-value c).After-wide-byte)
-
-pub overflow_add-value : goal.overflow_add-value
-overflow_add-value c = omega (arith, payload_of (goal.at.overflow_add-value c).After-wide-byte)
+    let at = goal.at.returns-then-byte-lt128 c in
+    let l = c.loop-at in
+    let b : ℕ = c.from-byte.result in
+    let i = byte_is at.After-from-byte in
+    sym (answer_last l.value l.scale (c.args.cursor + l.at) b (9 - l.at) c.if-byte-lt128.true (omega (arith, part_of at.After-from-byte)))
+    ∙ rest_is at.At-loop-at (byte_last c.in_ok-bytes.bytes.now l.at b i.0 i.1 c.if-byte-lt128.true)
 
 pub overflow_mul-scale : goal.overflow_mul-scale
-overflow_mul-scale c = omega (arith, payload_of (goal.at.overflow_mul-scale c).After-wide-byte)
+overflow_mul-scale c = omega (arith, part_of (goal.at.overflow_mul-scale c).After-from-byte)
 
-pub loop-left-preserved : goal.loop-left-preserved
-loop-left-preserved c =
-    let known = goal.at.loop-left-preserved c in
-    let l = c.loop-left in
-    let b : ℕ = c.wide-byte.result in
-    let more = c.loop-left-test.true in (
-      sym (rest_is known.At-loop-left (byte_next (input_of known.At-loop-left) l.at b c.wide-byte.ensures c.if-at-input.false c.if-byte-lt128.false))
-          ∙ answer_next l.value l.scale l.at b l.left (decode (drop (l.at + 1) (input_of known.At-loop-left))) c.if-byte-lt128.false (byte_of known.After-wide-byte) more,
-      (payload_of known.After-wide-byte).1,
-      scale_next l.scale l.left more l.invariant.2,
-    )
+pub loop-at-preserved : goal.loop-at-preserved
+loop-at-preserved c =
+    let at = goal.at.loop-at-preserved c in
+    let l = c.loop-at in
+    let b : ℕ = c.from-byte.result in
+    let bytes : List ℕ = c.in_ok-bytes.bytes.now in
+    let i = byte_is at.After-from-byte in
+    let more : 0 < 9 - l.at = omega arith in
+    let e : 9 - l.at - 1 ≡ 9 - (l.at + 1) = omega arith in
+    let next : c.args.cursor + (l.at + 1) ≡ c.args.cursor + l.at + 1 = omega arith in
+    record {
+      answers = rw (← e, next)
+          (sym (rest_is at.At-loop-at (byte_next bytes l.at b i.0 i.1 c.if-byte-lt128.false))
+          ∙ answer_next l.value l.scale (c.args.cursor + l.at) b (9 - l.at) (decode (drop (l.at + 1) bytes)) more);
+      below = (part_of at.After-from-byte).1;
+      scale_left = rw (← e) (scale_next l.scale (9 - l.at) more l.invariant.scale_left);
+    }
 
-pub returns-then-at-input-2 : goal.returns-then-at-input-2
-returns-then-at-input-2 c =
-    let known = goal.at.returns-then-at-input-2 c in
-    rest_is known.At-loop-left (byte_none (input_of known.At-loop-left) c.loop-left.at c.if-at-input-2.true)
+pub returns-in_err-get-2 : goal.returns-in_err-get-2
+returns-in_err-get-2 c =
+    let at = goal.at.returns-in_err-get-2 c in
+    let past : length c.in_ok-bytes.bytes.now ≤ 9 = omega (arith, c.in_err-get-2.ensures.lookup) in
+    c.from_residual-in_err-get-2.ensures ∙ rest_is at.At-loop-at (byte_none c.in_ok-bytes.bytes.now c.loop-at.at (omega arith))
 
 pub returns-then-byte-ge128 : goal.returns-then-byte-ge128
 returns-then-byte-ge128 c =
-    let known = goal.at.returns-then-byte-ge128 c in
-    let l = c.loop-left in
-    let b : ℕ = c.wide-byte-2.result in
-    sym (answer_over l.value l.scale l.at b l.left (drop (l.at + 1) (input_of known.At-loop-left)) c.loop-left-test.false)
-    ∙ rest_is known.At-loop-left (byte_next (input_of known.At-loop-left) l.at b c.wide-byte-2.ensures c.if-at-input-2.false c.if-byte-ge128.true)
+    let at = goal.at.returns-then-byte-ge128 c in
+    let l = c.loop-at in
+    let b : ℕ = c.from-byte-2.result in
+    let bytes : List ℕ = c.in_ok-bytes.bytes.now in
+    let i = last_byte at.After-from-byte-2 in
+    sym (answer_over l.value l.scale (c.args.cursor + l.at) b (9 - l.at) (drop (l.at + 1) bytes) (omega arith))
+    ∙ rest_is at.At-loop-at (byte_next bytes l.at b i.0 i.1 c.if-byte-ge128.true)
+
+-- after nine bytes one bit is left
+last_scale : (c : After-from-byte-2) → c.loop-at.scale ≡ 2 ^ 63
+last_scale c = let l = c.loop-at in scale_last l.scale (9 - l.at) (omega arith) l.invariant.scale_left
 
 pub overflow_add-result-2 : goal.overflow_add-result-2
 overflow_add-result-2 c =
-    let l = c.loop-left in
-    omega (arith, scale_last l.scale l.left c.loop-left-test.false l.invariant.2)
+    let l = c.loop-at in
+    omega (arith, tenth_small l.value l.scale c.from-byte-2.result (last_scale (goal.at.overflow_add-result-2 c).After-from-byte-2) l.invariant.below)
 
 pub returns : goal.returns
 returns c =
-    let known = goal.at.returns c in
-    let l = c.loop-left in
-    let b : ℕ = c.wide-byte-2.result in
-    sym (answer_tenth l.value l.scale l.at b l.left (scale_last l.scale l.left c.loop-left-test.false l.invariant.2) l.invariant.1)
-    ∙ rest_is known.At-loop-left (byte_last (input_of known.At-loop-left) l.at b c.wide-byte-2.ensures c.if-at-input-2.false c.if-byte-ge128.false)
-
-pub wide-byte-requires : goal.wide-byte-requires
-wide-byte-requires c = tt
-
-pub wide-byte-requires-2 : goal.wide-byte-requires-2
-wide-byte-requires-2 c = tt
+    let at = goal.at.returns c in
+    let l = c.loop-at in
+    let b : ℕ = c.from-byte-2.result in
+    let i = last_byte at.After-from-byte-2 in
+    let e : c.args.cursor + 9 + 1 ≡ c.args.cursor + l.at + 1 = omega arith in
+    rw e
+    (sym (answer_tenth l.value l.scale (c.args.cursor + l.at) b (9 - l.at) (last_scale at.After-from-byte-2) l.invariant.below)
+    ∙ rest_is at.At-loop-at (byte_last c.in_ok-bytes.bytes.now l.at b i.0 i.1 c.if-byte-ge128.false))

@@ -6,8 +6,5 @@ use Rattle.sets.proofs.lookup.next_entry.Given as goal
 
 abbrev pub invariant-loop-slot : goal.invariant-loop-slot
 invariant-loop-slot l =
-    first_entry (entry_at (record_in l.view l.arena l.starts l.lengths) l.packed l.buckets l.index) l.slot (8 * l.buckets - l.slot)
-    ≡ next_entry (record_in l.view l.arena l.starts l.lengths) l.packed l.buckets l.index l.from
-
-abbrev pub decreases-loop-slot : goal.decreases-loop-slot
-decreases-loop-slot l = l.slots - l.slot
+    first_entry (entry_at (record_in l.view l.areas.arena.now l.areas.starts.now l.areas.lengths.now) l.index.packed l.index.buckets l.index.words.now) l.slot (8 * l.index.buckets - l.slot)
+    ≡ next_entry (record_in l.view l.areas.arena.now l.areas.starts.now l.areas.lengths.now) l.index.packed l.index.buckets l.index.words.now l.from

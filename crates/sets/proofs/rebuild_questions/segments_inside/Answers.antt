@@ -1,35 +1,16 @@
 -- `segments_inside` meets its contract. Assumes nothing.
-use Rattle.std.proofs.Common.{◌≡◌, ℕ, sym, refl, ap, ◌∙◌, arith}
-use Rattle.sets.specs.Rebuild.{segments_inside}
-use Rattle.sets.proofs.RebuildSteps.{segments_more, segments_not}
+use Rattle.std.proofs.Common.{◌+◌, ◌<◌, ◌≤◌, take, rules}
+use borrow.Author.Tests.{tests}
+use Rattle.std.specs.Iterator.Adapters.{zip_first, zip_second}
+use Rattle.std.proofs.lemmas.Iterator.{YieldsList-from_slice, YieldsList-from_zip, cases_from_all}
+use Rattle.sets.proofs.RebuildSteps.{pairs_inside}
 use Rattle.sets.proofs.rebuild_questions.segments_inside.Goals as goal
-
-pub loop-i-init : goal.loop-i-init
-unfolding segments_inside
-loop-i-init c = (omega arith, refl)
-
-pub returns-then-lengths-i : goal.returns-then-lengths-i
-returns-then-lengths-i c =
-    let a = c.args in
-    let loop = c.loop-i in
-    sym (segments_not a.filled a.starts.now a.lengths.now a.count loop.i (omega arith) (omega (arith, c.if-lengths-i.true)))
-
-pub returns-then-starts-i : goal.returns-then-starts-i
-returns-then-starts-i c =
-    let a = c.args in
-    let loop = c.loop-i in
-    let if1 = c.if-lengths-i in
-    sym (segments_not a.filled a.starts.now a.lengths.now a.count loop.i (omega arith) (omega (arith, if1.false, c.if-starts-i.true)))
-
-pub loop-i-preserved : goal.loop-i-preserved
-loop-i-preserved c =
-    let a = c.args in
-    let loop = c.loop-i in
-    let if1 = c.if-lengths-i in
-    (omega arith, segments_more a.filled a.starts.now a.lengths.now loop.i loop.invariant.1 (omega (arith, if1.false, c.if-starts-i.false)))
 
 pub returns : goal.returns
 returns c =
     let a = c.args in
-    let e : c.loop-i.i ≡ a.count = omega arith in
-    sym (sym (ap (λ (n : ℕ). segments_inside n a.filled a.starts.now a.lengths.now) e) ∙ c.loop-i.invariant.1)
+    let starts = YieldsList-from_slice {s = zip_first c.zip-segments.result} (take a.count a.starts.now) (search rules) in
+    let lengths = YieldsList-from_slice {s = zip_second c.zip-segments.result} (take a.count a.lengths.now) (search rules) in
+    pairs_inside a.count a.filled a.starts.now a.lengths.now c.requires.0 c.requires.1 c.all.result
+    (cases_from_all c.all.new.self _ _ (λ p. p.0 + p.1 ≤ a.filled) (λ p. a.filled < p.0 + p.1) c.all.ensures.ran (YieldsList-from_zip starts lengths)
+    (λ x q k. search (rules, tests)) (λ x q k. search (rules, tests)))

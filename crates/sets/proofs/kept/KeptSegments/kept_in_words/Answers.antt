@@ -14,22 +14,18 @@ counted c =
 
 pub loop-at-init : goal.loop-at-init
 unfolding flat_map
-loop-at-init c = (omega arith, omega arith, refl)
+loop-at-init c = (omega arith, refl)
 
 pub loop-at-preserved : goal.loop-at-preserved
 loop-at-preserved c =
     let l = c.loop-at in
-    let next = count_next_word (kept_words c.args.self) l.at (omega (arith, c.requires)) in
-    (omega arith, omega (arith, (counted c).1), ap₂ (λ (x y : ℕ). x + y) l.invariant.2 (counted c).0 ∙ next)
-
-pub returns : goal.returns
-returns c =
-    let l = c.loop-at in
-    let e : l.at ≡ c.args.count = omega arith in
-    rw e at l.invariant.2
+    let n = counted (goal.at.loop-at-preserved c).After-word in
+    let next = count_next_word (kept_words c.args.self) l.at (omega (arith, c.loop-at-test.true, c.requires)) in
+    (omega (arith, l.invariant.0, n.1), ap₂ (λ (x y : ℕ). x + y) l.invariant.1 n.0 ∙ next)
 
 pub overflow_cast-kept : goal.overflow_cast-kept
-overflow_cast-kept c = omega (arith, (counted c).1)
+overflow_cast-kept c = omega (arith, (counted (goal.at.overflow_cast-kept c).After-word).1)
 
 pub overflow_add-kept : goal.overflow_add-kept
-overflow_add-kept c = omega (arith, (counted c).1, c.requires)
+overflow_add-kept c =
+    omega (arith, (counted (goal.at.overflow_add-kept c).After-word).1, c.loop-at.invariant.0, c.loop-at-test.true, c.requires)

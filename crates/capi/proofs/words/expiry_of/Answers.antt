@@ -1,9 +1,0 @@
--- `expiry_of` meets its contract by its tests. Assumes nothing.
-use borrow.Author.Tests.{eq-eqb, ne_eqb}
-use Rattle.capi.proofs.words.expiry_of.Goals as goal
-
-pub returns-then-flag-eq1 : goal.returns-then-flag-eq1
-returns-then-flag-eq1 c = rw (eq-eqb _ _ c.if-flag-eq1.true)
-
-pub returns : goal.returns
-returns c = rw (ne_eqb _ _ c.if-flag-eq1.false)
