@@ -2,6 +2,7 @@
 ghost use Rattle.std.specs.Prelude.{◌≡◌, true, ◌+◌, ◌*◌, ◌<◌, ◌≤◌, length};
 ghost use Rattle.records.specs.Area.{over, pasted};
 ghost use Rattle.index.specs.View.{record_in};
+ghost use Rattle.sets.specs.Lookup.{entry_at};
 ghost use Rattle.charts.specs.Line.{line, lines, pages_for, sheet};
 ghost use Rattle.charts.specs.Sheet.{after_sheet, pages_answer, row_count, row_fits, row_of, rows_fit, rows_in, sheet_reply, sheet_result};
 
@@ -22,20 +23,6 @@ const PAGE_BYTES: usize = PAGE_LINES * LINE_BYTES;
 // The columns of key and value show so many bytes.
 const FIELD_BYTES: usize = 12;
 
-#[derive(Clone, Copy)]
-pub enum SheetAnswer {
-    // How many pages the sheet has.
-    Pages(usize),
-    Refused(SegmentCacheBuildError),
-}
-
-#[derive(Clone, Copy)]
-pub(crate) enum RowCount {
-    Rows(usize),
-    // A key or value is too long for its columns.
-    TooLong,
-}
-
 // How many pages a set's sheet has. A page takes 3,250 bytes.
 pub fn sheet_pages(
     set: FrozenSegmentCache,
@@ -43,14 +30,14 @@ pub fn sheet_pages(
     starts: &[u64],
     lengths: &[u64],
     arena: &[u8],
-) -> SheetAnswer
+) -> Result<usize, SegmentCacheBuildError>
     ensures { sheet_reply result ≡ pages_answer set index.now starts.now lengths.now arena.now }
 {
     if !set.areas_hold(index.len(), starts.len(), lengths.len(), arena.len()) {
-        return SheetAnswer::Refused(SegmentCacheBuildError::InvalidState);
+        return Err(SegmentCacheBuildError::InvalidState);
     }
     let packed = set.config.packed_bucket_index;
-    let count = count_rows(
+    let rows = count_rows(
         set.view(),
         packed,
         set.buckets,
@@ -58,11 +45,8 @@ pub fn sheet_pages(
         starts,
         lengths,
         arena,
-    );
-    let RowCount::Rows(rows) = count else {
-        return SheetAnswer::Refused(SegmentCacheBuildError::FieldTooLong);
-    };
-    SheetAnswer::Pages((rows + (PAGE_LINES - 1)) / PAGE_LINES)
+    )?;
+    Ok(rows.div_ceil(PAGE_LINES))
 }
 
 // Prints a set's sheet to the front of a page area, and says how many pages it has.
@@ -73,15 +57,12 @@ pub fn print_sheet(
     lengths: &[u64],
     arena: &[u8],
     page: &mut [u8],
-) -> SheetAnswer
+) -> Result<usize, SegmentCacheBuildError>
     ensures { sheet_result result page.new ≡ after_sheet set index.now starts.now lengths.now arena.now page.old }
 {
-    let answer = sheet_pages(set, index, starts, lengths, arena);
-    let SheetAnswer::Pages(pages) = answer else {
-        return answer;
-    };
+    let pages = sheet_pages(set, index, starts, lengths, arena)?;
     if page.len() / PAGE_BYTES < pages {
-        return SheetAnswer::Refused(SegmentCacheBuildError::AreaTooShort);
+        return Err(SegmentCacheBuildError::AreaTooShort);
     }
     let packed = set.config.packed_bucket_index;
     write_sheet(
@@ -95,7 +76,7 @@ pub fn print_sheet(
         pages,
         page,
     );
-    answer
+    Ok(pages)
 }
 
 // The first pass: counts the rows, and asks of each whether it fits.
@@ -107,41 +88,49 @@ fn count_rows(
     starts: &[u64],
     lengths: &[u64],
     arena: &[u8],
-) -> RowCount
+) -> Result<usize, SegmentCacheBuildError>
     requires { 8 * buckets ≤ length index.now }
     ensures { result ≡ row_count 0 (rows_in (record_in view arena.now starts.now lengths.now) packed buckets index.now arena.now) }
 {
-    let slots = buckets * BUCKET_SLOTS;
     let mut rows = 0;
-    let mut slot = 0;
-    while slot < slots {
-        let here = slot;
-        slot += 1;
-        let IndexSlot::Used(_, stored) = slot_at(index, packed, buckets, here) else {
-            continue;
-        };
-        let read = record_at_location(view, arena, starts, lengths, stored);
+    for slot in 0..buckets * BUCKET_SLOTS {
+        let read = entry_at(view, packed, buckets, slot, index, starts, lengths, arena);
         let RecordAnswer::Read(entry) = read else {
             continue;
         };
         if !entry_fits(arena, entry) {
-            return RowCount::TooLong;
+            return Err(SegmentCacheBuildError::FieldTooLong);
         }
         rows += 1;
     }
-    RowCount::Rows(rows)
+    Ok(rows)
+}
+
+// The record that a slot names.
+fn entry_at(
+    view: SegmentView,
+    packed: bool,
+    buckets: usize,
+    slot: usize,
+    index: &[u64],
+    starts: &[u64],
+    lengths: &[u64],
+    arena: &[u8],
+) -> RecordAnswer
+    ensures { result ≡ entry_at (record_in view arena.now starts.now lengths.now) packed buckets index.now slot }
+{
+    let IndexSlot::Used(_, stored) = slot_at(index, packed, buckets, slot) else {
+        return RecordAnswer::Unreadable;
+    };
+    record_at_location(view, arena, starts, lengths, stored)
 }
 
 // Whether key and value fit their columns.
 fn entry_fits(arena: &[u8], entry: RecordRef) -> bool
     ensures { result ≡ row_fits (row_of arena.now (record { slot = 0; entry = entry })) }
 {
-    let key = entry.key;
-    let value = entry.value;
-    if value_slice(arena, key).len() > FIELD_BYTES {
-        return false;
-    }
-    value_slice(arena, value).len() <= FIELD_BYTES
+    value_slice(arena, entry.key).len() <= FIELD_BYTES
+        && value_slice(arena, entry.value).len() <= FIELD_BYTES
 }
 
 // The second pass: a line to each row, and blank lines to the end of the last page.
@@ -182,20 +171,13 @@ fn write_rows(
     ensures value { (result ≡ length (rows_in (record_in view arena.now starts.now lengths.now) packed buckets index.now arena.now)) × (65 * result ≡ length (lines (length (rows_in (record_in view arena.now starts.now lengths.now) packed buckets index.now arena.now)) (rows_in (record_in view arena.now starts.now lengths.now) packed buckets index.now arena.now))) }
     ensures page_after { page.new ≡ over (lines (length (rows_in (record_in view arena.now starts.now lengths.now) packed buckets index.now arena.now)) (rows_in (record_in view arena.now starts.now lengths.now) packed buckets index.now arena.now)) page.old }
 {
-    let slots = buckets * BUCKET_SLOTS;
     let mut rows = 0;
-    let mut slot = 0;
-    while slot < slots {
-        let here = slot;
-        slot += 1;
-        let IndexSlot::Used(_, stored) = slot_at(index, packed, buckets, here) else {
-            continue;
-        };
-        let read = record_at_location(view, arena, starts, lengths, stored);
+    for slot in 0..buckets * BUCKET_SLOTS {
+        let read = entry_at(view, packed, buckets, slot, index, starts, lengths, arena);
         let RecordAnswer::Read(entry) = read else {
             continue;
         };
-        rows = put_entry(page, rows, here, entry, arena);
+        rows = put_entry(page, rows, slot, entry, arena);
     }
     rows
 }
@@ -204,14 +186,12 @@ fn put_entry(page: &mut [u8], number: usize, slot: usize, entry: RecordRef, aren
     requires { (65 * number + 65 ≤ length page.old) × (slot < 100000000) × (row_fits (row_of arena.now (record { slot = slot; entry = entry })) ≡ true) }
     ensures { (result ≡ number + 1) × (page.new ≡ pasted (65 * number) (line (row_of arena.now (record { slot = slot; entry = entry }))) page.old) }
 {
-    let key = entry.key;
-    let value = entry.value;
     put_row(
         page,
         number,
         slot,
-        value_slice(arena, key),
-        value_slice(arena, value),
+        value_slice(arena, entry.key),
+        value_slice(arena, entry.value),
         entry.expires_at,
     )
 }

@@ -1,6 +1,6 @@
 -- What each turn of the loop keeps.
 use mathlib.Core.Path.{◌≡◌}
-use Prim.Native.Nat.{◌-◌, ◌*◌, ◌≤◌}
+use Prim.Native.Nat.{◌*◌, ◌≤◌}
 use Rattle.index.specs.View.{record_in}
 use Rattle.sets.specs.Lookup.{entry_at}
 use Rattle.charts.specs.Sheet.{row_count, rows_in}
@@ -12,6 +12,3 @@ invariant-loop-slot l =
     (row_count l.rows (rows_from (entry_at (record_in l.view l.arena l.starts l.lengths) l.packed l.buckets l.index) l.arena (8 * l.buckets) l.slot)
     ≡ row_count 0 (rows_in (record_in l.view l.arena l.starts l.lengths) l.packed l.buckets l.index l.arena))
     × (l.rows ≤ l.slot)
-
-abbrev pub decreases-loop-slot : goal.decreases-loop-slot
-decreases-loop-slot l = l.slots - l.slot

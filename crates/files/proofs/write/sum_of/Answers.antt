@@ -1,30 +1,28 @@
 -- `sum_of` meets its contract. Assumes nothing.
-use mathlib.Core.Path.{◌≡◌, refl, ap, ◌∙◌}
-use Prim.Native.Nat.{ℕ, ◌+◌}
-use native.Mathlib.Omega.{arith}
+use Rattle.std.proofs.Common.{◌≡◌, ◌+◌, ◌<◌, get_or, take, refl, arith}
+use Rattle.std.proofs.lemmas.List.{get_or-take, length-take-le}
 use Rattle.sets.specs.Rebuild.{sum_of}
 use Rattle.sets.proofs.RebuildSteps.{sum_more, sum_most}
 use Rattle.files.proofs.write.sum_of.Goals as goal
+use Rattle.files.proofs.write.sum_of.Goals.{In-loop-word}
 
-pub loop-i-init : goal.loop-i-init
+-- the sum with the word of a turn
+next_sum : (c : In-loop-word) → let i = c.loop-word.word-index in (i < c.args.count) × (c.loop-word.sum + get_or (take c.args.count c.args.words.now) i 0 ≡ sum_of (i + 1) c.args.words.now)
+next_sum c =
+    let i = c.loop-word.word-index in
+    let n = c.args.count in
+    let words = c.args.words.now in
+    let h : i < n = omega (arith, length-take-le n words c.requires.0, c.loop-word-test.true) in
+    (h, omega (arith, c.loop-word.invariant, get_or-take n words i 0 h, sum_more i words))
+
+pub loop-word-init : goal.loop-word-init
 unfolding sum_of
-loop-i-init c = (omega arith, refl)
+loop-word-init c = refl
 
 pub overflow_add-sum : goal.overflow_add-sum
 overflow_add-sum c =
-    let a = c.args in
-    let loop = c.loop-i in
-    let i = loop.i in
-    omega (arith, loop.invariant.1, sum_more i a.words.now, sum_most (i + 1) a.count a.words.now (omega arith), c.requires.1)
+    let next = next_sum (goal.at.overflow_add-sum c).In-loop-word in
+    omega (arith, next.1, sum_most (c.loop-word.word-index + 1) c.args.count c.args.words.now (omega (arith, next.0)), c.requires.1)
 
-pub loop-i-preserved : goal.loop-i-preserved
-loop-i-preserved c =
-    let a = c.args in
-    let loop = c.loop-i in
-    (omega arith, omega (arith, loop.invariant.1, sum_more loop.i a.words.now))
-
-pub returns : goal.returns
-returns c =
-    let a = c.args in
-    let e : c.loop-i.i ≡ a.count = omega arith in
-    c.loop-i.invariant.1 ∙ ap (λ (n : ℕ). sum_of n a.words.now) e
+pub loop-word-preserved : goal.loop-word-preserved
+loop-word-preserved c = (next_sum (goal.at.loop-word-preserved c).In-loop-word).1
