@@ -7,7 +7,7 @@ use mathlib.Core.List.{List, [], ◌∷◌}
 use Prim.Native.Nat.{ℕ}
 use Rattle.hash_parts.specs.declared.error.SegmentCacheBuildError.{SegmentCacheBuildError}
 use Rattle.hash_parts.specs.declared.setting.SegmentCacheConfig.{SegmentCacheConfig}
-use Rattle.sets.specs.Answers.{replied, get_reply, take_reply, probe_reply, walk_reply, stats_reply}
+use Rattle.sets.specs.Answers.{replied, get_reply, probe_reply, walk_reply, stats_reply}
 use Rattle.sets.specs.Build.{Opened, open_result, after_open, push_result, after_push, finish_result, after_finish}
 use Rattle.sets.specs.Lookup.{Got, get_result, after_get, after_peek, Taken, take_result, after_take, probe_answer, walk_answer, stats_answer}
 use Rattle.sets.specs.Rebuild.{rebuild_open_result, after_rebuild_open, reused_result, after_reused, copied_result, after_copied, rebuild_finish_result, after_rebuild_finish}
