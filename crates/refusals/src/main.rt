@@ -5,18 +5,28 @@
 
 use crate::calls::Calls;
 use crate::case::{Case, Word};
-use std::io;
+use std::io::Read;
 
 mod calls;
 mod case;
 
+const TABLE_BYTES: usize = 16_384;
+
 fn main(rt: HostRuntime) -> anyhow::Result<()> {
-    let table = io::read_to_string(rt.alloc(), rt.stdin())?;
-    run(&rt, table.as_str())
+    run(&rt, &mut rt.stdin(), &mut [0; TABLE_BYTES])
+}
+
+fn run(
+    rt: &impl Print,
+    input: &mut impl Read,
+    table: &mut [u8; TABLE_BYTES],
+) -> anyhow::Result<()> {
+    let length = show::input::read_full(input, table);
+    ask_all(rt, str::from_utf8(&table[..length])?)
 }
 
 /// A line that begins with `#` is a comment. One named `=` has the words that pass for the lines below it.
-fn run(rt: &impl Print, table: &str) -> anyhow::Result<()> {
+fn ask_all(rt: &impl Print, table: &str) -> anyhow::Result<()> {
     let mut passing = Case::default();
     for line in table.lines() {
         if line.is_empty() || line.starts_with('#') {

@@ -1,6 +1,10 @@
 //! The areas of the sets, and the calls that are lent them.
+ghost use Rattle.std.specs.Prelude.{◌<◌, length};
+ghost use Rattle.replay.specs.declared.line.TheConstants.{TOLD};
+
 use crate::checksum::{with_segments, with_words};
-use crate::line::{Kind, Line, Told};
+use crate::line::{Kind, Line, TOLD, Told};
+use capi::answers::{RECORD_WORDS, SPAN_WORDS};
 use capi::build_calls::{segment_cache_finish, segment_cache_open};
 use capi::rebuild_calls::{segment_cache_rebuild_finish, segment_cache_rebuild_open};
 use capi::stats_calls::{
@@ -51,7 +55,9 @@ pub(crate) fn make_call(line: &Line, sets: &mut [Areas; 4], arena: &mut Arena) -
         Kind::PushCopied => areas.push_copied(line, arena),
         Kind::RebuildFinish => areas.rebuild_finish(arena),
         Kind::Checksum => told(areas.checksum(line, arena), &[]),
-        _ => areas.look_up(line, arena),
+        Kind::Get | Kind::Peek => areas.look_up::<SPAN_WORDS>(line, arena),
+        Kind::Probe | Kind::Walk => areas.look_up::<RECORD_WORDS>(line, arena),
+        Kind::Take | Kind::Unreadable => areas.look_up::<1>(line, arena),
     }
 }
 
@@ -187,43 +193,36 @@ impl Areas {
         told(refusal, &place)
     }
 
-    /// The second number is the hash, or the slot at which a walk goes on, and the third the tick.
-    fn look_up(&mut self, line: &Line, arena: &Arena) -> Told {
-        let Areas {
-            set,
-            index,
-            filter,
-            starts,
-            sizes,
-            ..
-        } = self;
+    /// The second number is the hash, or the slot at which a walk goes on, and the third the tick. A line that
+    /// is no lookup is told what no call answers.
+    fn look_up<const WORDS: usize>(&mut self, line: &Line, arena: &Arena) -> Told
+        requires { WORDS < TOLD }
+    {
         let [_, hash, tick, ..] = line.numbers;
-        let slot = hash as usize;
-        let mut told = [0; 13];
-        let to = match line.kind {
-            Kind::Get | Kind::Peek => &mut told[1..4],
-            Kind::Probe | Kind::Walk => &mut told[1..],
-            _ => &mut told[1..2],
-        };
-        told[0] = match line.kind {
+        let (slot, key) = (hash as usize, line.key);
+        let (set, index) = (&self.set[..], &mut self.index[..]);
+        let (filter, starts, sizes) = (&self.filter[..], &self.starts[..], &self.sizes[..]);
+        let mut words = [0; WORDS];
+        let to = &mut words[..];
+        let refusal = match line.kind {
             Kind::Get => segment_cache_get(
-                set, hash, line.key, tick, index, filter, starts, sizes, arena, to,
+                set, hash, key, tick, index, filter, starts, sizes, arena, to,
             ),
             Kind::Peek => segment_cache_peek(
-                set, hash, line.key, tick, index, filter, starts, sizes, arena, to,
+                set, hash, key, tick, index, filter, starts, sizes, arena, to,
             ),
             Kind::Take => segment_cache_take_accessed(
-                set, hash, line.key, index, filter, starts, sizes, arena, to,
+                set, hash, key, index, filter, starts, sizes, arena, to,
             ),
             Kind::Probe => segment_cache_probe(
-                set, hash, line.key, tick, index, filter, starts, sizes, arena, to,
+                set, hash, key, tick, index, filter, starts, sizes, arena, to,
             ),
             Kind::Walk => segment_cache_next_entry(
                 set, slot, tick, index, starts, sizes, arena, to,
             ),
             _ => u64::MAX,
         };
-        told
+        told(refusal, &words)
     }
 
     /// Index words, filter words, and of each segment its start, its length and its bytes.
@@ -244,11 +243,11 @@ impl Areas {
     }
 }
 
-fn told(refusal: u64, words: &[u64]) -> Told {
-    let mut told = [0; 13];
+fn told(refusal: u64, words: &[u64]) -> Told
+    requires { length words.now < TOLD }
+{
+    let mut told = [0; TOLD];
     told[0] = refusal;
-    for (to, word) in told[1..].iter_mut().zip(words) {
-        *to = *word;
-    }
+    told[1..1 + words.len()].copy_from_slice(words);
     told
 }

@@ -15,17 +15,19 @@ pub(crate) fn with_words(sum: u64, words: &[u64], count: u64) -> u64 {
 
 /// The sum with start, length and bytes of so many segments.
 pub(crate) fn with_segments(
-    sum: u64,
+    mut sum: u64,
     starts: &[u64],
     lengths: &[u64],
     count: u64,
     arena: &[u8],
 ) -> u64 {
-    let segments = starts.iter().zip(lengths).take(count as usize);
-    segments.fold(sum, |sum, (&start, &length)| {
+    for (&start, &length) in starts.iter().zip(lengths).take(count as usize) {
         let end = start.wrapping_add(length);
         let bytes = arena.get(start as usize..end as usize).unwrap_or(&[]);
-        let sum = joined(joined(sum, start), length);
-        bytes.iter().map(|&byte| byte.into()).fold(sum, joined)
-    })
+        sum = joined(joined(sum, start), length);
+        for &byte in bytes {
+            sum = joined(sum, u64::from(byte));
+        }
+    }
+    sum
 }

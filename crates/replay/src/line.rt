@@ -46,16 +46,19 @@ impl Kind {
     ];
 
     fn named(text: &str) -> Option<Kind> {
-        let mut all = Kind::ALL.into_iter();
-        let (kind, _) = all.find(|(_, name)| *name == text)?;
-        Some(kind)
+        for (kind, name) in &Kind::ALL {
+            if *name == text {
+                return Some(*kind);
+            }
+        }
+        None
     }
 }
 
 /// The refusal, or 0, and the words that a call writes, with zeros behind them. A record has the most words.
 pub(crate) type Told = [u64; TOLD];
 
-const TOLD: usize = 1 + RECORD_WORDS;
+pub(crate) const TOLD: usize = 1 + RECORD_WORDS;
 
 #[derive(Clone, Copy)]
 pub(crate) struct Line<'a> {
@@ -122,11 +125,14 @@ fn bytes<'a>(field: &str, times: usize, area: &'a mut [u8]) -> Option<(&'a [u8],
     Some((bytes, rest))
 }
 
-/// Numbers, with zeros behind them.
+/// Numbers, with zeros behind them; none where there are more.
 fn decimals<const N: usize>(text: &str) -> Option<[u64; N]> {
+    let mut words = text.split_whitespace();
     let mut numbers = [0; N];
-    for (number, word) in numbers.iter_mut().zip(text.split_whitespace()) {
-        *number = word.parse().ok()?;
+    for number in &mut numbers {
+        if let Some(word) = words.next() {
+            *number = word.parse().ok()?;
+        }
     }
-    Some(numbers)
+    words.next().is_none().then_some(numbers)
 }

@@ -5,8 +5,7 @@
 use crate::areas::{Areas, make_call};
 use crate::line::Line;
 use crate::tally::Tally;
-use std::io;
-use std::io::Read;
+use std::io::{self, Read};
 
 mod areas;
 mod checksum;
@@ -30,7 +29,7 @@ fn replay(rt: &impl Print, list: &str) -> io::Result<()> {
     let mut bytes = [0; 32_768];
     let mut arena = [0; 131_072];
     let mut sets = [Areas::EMPTY; 4];
-    let mut tally = Tally::default();
+    let mut tally = Tally::START;
     for (at, text) in list.lines().enumerate() {
         if text.is_empty() || text.starts_with('#') {
             continue;

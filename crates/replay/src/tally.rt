@@ -4,13 +4,18 @@ use std::io;
 
 const SHOWN_DIFFERENCES: u64 = 10;
 
-#[derive(Clone, Copy, Default)]
+#[derive(Clone, Copy)]
 pub(crate) struct Tally {
     counts: [u64; 15],
     differences: u64,
 }
 
 impl Tally {
+    pub(crate) const START: Tally = Tally {
+        counts: [0; 15],
+        differences: 0,
+    };
+
     pub(crate) fn count(&mut self, kind: Kind) {
         let count = &mut self.counts[kind as usize];
         *count = count.saturating_add(1);
@@ -24,20 +29,21 @@ impl Tally {
         rust: &Told,
         port: &Told,
     ) -> io::Result<()> {
-        let mut pairs = rust.iter().zip(port).enumerate();
-        let Some((at, (rust, port))) = pairs.find(|(_, (rust, port))| rust != port) else {
-            return Ok(());
-        };
-        if self.differences < SHOWN_DIFFERENCES {
-            println!(rt; "line {number}: word {at}, Rust {rust}, port {port}")?;
+        for (at, (rust, port)) in rust.iter().zip(port).enumerate() {
+            if rust != port {
+                if self.differences < SHOWN_DIFFERENCES {
+                    println!(rt; "line {number}: word {at}, Rust {rust}, port {port}")?;
+                }
+                self.differences = self.differences.saturating_add(1);
+                break;
+            }
         }
-        self.differences = self.differences.saturating_add(1);
         Ok(())
     }
 
     pub(crate) fn show(&self, rt: &impl Print) -> io::Result<()> {
-        for (kind, name) in Kind::ALL {
-            println!(rt; "{name:16} {}", self.counts[kind as usize])?;
+        for (kind, name) in &Kind::ALL {
+            println!(rt; "{name:16} {}", self.counts[*kind as usize])?;
         }
         println!(rt; "{:16} {}", "differences", self.differences)
     }
