@@ -75,15 +75,7 @@ pub fn write_file(
     if file.len() < bytes {
         return Err(SegmentCacheBuildError::AreaTooShort);
     }
-    put_file(
-        set,
-        index,
-        filter,
-        starts,
-        lengths,
-        arena,
-        &mut file[..bytes],
-    );
+    put_file(set, index, filter, areas, &mut file[..bytes]);
     Ok(bytes)
 }
 
@@ -109,12 +101,12 @@ fn put_file(
     put_index(out, set.config.packed_bucket_index, set.buckets, words);
     let (out, rest) = rest.split_at_mut(HEADER_BYTES + WORD_BYTES * set.filter_words);
     put_block(out, BlockKind::Filter, &filter[..set.filter_words]);
-    put_segments(
-        rest,
-        &starts[..set.segments],
-        &lengths[..set.segments],
-        arena,
-    );
+    let segments = SegmentAreas {
+        starts: &areas.starts[..set.segments],
+        lengths,
+        arena: areas.arena,
+    };
+    put_segments(rest, segments);
 }
 
 // Kind 1: the numbers of the setting and the counts.
