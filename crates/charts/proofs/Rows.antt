@@ -6,35 +6,33 @@ use Prim.Native.Nat.{ℕ, suc, ◌+◌, ◌-◌, ◌*◌, ◌≤◌, ◌<◌}
 use native.Mathlib.Omega.{arith}
 use borrow.Author.Tests.{leb-true}
 use lib.Dec.{leb}
-use lib.ListN.{length, length-map}
-use Rattle.std.specs.Prelude.{Ok, Err}
+use lib.ListN.{length}
+use Rattle.std.specs.Prelude.{Option, Some, None, Ok, Err}
 use Rattle.hash_parts.specs.declared.error.SegmentCacheBuildError.TheVariants.{FieldTooLong}
-use Rattle.records.specs.declared.record.RecordAnswer.{RecordAnswer}
-use Rattle.records.specs.declared.record.RecordAnswer.TheVariants.{Read, Unreadable}
 use Rattle.records.specs.declared.record.RecordRef.{RecordRef}
 use Rattle.sets.specs.Lookup.{entry_at}
 use Rattle.sets.specs.Walk.{entries_from, entries_in}
-use Rattle.sets.proofs.WalkList.{entries_few, entries_hit, entries_miss, entries_none}
+use Rattle.sets.proofs.WalkList.{entries_hit, entries_miss, entries_none}
 use Rattle.charts.specs.Line.{Row}
 use Rattle.charts.specs.Sheet.{row_count, row_fits, row_of, rows_fit, rows_in}
 
 -- ---- the rows from a slot on
 
-abbrev pub rows_from : (ℕ → RecordAnswer) → List ℕ → ℕ → ℕ → List Row
+abbrev pub rows_from : (ℕ → Option RecordRef) → List ℕ → ℕ → ℕ → List Row
 rows_from at arena slots s = map (row_of arena) (entries_from at s (slots - s))
 
-module _ (at : ℕ → RecordAnswer) (arena : List ℕ) (slots s : ℕ) where
-  pub rows_hit : (r : RecordRef) → s < slots → at s ≡ Read r → rows_from at arena slots s ≡ row_of arena (record { slot = s; entry = r }) ∷ rows_from at arena slots (s + 1)
+module _ (at : ℕ → Option RecordRef) (arena : List ℕ) (slots s : ℕ) where
+  pub rows_hit : (r : RecordRef) → s < slots → at s ≡ Some r → rows_from at arena slots s ≡ row_of arena (record { slot = s; entry = r }) ∷ rows_from at arena slots (s + 1)
   rows_hit r h e = ap (map (row_of arena)) (entries_hit at slots s r h e)
 
-  pub rows_miss : s < slots → at s ≡ Unreadable → rows_from at arena slots s ≡ rows_from at arena slots (s + 1)
+  pub rows_miss : s < slots → at s ≡ None → rows_from at arena slots s ≡ rows_from at arena slots (s + 1)
   rows_miss h e = ap (map (row_of arena)) (entries_miss at slots s h e)
 
   pub rows_none : slots ≤ s → rows_from at arena slots s ≡ []
   rows_none h = ap (map (row_of arena)) (entries_none at slots s h)
 
 -- from the first slot on they are all
-pub rows_all : (read : ℕ → RecordAnswer) (packed : Bool) (buckets : ℕ) (index arena : List ℕ)
+pub rows_all : (read : ℕ → Option RecordRef) (packed : Bool) (buckets : ℕ) (index arena : List ℕ)
     → rows_from (entry_at read packed buckets index) arena (8 * buckets) 0 ≡ rows_in read packed buckets index arena
 unfolding entries_in
 rows_all read packed buckets index arena = let e : 8 * buckets - 0 ≡ 8 * buckets = omega arith in rw e

@@ -1,10 +1,10 @@
 -- The chart room sheet of a set: what is asked, and what a call leaves. Document 02, Change 4. Assumes nothing.
-use Rattle.std.specs.Prelude.{Bool, true, false, cond, List, [], ◌∷◌, map, ℕ, ◌+◌, ◌*◌, leb, length, Result, Ok, Err}
+use Rattle.std.specs.Prelude.{Bool, true, false, cond, List, [], ◌∷◌, map, ℕ, ◌+◌, ◌*◌, leb, length, Option, Result, Ok, Err}
 use Rattle.hash_parts.specs.Error.{error_number}
 use Rattle.hash_parts.specs.declared.error.SegmentCacheBuildError.{SegmentCacheBuildError}
 use Rattle.hash_parts.specs.declared.error.SegmentCacheBuildError.TheVariants.{FieldTooLong}
 use Rattle.records.specs.Area.{over, spanned}
-use Rattle.records.specs.declared.record.RecordAnswer.{RecordAnswer}
+use Rattle.records.specs.declared.record.RecordRef.{RecordRef}
 use Rattle.index.specs.declared.find.FoundRecord.{FoundRecord}
 use Rattle.sets.specs.Answers.{Reply, accept, refuse}
 use Rattle.sets.specs.Lookup.{areas_hold_set}
@@ -73,7 +73,7 @@ after_sheet s index starts lengths arena page =
 -- ---- for private functions alone
 
 -- the rows of an index, by what reads a location
-abbrev pub rows_in : (ℕ → RecordAnswer) → Bool → ℕ → List ℕ → List ℕ → List Row
+abbrev pub rows_in : (ℕ → Option RecordRef) → Bool → ℕ → List ℕ → List ℕ → List Row
 rows_in read packed buckets index arena = map (row_of arena) (entries_in read packed buckets index)
 
 -- how many rows there are behind others, where each fits

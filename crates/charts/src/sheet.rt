@@ -2,18 +2,17 @@
 ghost use Rattle.std.specs.Prelude.{◌≡◌, true, ◌+◌, ◌*◌, ◌<◌, ◌≤◌, length};
 ghost use Rattle.records.specs.Area.{over, pasted};
 ghost use Rattle.index.specs.View.{record_in};
-ghost use Rattle.sets.specs.Lookup.{entry_at};
 ghost use Rattle.charts.specs.Line.{line, lines, pages_for, sheet};
 ghost use Rattle.charts.specs.Sheet.{after_sheet, pages_answer, row_count, row_fits, row_of, rows_fit, rows_in, sheet_reply, sheet_result};
 
 use crate::line::{LINE_BYTES, put_blanks, put_row};
 use hash_parts::error::SegmentCacheBuildError;
-use index::find::slot_at;
-use index::slot::IndexSlot;
-use index::view::{SegmentView, record_at_location};
+use index::find::FinishedIndex;
+use index::view::{SegmentAreas, SegmentView};
 use index::word::BUCKET_SLOTS;
-use records::record::{RecordAnswer, RecordRef, value_slice};
+use records::record::{RecordRef, value_slice};
 use sets::cache::FrozenSegmentCache;
+use sets::lookup::entry_at;
 
 // The lines of a page, and its bytes.
 const PAGE_LINES: usize = 50;
@@ -27,25 +26,19 @@ const FIELD_BYTES: usize = 12;
 pub fn sheet_pages(
     set: FrozenSegmentCache,
     index: &[u64],
-    starts: &[u64],
-    lengths: &[u64],
-    arena: &[u8],
+    areas: SegmentAreas<'_>,
 ) -> Result<usize, SegmentCacheBuildError>
-    ensures { sheet_reply result ≡ pages_answer set index.now starts.now lengths.now arena.now }
+    ensures { sheet_reply result ≡ pages_answer set index.now areas.entry.starts.now areas.entry.lengths.now areas.entry.arena.now }
 {
-    if !set.areas_hold(index.len(), starts.len(), lengths.len(), arena.len()) {
-        return Err(SegmentCacheBuildError::InvalidState);
-    }
-    let packed = set.config.packed_bucket_index;
-    let rows = count_rows(
-        set.view(),
-        packed,
-        set.buckets,
-        index,
+    let SegmentAreas {
         starts,
         lengths,
         arena,
-    )?;
+    } = areas;
+    if !set.areas_hold(index.len(), starts.len(), lengths.len(), arena.len()) {
+        return Err(SegmentCacheBuildError::InvalidState);
+    }
+    let rows = count_rows(set.view(), set.finished_index(index), areas)?;
     Ok(rows.div_ceil(PAGE_LINES))
 }
 
@@ -53,76 +46,39 @@ pub fn sheet_pages(
 pub fn print_sheet(
     set: FrozenSegmentCache,
     index: &[u64],
-    starts: &[u64],
-    lengths: &[u64],
-    arena: &[u8],
+    areas: SegmentAreas<'_>,
     page: &mut [u8],
 ) -> Result<usize, SegmentCacheBuildError>
-    ensures { sheet_result result page.new ≡ after_sheet set index.now starts.now lengths.now arena.now page.old }
+    ensures { sheet_result result page.new ≡ after_sheet set index.now areas.entry.starts.now areas.entry.lengths.now areas.entry.arena.now page.old }
 {
-    let pages = sheet_pages(set, index, starts, lengths, arena)?;
+    let pages = sheet_pages(set, index, areas)?;
     if page.len() / PAGE_BYTES < pages {
         return Err(SegmentCacheBuildError::AreaTooShort);
     }
-    let packed = set.config.packed_bucket_index;
-    write_sheet(
-        set.view(),
-        packed,
-        set.buckets,
-        index,
-        starts,
-        lengths,
-        arena,
-        pages,
-        page,
-    );
+    write_sheet(set.view(), set.finished_index(index), areas, pages, page);
     Ok(pages)
 }
 
 // The first pass: counts the rows, and asks of each whether it fits.
 fn count_rows(
     view: SegmentView,
-    packed: bool,
-    buckets: usize,
-    index: &[u64],
-    starts: &[u64],
-    lengths: &[u64],
-    arena: &[u8],
+    index: FinishedIndex<'_>,
+    areas: SegmentAreas<'_>,
 ) -> Result<usize, SegmentCacheBuildError>
-    requires { 8 * buckets ≤ length index.now }
-    ensures { result ≡ row_count 0 (rows_in (record_in view arena.now starts.now lengths.now) packed buckets index.now arena.now) }
+    requires { 8 * index.buckets ≤ length index.words.now }
+    ensures { result ≡ row_count 0 (rows_in (record_in view areas.entry.arena.now areas.entry.starts.now areas.entry.lengths.now) index.entry.packed index.entry.buckets index.entry.words.now areas.entry.arena.now) }
 {
     let mut rows = 0;
-    for slot in 0..buckets * BUCKET_SLOTS {
-        let read = entry_at(view, packed, buckets, slot, index, starts, lengths, arena);
-        let RecordAnswer::Read(entry) = read else {
+    for slot in 0..index.buckets * BUCKET_SLOTS {
+        let Some(entry) = entry_at(view, index, slot, areas) else {
             continue;
         };
-        if !entry_fits(arena, entry) {
+        if !entry_fits(areas.arena, entry) {
             return Err(SegmentCacheBuildError::FieldTooLong);
         }
         rows += 1;
     }
     Ok(rows)
-}
-
-// The record that a slot names.
-fn entry_at(
-    view: SegmentView,
-    packed: bool,
-    buckets: usize,
-    slot: usize,
-    index: &[u64],
-    starts: &[u64],
-    lengths: &[u64],
-    arena: &[u8],
-) -> RecordAnswer
-    ensures { result ≡ entry_at (record_in view arena.now starts.now lengths.now) packed buckets index.now slot }
-{
-    let IndexSlot::Used(_, stored) = slot_at(index, packed, buckets, slot) else {
-        return RecordAnswer::Unreadable;
-    };
-    record_at_location(view, arena, starts, lengths, stored)
 }
 
 // Whether key and value fit their columns.
@@ -136,48 +92,39 @@ fn entry_fits(arena: &[u8], entry: RecordRef) -> bool
 // The second pass: a line to each row, and blank lines to the end of the last page.
 fn write_sheet(
     view: SegmentView,
-    packed: bool,
-    buckets: usize,
-    index: &[u64],
-    starts: &[u64],
-    lengths: &[u64],
-    arena: &[u8],
+    index: FinishedIndex<'_>,
+    areas: SegmentAreas<'_>,
     pages: usize,
     page: &mut [u8],
 )
-    requires buckets_in_bounds { (8 * buckets ≤ length index.now) × (8 * buckets ≤ 100000000) }
-    requires arena_value { rows_fit (rows_in (record_in view arena.now starts.now lengths.now) packed buckets index.now arena.now) ≡ true }
-    requires pages_value { (pages ≡ pages_for (length (rows_in (record_in view arena.now starts.now lengths.now) packed buckets index.now arena.now))) × (3250 * pages ≤ length page.old) }
-    ensures { page.new ≡ over (sheet (rows_in (record_in view arena.now starts.now lengths.now) packed buckets index.now arena.now)) page.old }
+    requires buckets_in_bounds { (8 * index.buckets ≤ length index.words.now) × (8 * index.buckets ≤ 100000000) }
+    requires arena_value { rows_fit (rows_in (record_in view areas.arena.now areas.starts.now areas.lengths.now) index.packed index.buckets index.words.now areas.arena.now) ≡ true }
+    requires pages_value { (pages ≡ pages_for (length (rows_in (record_in view areas.arena.now areas.starts.now areas.lengths.now) index.packed index.buckets index.words.now areas.arena.now))) × (3250 * pages ≤ length page.old) }
+    ensures { page.new ≡ over (sheet (rows_in (record_in view areas.entry.arena.now areas.entry.starts.now areas.entry.lengths.now) index.entry.packed index.entry.buckets index.entry.words.now areas.entry.arena.now)) page.old }
 {
-    let rows = write_rows(view, packed, buckets, index, starts, lengths, arena, page);
+    let rows = write_rows(view, index, areas, page);
     let at = rows * LINE_BYTES;
     put_blanks(&mut page[at..], pages * PAGE_LINES - rows);
 }
 
 fn write_rows(
     view: SegmentView,
-    packed: bool,
-    buckets: usize,
-    index: &[u64],
-    starts: &[u64],
-    lengths: &[u64],
-    arena: &[u8],
+    index: FinishedIndex<'_>,
+    areas: SegmentAreas<'_>,
     page: &mut [u8],
 ) -> usize
-    requires buckets_in_bounds { (8 * buckets ≤ length index.now) × (8 * buckets ≤ 100000000) }
-    requires arena_value { rows_fit (rows_in (record_in view arena.now starts.now lengths.now) packed buckets index.now arena.now) ≡ true }
-    requires arena_in_bounds { 65 * length (rows_in (record_in view arena.now starts.now lengths.now) packed buckets index.now arena.now) ≤ length page.old }
-    ensures value { (result ≡ length (rows_in (record_in view arena.now starts.now lengths.now) packed buckets index.now arena.now)) × (65 * result ≡ length (lines (length (rows_in (record_in view arena.now starts.now lengths.now) packed buckets index.now arena.now)) (rows_in (record_in view arena.now starts.now lengths.now) packed buckets index.now arena.now))) }
-    ensures page_after { page.new ≡ over (lines (length (rows_in (record_in view arena.now starts.now lengths.now) packed buckets index.now arena.now)) (rows_in (record_in view arena.now starts.now lengths.now) packed buckets index.now arena.now)) page.old }
+    requires buckets_in_bounds { (8 * index.buckets ≤ length index.words.now) × (8 * index.buckets ≤ 100000000) }
+    requires arena_value { rows_fit (rows_in (record_in view areas.arena.now areas.starts.now areas.lengths.now) index.packed index.buckets index.words.now areas.arena.now) ≡ true }
+    requires arena_in_bounds { 65 * length (rows_in (record_in view areas.arena.now areas.starts.now areas.lengths.now) index.packed index.buckets index.words.now areas.arena.now) ≤ length page.old }
+    ensures value { let rows = rows_in (record_in view areas.entry.arena.now areas.entry.starts.now areas.entry.lengths.now) index.entry.packed index.entry.buckets index.entry.words.now areas.entry.arena.now in (result ≡ length rows) × (65 * result ≡ length (lines (length rows) rows)) }
+    ensures page_after { let rows = rows_in (record_in view areas.entry.arena.now areas.entry.starts.now areas.entry.lengths.now) index.entry.packed index.entry.buckets index.entry.words.now areas.entry.arena.now in page.new ≡ over (lines (length rows) rows) page.old }
 {
     let mut rows = 0;
-    for slot in 0..buckets * BUCKET_SLOTS {
-        let read = entry_at(view, packed, buckets, slot, index, starts, lengths, arena);
-        let RecordAnswer::Read(entry) = read else {
+    for slot in 0..index.buckets * BUCKET_SLOTS {
+        let Some(entry) = entry_at(view, index, slot, areas) else {
             continue;
         };
-        rows = put_entry(page, rows, slot, entry, arena);
+        rows = put_entry(page, rows, slot, entry, areas.arena);
     }
     rows
 }

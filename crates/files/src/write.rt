@@ -14,7 +14,9 @@ use crate::content::{BUCKET_BYTES, COUNT_BYTES, MAX_ARENA_BYTES, WIDTHS};
 use crate::copies::{UNMARKED_CONTROL, UNMARKED_WORD, WHOLE, WORD_BYTES, put_number, put_words};
 use hash_parts::error::SegmentCacheBuildError;
 use hash_parts::setting::SegmentExpiry;
+use index::view::SegmentAreas;
 use index::word::BUCKET_SLOTS;
+use sets::areas::sum_of;
 use sets::cache::FrozenSegmentCache;
 use sets::rebuild_questions::source_holds;
 
@@ -50,13 +52,16 @@ pub fn write_file(
     set: FrozenSegmentCache,
     index: &[u64],
     filter: &[u64],
-    starts: &[u64],
-    lengths: &[u64],
-    arena: &[u8],
+    areas: SegmentAreas<'_>,
     file: &mut [u8],
 ) -> Result<usize, SegmentCacheBuildError>
-    ensures { write_result result file.new ≡ after_write set index.now filter.now starts.now lengths.now arena.now file.old }
+    ensures { write_result result file.new ≡ after_write set index.now filter.now areas.entry.starts.now areas.entry.lengths.now areas.entry.arena.now file.old }
 {
+    let SegmentAreas {
+        starts,
+        lengths,
+        arena,
+    } = areas;
     if !set.lookup_areas_hold(
         index.len(),
         filter.len(),
@@ -70,27 +75,8 @@ pub fn write_file(
     if file.len() < bytes {
         return Err(SegmentCacheBuildError::AreaTooShort);
     }
-    put_file(
-        set,
-        index,
-        filter,
-        starts,
-        lengths,
-        arena,
-        &mut file[..bytes],
-    );
+    put_file(set, index, filter, areas, &mut file[..bytes]);
     Ok(bytes)
-}
-
-fn sum_of(words: &[u64], count: usize) -> usize
-    requires { (count ≤ length words.now) × (sum_of count words.now < 2 ^ 64) }
-    ensures { result ≡ sum_of count words.now }
-{
-    let mut sum = 0;
-    for &word in &words[..count] {
-        sum += word as usize;
-    }
-    sum
 }
 
 // Writes the set to an area of the file's length, a block after the other.
@@ -98,30 +84,29 @@ fn put_file(
     set: FrozenSegmentCache,
     index: &[u64],
     filter: &[u64],
-    starts: &[u64],
-    lengths: &[u64],
-    arena: &[u8],
+    areas: SegmentAreas<'_>,
     file: &mut [u8],
 )
-    requires asked { first_no (ask_write set (length index.now) (length filter.now) starts.now lengths.now (length arena.now) (length file.old)) ≡ 0 }
-    requires exact { length file.old ≡ file_size set lengths.now }
-    ensures { file.new ≡ file_of set index.now filter.now starts.now lengths.now arena.now }
+    requires asked { first_no (ask_write set (length index.now) (length filter.now) areas.starts.now areas.lengths.now (length areas.arena.now) (length file.old)) ≡ 0 }
+    requires exact { length file.old ≡ file_size set areas.lengths.now }
+    ensures { file.new ≡ file_of set index.now filter.now areas.entry.starts.now areas.entry.lengths.now areas.entry.arena.now }
 {
     let (counts, rest) = file.split_at_mut(HEADER_BYTES + COUNT_BYTES);
     put_counts(counts, set);
     let (out, rest) = rest.split_at_mut(HEADER_BYTES + WORD_BYTES * set.segments);
-    put_block(out, BlockKind::Lengths, &lengths[..set.segments]);
+    let lengths = &areas.lengths[..set.segments];
+    put_block(out, BlockKind::Lengths, lengths);
     let (out, rest) = rest.split_at_mut(HEADER_BYTES + BUCKET_BYTES * set.buckets);
     let words = &index[..BUCKET_SLOTS * set.buckets];
     put_index(out, set.config.packed_bucket_index, set.buckets, words);
     let (out, rest) = rest.split_at_mut(HEADER_BYTES + WORD_BYTES * set.filter_words);
     put_block(out, BlockKind::Filter, &filter[..set.filter_words]);
-    put_segments(
-        rest,
-        &starts[..set.segments],
-        &lengths[..set.segments],
-        arena,
-    );
+    let segments = SegmentAreas {
+        starts: &areas.starts[..set.segments],
+        lengths,
+        arena: areas.arena,
+    };
+    put_segments(rest, segments);
 }
 
 // Kind 1: the numbers of the setting and the counts.
@@ -207,19 +192,24 @@ fn put_unmarked(out: &mut [u8], packed: bool, buckets: usize, index: &[u64])
 }
 
 // Kind 5: the segments' bytes, one after the other.
-fn put_segments(out: &mut [u8], starts: &[u64], lengths: &[u64], arena: &[u8])
-    requires { (length starts.now ≡ length lengths.now) × (segments_inside (length lengths.now) (length arena.now) starts.now lengths.now ≡ true) × (length out.old ≡ 6 + sum_of (length lengths.now) lengths.now) }
-    ensures { out.new ≡ block 5 (segment_bytes (length lengths.now) starts.now lengths.now arena.now) }
+fn put_segments(out: &mut [u8], areas: SegmentAreas<'_>)
+    requires { (length areas.starts.now ≡ length areas.lengths.now) × (segments_inside (length areas.lengths.now) (length areas.arena.now) areas.starts.now areas.lengths.now ≡ true) × (length out.old ≡ 6 + sum_of (length areas.lengths.now) areas.lengths.now) }
+    ensures { out.new ≡ block 5 (segment_bytes (length areas.entry.lengths.now) areas.entry.starts.now areas.entry.lengths.now areas.entry.arena.now) }
 {
     let (header, content) = out.split_at_mut(HEADER_BYTES);
     put_header(header, content.len(), BlockKind::Segments);
-    put_segment_bytes(content, starts, lengths, arena);
+    put_segment_bytes(content, areas);
 }
 
-fn put_segment_bytes(out: &mut [u8], starts: &[u64], lengths: &[u64], arena: &[u8])
-    requires { (length starts.now ≡ length lengths.now) × (segments_inside (length lengths.now) (length arena.now) starts.now lengths.now ≡ true) × (length out.old ≡ sum_of (length lengths.now) lengths.now) }
-    ensures { out.new ≡ segment_bytes (length lengths.now) starts.now lengths.now arena.now }
+fn put_segment_bytes(out: &mut [u8], areas: SegmentAreas<'_>)
+    requires { (length areas.starts.now ≡ length areas.lengths.now) × (segments_inside (length areas.lengths.now) (length areas.arena.now) areas.starts.now areas.lengths.now ≡ true) × (length out.old ≡ sum_of (length areas.lengths.now) areas.lengths.now) }
+    ensures { out.new ≡ segment_bytes (length areas.entry.lengths.now) areas.entry.starts.now areas.entry.lengths.now areas.entry.arena.now }
 {
+    let SegmentAreas {
+        starts,
+        lengths,
+        arena,
+    } = areas;
     let mut at = 0;
     for (i, length) in lengths.iter().enumerate() {
         let start = starts[i] as usize;

@@ -3,8 +3,7 @@ use mathlib.Core.List.{List, [], ◌∷◌}
 use mathlib.Core.Path.{◌≡◌, sym, ap, ◌∙◌}
 use Prim.Native.Nat.{ℕ, ◌+◌, ◌*◌, ◌<◌}
 use native.Mathlib.Omega.{arith}
-use Rattle.records.specs.declared.record.RecordAnswer.{RecordAnswer}
-use Rattle.records.specs.declared.record.RecordAnswer.TheVariants.{Read}
+use Rattle.std.specs.Prelude.{Option, Some}
 use Rattle.records.specs.declared.record.RecordRef.{RecordRef}
 use Rattle.index.specs.View.{record_in}
 use Rattle.sets.specs.Lookup.{entry_at}
@@ -15,43 +14,43 @@ use Rattle.charts.proofs.sheet.count_rows.Goals as goal
 use Rattle.charts.proofs.sheet.count_rows.Goals.{At-loop-slot}
 
 -- what stands in each slot, and the rows from a slot on
-abbrev reads : (l : At-loop-slot) → ℕ → RecordAnswer
+abbrev reads : (l : At-loop-slot) → ℕ → Option RecordRef
 reads l =
     let a = l.args in
-    entry_at (record_in a.view a.arena.now a.starts.now a.lengths.now) a.packed a.buckets a.index.now
+    entry_at (record_in a.view a.areas.arena.now a.areas.starts.now a.areas.lengths.now) a.index.packed a.index.buckets a.index.words.now
 
 abbrev rest : (l : At-loop-slot) → ℕ → List Row
-rest l = let a = l.args in rows_from (reads l) a.arena.now (8 * a.buckets)
+rest l = let a = l.args in rows_from (reads l) a.areas.arena.now (8 * a.index.buckets)
 
 -- of a slot whose record was read
-hit : (l : At-loop-slot) (r : RecordRef) → l.loop-slot.slot < l.args.buckets * 8 → Read r ≡ reads l l.loop-slot.slot
-    → rest l l.loop-slot.slot ≡ row_of l.args.arena.now (record { slot = l.loop-slot.slot; entry = r }) ∷ rest l (l.loop-slot.slot + 1)
-hit l r below e = rows_hit (reads l) l.args.arena.now (8 * l.args.buckets) l.loop-slot.slot r (omega arith) (sym e)
+hit : (l : At-loop-slot) (r : RecordRef) → l.loop-slot.slot < l.args.index.buckets * 8 → Some r ≡ reads l l.loop-slot.slot
+    → rest l l.loop-slot.slot ≡ row_of l.args.areas.arena.now (record { slot = l.loop-slot.slot; entry = r }) ∷ rest l (l.loop-slot.slot + 1)
+hit l r below e = rows_hit (reads l) l.args.areas.arena.now (8 * l.args.index.buckets) l.loop-slot.slot r (omega arith) (sym e)
 
 pub loop-slot-init : goal.loop-slot-init
 loop-slot-init c = let a = c.args in
-    (ap (row_count 0) (rows_all (record_in a.view a.arena.now a.starts.now a.lengths.now) a.packed a.buckets a.index.now a.arena.now), omega arith)
+    (ap (row_count 0) (rows_all (record_in a.view a.areas.arena.now a.areas.starts.now a.areas.lengths.now) a.index.packed a.index.buckets a.index.words.now a.areas.arena.now), omega arith)
 
 pub loop-slot-preserved-in_default : goal.loop-slot-preserved-in_default
 loop-slot-preserved-in_default c =
     let at = goal.at.loop-slot-preserved-in_default c in
     let a = c.args in
-    let below : c.loop-slot.slot < 8 * a.buckets = omega arith in
-    let missed = rows_miss (reads at.At-loop-slot) a.arena.now (8 * a.buckets) c.loop-slot.slot below (sym c.entry_at-read.ensures ∙ c.in_default.is) in
+    let below : c.loop-slot.slot < 8 * a.index.buckets = omega arith in
+    let missed = rows_miss (reads at.At-loop-slot) a.areas.arena.now (8 * a.index.buckets) c.loop-slot.slot below (sym c.entry_at.ensures ∙ c.in_default.is) in
     (ap (row_count c.loop-slot.rows) (sym missed) ∙ c.loop-slot.invariant.0, omega (arith, c.loop-slot.invariant.1))
 
 pub returns-then-not-entry_fits : goal.returns-then-not-entry_fits
 returns-then-not-entry_fits c =
     let at = goal.at.returns-then-not-entry_fits c in
     let long = sym c.entry_fits.ensures ∙ c.if-not-entry_fits.true in
-    let here = hit at.At-loop-slot c.in-Read.entry c.loop-slot-test.true c.in-Read.ensures in
+    let here = hit at.At-loop-slot c.in-Some.entry c.loop-slot-test.true c.in-Some.ensures in
     sym (count_long c.loop-slot.rows _ _ long) ∙ ap (row_count c.loop-slot.rows) (sym here) ∙ c.loop-slot.invariant.0
 
 pub loop-slot-preserved : goal.loop-slot-preserved
 loop-slot-preserved c =
     let at = goal.at.loop-slot-preserved c in
     let fits = sym c.entry_fits.ensures ∙ c.if-not-entry_fits.false in
-    let here = hit at.At-loop-slot c.in-Read.entry c.loop-slot-test.true c.in-Read.ensures in
+    let here = hit at.At-loop-slot c.in-Some.entry c.loop-slot-test.true c.in-Some.ensures in
     (sym (count_fits c.loop-slot.rows _ _ fits) ∙ ap (row_count c.loop-slot.rows) (sym here) ∙ c.loop-slot.invariant.0, omega (arith, c.loop-slot.invariant.1))
 
 pub overflow_add-rows : goal.overflow_add-rows
@@ -60,5 +59,5 @@ overflow_add-rows c = omega (arith, c.loop-slot.invariant.1)
 pub returns : goal.returns
 returns c =
     let at = goal.at.returns c in
-    let none : rest at.At-loop-slot c.loop-slot.slot ≡ [] = rows_none (reads at.At-loop-slot) c.args.arena.now (8 * c.args.buckets) c.loop-slot.slot (omega arith) in
+    let none : rest at.At-loop-slot c.loop-slot.slot ≡ [] = rows_none (reads at.At-loop-slot) c.args.areas.arena.now (8 * c.args.index.buckets) c.loop-slot.slot (omega arith) in
     sym (count_none c.loop-slot.rows) ∙ ap (row_count c.loop-slot.rows) (sym none) ∙ c.loop-slot.invariant.0

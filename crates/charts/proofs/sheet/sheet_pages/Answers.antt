@@ -15,20 +15,22 @@ use Rattle.charts.proofs.sheet.sheet_pages.Goals as goal
 use Rattle.charts.proofs.sheet.sheet_pages.Goals.{After-count_rows, Else-not-areas_hold}
 
 held : (c : Else-not-areas_hold) → let a = c.args in
-    areas_hold_set a.set (length a.index.now) (length a.starts.now) (length a.lengths.now) (length a.arena.now) ≡ true
+    areas_hold_set a.set (length a.index.now) (length a.areas.starts.now) (length a.areas.lengths.now) (length a.areas.arena.now) ≡ true
 held c = answered_yes c.areas_hold.ensures c.if-not-areas_hold.false
 
 -- the rows that were counted are the set's
 counted : (c : After-count_rows) → let a = c.args in
-    c.count_rows.result ≡ row_count 0 (rows_of a.set a.index.now a.starts.now a.lengths.now a.arena.now)
-counted c = c.count_rows.ensures ∙ rw c.view.ensures
+    c.count_rows.result ≡ row_count 0 (rows_of a.set a.index.now a.areas.starts.now a.areas.lengths.now a.areas.arena.now)
+counted c = let i = c.finished_index.ensures in c.count_rows.ensures ∙ rw (c.view.ensures, i.0, i.1, i.2)
 
 pub returns-then-not-areas_hold : goal.returns-then-not-areas_hold
 unfolding pages_answer ask_pages
 returns-then-not-areas_hold c = rw (answered_no c.areas_hold.ensures c.if-not-areas_hold.true)
 
 pub count_rows-requires : goal.count_rows-requires
-count_rows-requires c = (slots_few _ _ _ _ _ (held (goal.at.count_rows-requires c).Else-not-areas_hold)).0
+count_rows-requires c =
+    let i = c.finished_index.ensures in
+    rw (i.0, i.2) (slots_few _ _ _ _ _ (held (goal.at.count_rows-requires c).Else-not-areas_hold)).0
 
 pub returns-in_err-rows : goal.returns-in_err-rows
 unfolding pages_answer ask_pages

@@ -14,14 +14,14 @@ module _ (s : Start) where
   abbrev n : ℕ
   n = s.args.set.segments
 
-  asked : WriteAsked s.args.set s.args.index.now s.args.filter.now s.args.starts.now s.args.lengths.now s.args.arena.now s.args.file.now
-  asked = write_asked s.args.set s.args.index.now s.args.filter.now s.args.starts.now s.args.lengths.now s.args.arena.now s.args.file.now s.requires.asked
+  asked : WriteAsked s.args.set s.args.index.now s.args.filter.now s.args.areas.starts.now s.args.areas.lengths.now s.args.areas.arena.now s.args.file.now
+  asked = write_asked s.args.set s.args.index.now s.args.filter.now s.args.areas.starts.now s.args.areas.lengths.now s.args.areas.arena.now s.args.file.now s.requires.asked
 
-  starts_front : length (take n s.args.starts.now) ≡ n
-  starts_front = length-take-le n s.args.starts.now (omega (arith, asked.few_segments, asked.starts_hold))
+  starts_front : length (take n s.args.areas.starts.now) ≡ n
+  starts_front = length-take-le n s.args.areas.starts.now (omega (arith, asked.few_segments, asked.starts_hold))
 
-  lengths_front : length (take n s.args.lengths.now) ≡ n
-  lengths_front = length-take-le n s.args.lengths.now (omega (arith, asked.few_segments, asked.lengths_hold))
+  lengths_front : length (take n s.args.areas.lengths.now) ≡ n
+  lengths_front = length-take-le n s.args.areas.lengths.now (omega (arith, asked.few_segments, asked.lengths_hold))
 
   index_front : length (take (8 * s.args.set.buckets) s.args.index.now) ≡ 8 * s.args.set.buckets
   index_front = length-take-le (8 * s.args.set.buckets) s.args.index.now asked.index_holds
@@ -29,23 +29,23 @@ module _ (s : Start) where
   filter_front : length (take s.args.set.filter_words s.args.filter.now) ≡ s.args.set.filter_words
   filter_front = length-take-le s.args.set.filter_words s.args.filter.now asked.filter_holds
 
-  inside : segments_inside n (length s.args.arena.now) (take n s.args.starts.now) (take n s.args.lengths.now) ≡ true
+  inside : segments_inside n (length s.args.areas.arena.now) (take n s.args.areas.starts.now) (take n s.args.areas.lengths.now) ≡ true
   inside =
-      segments_pass (length s.args.arena.now) (take n s.args.starts.now) (take n s.args.lengths.now) n
+      segments_pass (length s.args.areas.arena.now) (take n s.args.areas.starts.now) (take n s.args.areas.lengths.now) n
       (λ (g : ℕ) (h : g < n).
-      omega (arith, get_or-take n s.args.starts.now g 0 h, get_or-take n s.args.lengths.now g 0 h, asked.inside g h, asked.filled_held))
+      omega (arith, get_or-take n s.args.areas.starts.now g 0 h, get_or-take n s.args.areas.lengths.now g 0 h, asked.inside g h, asked.filled_held))
 
-  sum_is : sum_of n (take n s.args.lengths.now) ≡ sum_of n s.args.lengths.now
-  sum_is = sum_front s.args.starts.now s.args.lengths.now s.args.arena.now n n (le_refl n)
+  sum_is : sum_of n (take n s.args.areas.lengths.now) ≡ sum_of n s.args.areas.lengths.now
+  sum_is = sum_front s.args.areas.starts.now s.args.areas.lengths.now s.args.areas.arena.now n n (le_refl n)
 
-  bytes_are : segment_bytes n (take n s.args.starts.now) (take n s.args.lengths.now) s.args.arena.now ≡ segment_bytes n s.args.starts.now s.args.lengths.now s.args.arena.now
+  bytes_are : segment_bytes n (take n s.args.areas.starts.now) (take n s.args.areas.lengths.now) s.args.areas.arena.now ≡ segment_bytes n s.args.areas.starts.now s.args.areas.lengths.now s.args.areas.arena.now
   bytes_are =
-      sym (from_first (take n s.args.starts.now) (take n s.args.lengths.now) s.args.arena.now n)
-      ∙ from_front s.args.starts.now s.args.lengths.now s.args.arena.now n 0 n (omega arith)
-      ∙ from_first s.args.starts.now s.args.lengths.now s.args.arena.now n
+      sym (from_first (take n s.args.areas.starts.now) (take n s.args.areas.lengths.now) s.args.areas.arena.now n)
+      ∙ from_front s.args.areas.starts.now s.args.areas.lengths.now s.args.areas.arena.now n 0 n (omega arith)
+      ∙ from_first s.args.areas.starts.now s.args.areas.lengths.now s.args.areas.arena.now n
 
-pub slice_bounds-put_block-end : goal.slice_bounds-put_block-end
-slice_bounds-put_block-end c = sym (lengths_front (goal.at.slice_bounds-put_block-end c).Start)
+pub slice_bounds-lengths-end : goal.slice_bounds-lengths-end
+slice_bounds-lengths-end c = sym (lengths_front (goal.at.slice_bounds-lengths-end c).Start)
 
 pub put_block-requires : goal.put_block-requires
 put_block-requires c = omega (arith, lengths_front (goal.at.put_block-requires c).Start, c.split_at_mut-out.ensures.front_len)
@@ -56,17 +56,14 @@ slice_bounds-words-end c = sym (index_front (goal.at.slice_bounds-words-end c).S
 pub put_index-requires : goal.put_index-requires
 put_index-requires c = (c.split_at_mut-out-2.ensures.front_len, index_front (goal.at.put_index-requires c).Start)
 
-pub slice_bounds-put_block-end-2 : goal.slice_bounds-put_block-end-2
-slice_bounds-put_block-end-2 c = sym (filter_front (goal.at.slice_bounds-put_block-end-2 c).Start)
+pub slice_bounds-put_block-end : goal.slice_bounds-put_block-end
+slice_bounds-put_block-end c = sym (filter_front (goal.at.slice_bounds-put_block-end c).Start)
 
 pub put_block-requires-2 : goal.put_block-requires-2
 put_block-requires-2 c = omega (arith, filter_front (goal.at.put_block-requires-2 c).Start, c.split_at_mut-out-3.ensures.front_len)
 
-pub slice_bounds-put_segments-end : goal.slice_bounds-put_segments-end
-slice_bounds-put_segments-end c = sym (starts_front (goal.at.slice_bounds-put_segments-end c).Start)
-
-pub slice_bounds-put_segments-end-2 : goal.slice_bounds-put_segments-end-2
-slice_bounds-put_segments-end-2 c = sym (lengths_front (goal.at.slice_bounds-put_segments-end-2 c).Start)
+pub slice_bounds-segments-end : goal.slice_bounds-segments-end
+slice_bounds-segments-end c = sym (starts_front (goal.at.slice_bounds-segments-end c).Start)
 
 pub put_segments-requires : goal.put_segments-requires
 put_segments-requires c =

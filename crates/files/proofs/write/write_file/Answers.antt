@@ -23,7 +23,7 @@ use Rattle.files.proofs.write.write_file.Goals.{Else-not-lookup_areas_hold, In_o
 
 -- the set and its areas hold
 held : (c : Else-not-lookup_areas_hold) → let a = c.args in
-    areas_hold_lookup a.set (length a.index.now) (length a.filter.now) (length a.starts.now) (length a.lengths.now) (length a.arena.now) ≡ true
+    areas_hold_lookup a.set (length a.index.now) (length a.filter.now) (length a.areas.starts.now) (length a.areas.lengths.now) (length a.areas.arena.now) ≡ true
 held c = answered_yes c.lookup_areas_hold.ensures c.if-not-lookup_areas_hold.false
 
 pub returns-then-not-lookup_areas_hold : goal.returns-then-not-lookup_areas_hold
@@ -35,20 +35,20 @@ unfolding after_write
 returns-in_err-bytes c =
     let a = c.args in
     let areas = held (goal.at.returns-in_err-bytes c).Else-not-lookup_areas_hold in
-    let k = asked_refused a.set (length a.index.now) (length a.filter.now) (length a.arena.now) (length a.file.now) a.starts.now a.lengths.now areas _ (sym c.in_err-bytes.ensures) in
+    let k = asked_refused a.set (length a.index.now) (length a.filter.now) (length a.areas.arena.now) (length a.file.now) a.areas.starts.now a.areas.lengths.now areas _ (sym c.in_err-bytes.ensures) in
     let p = err_from_is_err_and c.from_residual.result c.from_residual.ensures.1 in
     rw (p.1, p.2, k.0, k.1)
 
 -- the size, and the question that is left
 sized : (c : In_ok-bytes)
-    → (let a = c.args in areas_hold_lookup a.set (length a.index.now) (length a.filter.now) (length a.starts.now) (length a.lengths.now) (length a.arena.now) ≡ true)
+    → (let a = c.args in areas_hold_lookup a.set (length a.index.now) (length a.filter.now) (length a.areas.starts.now) (length a.areas.lengths.now) (length a.areas.arena.now) ≡ true)
     → let a = c.args in let n = c.in_ok-bytes.bytes in
-    (n ≡ file_size a.set a.lengths.now)
-    × (first_no (ask_write a.set (length a.index.now) (length a.filter.now) a.starts.now a.lengths.now (length a.arena.now) (length a.file.now))
+    (n ≡ file_size a.set a.areas.lengths.now)
+    × (first_no (ask_write a.set (length a.index.now) (length a.filter.now) a.areas.starts.now a.areas.lengths.now (length a.areas.arena.now) (length a.file.now))
     ≡ cond (leb n (length a.file.now)) 0 10)
 sized c held =
     let a = c.args in
-    asked_size a.set (length a.index.now) (length a.filter.now) (length a.arena.now) (length a.file.now) a.starts.now a.lengths.now held
+    asked_size a.set (length a.index.now) (length a.filter.now) (length a.areas.arena.now) (length a.file.now) a.areas.starts.now a.areas.lengths.now held
     c.in_ok-bytes.bytes (sym c.file_bytes.ensures ∙ ap size_reply c.in_ok-bytes.was)
 
 pub returns-then-file-bytes : goal.returns-then-file-bytes
@@ -63,7 +63,7 @@ put_file-requires c =
     let a = c.args in
     let n = c.in_ok-bytes.bytes in
     let front : length (take n a.file.now) ≡ n = length-take-le n a.file.now c.if-file-bytes.false in
-    let told = asked_size a.set (length a.index.now) (length a.filter.now) (length a.arena.now) (length (take n a.file.now)) a.starts.now a.lengths.now (held at.Else-not-lookup_areas_hold)
+    let told = asked_size a.set (length a.index.now) (length a.filter.now) (length a.areas.arena.now) (length (take n a.file.now)) a.areas.starts.now a.areas.lengths.now (held at.Else-not-lookup_areas_hold)
     n (sym c.file_bytes.ensures ∙ ap size_reply c.in_ok-bytes.was) in
     record { asked = told.1 ∙ rw (le-leb n (length (take n a.file.now)) (omega arith)); exact = front ∙ told.0 }
 
@@ -73,8 +73,8 @@ returns c =
     let at = goal.at.returns c in
     let a = c.args in
     let told = sized at.In_ok-bytes (held at.Else-not-lookup_areas_hold) in
-    let asked = write_asked a.set a.index.now a.filter.now a.starts.now a.lengths.now a.arena.now a.file.now (told.1 ∙ rw (le-leb _ _ c.if-file-bytes.false)) in
-    let file = file_of a.set a.index.now a.filter.now a.starts.now a.lengths.now a.arena.now in
-    let long = file_long a.set a.index.now a.filter.now a.starts.now a.lengths.now a.arena.now a.file.now asked in
+    let asked = write_asked a.set a.index.now a.filter.now a.areas.starts.now a.areas.lengths.now a.areas.arena.now a.file.now (told.1 ∙ rw (le-leb _ _ c.if-file-bytes.false)) in
+    let file = file_of a.set a.index.now a.filter.now a.areas.starts.now a.areas.lengths.now a.areas.arena.now in
+    let long = file_long a.set a.index.now a.filter.now a.areas.starts.now a.areas.lengths.now a.areas.arena.now a.file.now asked in
     let home = front_home file c.put_file.new.file a.file.now c.in_ok-bytes.bytes c.put_file.ensures (long ∙ sym told.0) in
     rw (told.1, le-leb _ _ c.if-file-bytes.false) (ap₂ (λ (n : ℕ) (l : List ℕ). write_result (Ok n) l) told.0 home)
