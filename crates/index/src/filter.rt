@@ -63,7 +63,8 @@ fn bit(i: u64) -> u64
     1 << i
 }
 
-// Marks a hash. Without words, or with more than the area has, nothing is marked.
+// Marks a hash. Without words, or with more than the area has, nothing is marked. The area is lent to be
+// written, so it is no NegativeFilter, which only reads.
 pub fn mark_negative_filter(filter: &mut [u64], words: usize, hash: u64)
     ensures { filter.new ≡ filter_marked filter.old words hash }
 {

@@ -39,7 +39,8 @@ pub struct FoundRecord {
     pub entry: RecordRef,
 }
 
-// What a slot or a bucket says: a hit, the end of the walk with nothing, or on.
+// What a slot or a bucket says: a hit, the end of the walk with nothing, or on. An enum of its own, since
+// `Option<Option<FoundRecord>>` would name none of the three.
 #[derive(Clone, Copy)]
 pub(crate) enum FindStep {
     Hit(FoundRecord),

@@ -39,7 +39,7 @@ fn pack_bucket(index: &mut [u64], buckets: usize, bucket: usize) -> u64
     control_word(words)
 }
 
-// Eight references of seven bytes are seven words.
+// Eight references of seven bytes are seven words, each split at another byte: so seven lines and no loop.
 fn write_references(index: &mut [u64], at: usize, words: [u64; BUCKET_SLOTS])
     requires { at + 7 ≤ length index.old }
     ensures { index.new ≡ pasted at (reference_words words) index.old }

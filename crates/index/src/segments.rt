@@ -13,7 +13,7 @@ use hash_parts::error::SegmentCacheBuildError;
 
 pub const MAX_RECORD_SEGMENTS: usize = 256;
 
-// Above every location.
+// Above every location: where the search for the lowest begins, so also its answer where there is none.
 const NO_START: u64 = LOCATIONS;
 
 // Splits the records under an index. Where there would be more than 256 segments only the first 256

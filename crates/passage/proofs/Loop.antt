@@ -6,15 +6,11 @@ use Prim.Native.Nat.{ℕ, ◌+◌, ◌-◌, ◌≤◌}
 use native.Mathlib.Omega.{arith}
 use borrow.Author.Tests.{leb-true, ltb-false}
 use lib.Dec.{leb, ltb}
-use lib.ListN.{length, take}
-use lib.Seq.{length-take-le}
+use lib.ListN.{length}
 use Rattle.records.specs.Area.{over, pasted}
-use Rattle.passage_lines.specs.Bytes.{first_from}
-use Rattle.passage_lines.specs.Input.{input, next_before, next_line, Kept, kept, unread, kept_unread}
+use Rattle.passage_lines.specs.Input.{input, Kept, kept, unread, kept_unread}
 use Rattle.texts.specs.Output.{Output, output, appended}
 use Rattle.passage_lines.specs.declared.input.Input.{Input}
-use Rattle.passage_lines.specs.declared.input.NextLine.TheVariants.{Line, TooLong, Skipped, More}
-use Rattle.passage_lines.proofs.Search.{first_within}
 
 -- ---- the output
 

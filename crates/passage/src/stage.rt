@@ -125,14 +125,7 @@ impl Stage {
             lengths: &areas.lengths,
             arena: &areas.arena,
         };
-        match set.get_at_tick(
-            hash,
-            key,
-            tick,
-            &mut areas.index,
-            &areas.filter,
-            segments,
-        ) {
+        match set.get_at_tick(hash, key, tick, &mut areas.index, &areas.filter, segments) {
             Err(error) => refused(Word::Get, error),
             Ok(None) => Answer::Line(Reply::Missing),
             Ok(Some(value)) => Answer::Value(value),

@@ -95,13 +95,8 @@ fn write_line(line: &mut [u8], word: Word, numbers: &[usize]) -> usize
 pub fn put_value(out: &mut [u8], at: usize, value: &[u8]) -> usize
     ensures { output result out.new ≡ appended at (value_text value.now) out.old }
 {
-    if out.len() < at {
-        return at;
-    }
-    if out.len() - at < 8 {
-        return at;
-    }
-    if (out.len() - at - 7) / 2 < value.len() {
+    let room = out.len().saturating_sub(at);
+    if room < 8 || (room - 7) / 2 < value.len() {
         return at;
     }
     at + write_value(&mut out[at..], value)

@@ -191,7 +191,8 @@ impl FrozenSegmentCache {
         find_record(self.view(), index, filter, areas, key, hash)
     }
 
-    fn finished_index(self, words: &[u64]) -> FinishedIndex<'_>
+    // Its index, whose words are lent.
+    pub fn finished_index(self, words: &[u64]) -> FinishedIndex<'_>
         ensures { (result.words.now ≡ words.now) × (result.packed ≡ self.config.packed_bucket_index) × (result.buckets ≡ self.buckets) }
     {
         FinishedIndex {

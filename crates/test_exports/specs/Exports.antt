@@ -1,8 +1,8 @@
 -- The answers of the lower calls as numbers and words. Assumes nothing.
 use Rattle.std.specs.Prelude.{ℕ, ◌+◌, ◌^◌, Bool, true, false, cond, List, [], ◌∷◌, eqb, leb, ltb, length, get_or, None, Option, Some}
-use Rattle.hash_parts.specs.Duration.{Nanoseconds}
 use Rattle.hash_parts.specs.Outcome.{Outcome}
 use Rattle.hash_parts.specs.declared.duration.Duration.{Duration}
+use Rattle.hash_parts.specs.Duration.{Nanoseconds}
 use Rattle.hash_parts.specs.declared.duration.SegmentRemainingTtl.{SegmentRemainingTtl}
 use Rattle.hash_parts.specs.declared.duration.SegmentRemainingTtl.TheVariants as left
 use Rattle.hash_parts.specs.declared.setting.SegmentExpiry.{SegmentExpiry}
@@ -76,18 +76,18 @@ varint_told None = told false []
 varint_told (Some (v, next)) = told true (v ∷ next ∷ [])
 
 -- location, bytes before the key, key's place and length, value's place and length, deadline, end
-abbrev pub words_of : RecordRef → List ℕ
-words_of r = r.location ∷ r.key_offset ∷ r.key.at ∷ r.key.len ∷ r.value.at ∷ r.value.len ∷ r.expires_at ∷ r.end ∷ []
+abbrev pub record_words : RecordRef → List ℕ
+record_words r = r.location ∷ r.key_offset ∷ r.key.at ∷ r.key.len ∷ r.value.at ∷ r.value.len ∷ r.expires_at ∷ r.end ∷ []
 
 -- whether there is a record, and its words
 abbrev pub record_told : Option RecordRef → Told Bool
 record_told None = told false []
-record_told (Some r) = told true (words_of r)
+record_told (Some r) = told true (record_words r)
 
 -- whether there is a record of the key; its slot, and the words of the record
 abbrev pub found_told : Option FoundRecord → Told Bool
 found_told None = told false []
-found_told (Some f) = told true (f.slot ∷ (record_told (Some f.entry)).words)
+found_told (Some f) = told true (f.slot ∷ record_words f.entry)
 
 -- the byte at i, or 256 past the end
 unfoldable pub byte_or256 : List ℕ → ℕ → ℕ

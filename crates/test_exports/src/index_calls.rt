@@ -13,7 +13,7 @@ ghost use Rattle.test_exports.specs.Exports.{code_of, expiry_of, found_told, len
 
 use hash_parts::error::SegmentCacheBuildError;
 use index::filter::NegativeFilter;
-use index::find::{FinishedIndex, find_record};
+use index::find::FinishedIndex;
 use index::view::{SegmentAreas, SegmentView};
 use records::record::Records;
 
@@ -89,14 +89,10 @@ pub extern "C" fn test_clear_words(words: &mut [u64], count: usize)
 
 // A slot, or 2^63 and the number of the refusal that a build then gives: 4 for a key that stands in
 // the index, 3 for a full one.
-#[tactic(auto, using(crate::proofs::Answers::code_refused, crate::proofs::Answers::code_accepted))]
 fn slot_code(slot: Result<usize, SegmentCacheBuildError>) -> u64
     ensures { result ≡ slot_code (slot_outcome slot) }
 {
-    match slot {
-        Ok(at) => at as u64,
-        Err(refusal) => 0x8000_0000_0000_0000 + u64::from(refusal.number()),
-    }
+    crate::code_of(0x8000_0000_0000_0000, slot)
 }
 
 #[unsafe(no_mangle)]
@@ -157,11 +153,11 @@ pub extern "C" fn test_mark_negative_filter(filter: &mut [u64], words: usize, ha
 pub extern "C" fn test_negative_filter_may_contain(filter: &[u64], words: usize, hash: u64) -> bool
     ensures { result ≡ filter_has filter.now words hash }
 {
-    NegativeFilter {
+    let filter = NegativeFilter {
         words: filter,
         count: words,
-    }
-    .may_contain(hash)
+    };
+    filter.may_contain(hash)
 }
 
 #[unsafe(no_mangle)]
@@ -179,7 +175,6 @@ pub extern "C" fn test_locations_inside(index: &[u64], buckets: usize, filled: u
 }
 
 // The number of segments, or 2^32 and the refusal's number.
-#[tactic(auto, using(crate::proofs::Answers::code_refused, crate::proofs::Answers::code_accepted))]
 #[unsafe(no_mangle)]
 pub extern "C" fn test_split_record_segments(
     index: &mut [u64],
@@ -191,10 +186,10 @@ pub extern "C" fn test_split_record_segments(
 ) -> u64
     ensures { (result ≡ code_of (2 ^ 32) (split index.old buckets filled target starts.old lengths.old).answer) × (index.new ≡ (split index.old buckets filled target starts.old lengths.old).index) × (starts.new ≡ (split index.old buckets filled target starts.old lengths.old).starts) × (lengths.new ≡ (split index.old buckets filled target starts.old lengths.old).lengths) }
 {
-    match index::segments::split_record_segments(index, buckets, filled, target, starts, lengths) {
-        Ok(count) => count as u64,
-        Err(refusal) => 0x1_0000_0000 + u64::from(refusal.number()),
-    }
+    let answer = index::segments::split_record_segments(
+        index, buckets, filled, target, starts, lengths,
+    );
+    crate::code_of(0x1_0000_0000, answer)
 }
 
 #[unsafe(no_mangle)]
@@ -226,8 +221,8 @@ pub extern "C" fn test_clear_control(control: u64, slot: usize) -> u64
 }
 
 // The words are those of test_record_at.
-#[tactic(auto, using(crate::proofs::Answers::placed_none))]
 #[unsafe(no_mangle)]
+#[tactic(auto, using(crate::proofs::Answers::placed_none))]
 pub extern "C" fn test_record_at_location(
     arena: &[u8],
     filled: usize,
@@ -254,13 +249,13 @@ pub extern "C" fn test_record_at_location(
     let Some(record) = view.record_at_location(areas, stored) else {
         return false;
     };
-    crate::put_words(out, &crate::words_of(record));
+    crate::put_words(out, &crate::record_words(record));
     true
 }
 
 // The words: the slot, and those of test_record_at.
-#[tactic(auto, using(crate::proofs::Answers::placed_none))]
 #[unsafe(no_mangle)]
+#[tactic(auto, using(crate::proofs::Answers::placed_none))]
 pub extern "C" fn test_find_record(
     arena: &[u8],
     filled: usize,
@@ -299,32 +294,11 @@ pub extern "C" fn test_find_record(
         lengths,
         arena,
     };
-    let Some(found) = find_record(view, index, filter, areas, key, hash) else {
+    let Some(found) = index::find::find_record(view, index, filter, areas, key, hash) else {
         return false;
     };
-    let [
-        location,
-        key_offset,
-        key_at,
-        key_len,
-        value_at,
-        value_len,
-        expires_at,
-        end,
-    ] = crate::words_of(found.entry);
-    crate::put_words(
-        out,
-        &[
-            found.slot as u64,
-            location,
-            key_offset,
-            key_at,
-            key_len,
-            value_at,
-            value_len,
-            expires_at,
-            end,
-        ],
-    );
+    let mut words = [found.slot as u64; 9];
+    words[1..].copy_from_slice(&crate::record_words(found.entry));
+    crate::put_words(out, &words);
     true
 }

@@ -4,15 +4,15 @@
 
 pub mod index_calls;
 
-ghost use Rattle.std.specs.Prelude.{◌≡◌, ◌*◌, ◌%◌, ◌^◌, length};
+ghost use Rattle.std.specs.Prelude.{◌≡◌, ◌*◌, ◌%◌, ◌^◌, ◌≤◌, length};
 ghost use Rattle.hash_parts.specs.Duration.{encoded_expiry, lives_at, nanos_of, nanos_words, remaining};
 ghost use Rattle.hash_parts.specs.Hash.{tag_of, first_bucket, control_tag, secondary_tag, rotated, mixed_hash};
 ghost use Rattle.hash_parts.specs.ZeroBytes.{lowest_set, without_lowest, zero_marks};
-ghost use Rattle.records.specs.Area.{same_bytes, spanned, written};
+ghost use Rattle.records.specs.Area.{same_bytes, spanned, write_outcome, written};
 ghost use Rattle.records.specs.Record.{encoded_size, record_at, record_bytes};
 ghost use Rattle.records.specs.Uleb128.{uleb128};
 ghost use Rattle.records.specs.Varint.{read_varint};
-ghost use Rattle.test_exports.specs.Exports.{byte_or256, code_of, duration_of, expiry_of, left_told, lent, lifetime_of, nanos_told, outcome_told, placed, record_told, span_of, told, varint_told, words_of};
+ghost use Rattle.test_exports.specs.Exports.{byte_or256, code_of, duration_of, expiry_of, left_told, lent, lifetime_of, nanos_told, outcome_told, placed, record_told, record_words, span_of, told, varint_told};
 
 use hash_parts::duration::{Duration, SegmentRemainingTtl};
 use hash_parts::error::SegmentCacheBuildError;
@@ -54,8 +54,8 @@ pub extern "C" fn test_wrapping_mul(a: u64, b: u64) -> u64
     a.wrapping_mul(b)
 }
 
-#[tactic(auto, using(hash_parts::proofs::Rotation::rotated_law))]
 #[unsafe(no_mangle)]
+#[tactic(auto, using(hash_parts::proofs::Rotation::rotated_law))]
 pub extern "C" fn test_rotate_left_27(hash: u64) -> u64
     ensures { result ≡ rotated hash }
 {
@@ -111,13 +111,13 @@ fn lifetime_of(finite: bool, secs: u64, nanos: u32) -> Option<Duration>
 pub extern "C" fn test_as_nanos(secs: u64, nanos: u32, out: &mut [u64])
     ensures { out.new ≡ placed (nanos_told (nanos_words (nanos_of (duration_of secs nanos)))) out.old }
 {
-    let total = Duration { secs, nanos }.as_nanos();
-    put_words(out, &[(total >> 64) as u64, (total % (1 << 64)) as u64]);
+    let number = Duration { secs, nanos }.as_nanos();
+    put_words(out, &[(number >> 64) as u64, (number % (1 << 64)) as u64]);
 }
 
 // The deadline, or 65,536 and the refusal's number.
-#[tactic(auto, using(crate::proofs::Answers::code_refused, crate::proofs::Answers::code_accepted))]
 #[unsafe(no_mangle)]
+#[tactic(auto, using(crate::proofs::Answers::code_refused), unfolding(crate::specs::Exports::code_of))]
 pub extern "C" fn test_encode_expiry(
     on: bool,
     tick_secs: u64,
@@ -132,14 +132,14 @@ pub extern "C" fn test_encode_expiry(
     let expiry = expiry_of(on, tick_secs, tick_nanos);
     let lifetime = lifetime_of(finite, secs, nanos);
     match hash_parts::duration::encode_expiry_at_tick(expiry, lifetime, now_tick) {
-        Ok(deadline) => u64::from(deadline),
-        Err(refusal) => 65_536 + u64::from(refusal.number()),
+        Ok(deadline) => deadline as u64,
+        Err(refusal) => 65_536 + (refusal.number() as u64),
     }
 }
 
 // 0: nothing is left. 1: it never lapses. 2: seconds and nanoseconds stand in the words.
-#[tactic(auto, using(crate::proofs::Answers::placed_none))]
 #[unsafe(no_mangle)]
+#[tactic(auto, using(crate::proofs::Answers::placed_none))]
 pub extern "C" fn test_remaining_ttl(
     on: bool,
     tick_secs: u64,
@@ -155,7 +155,7 @@ pub extern "C" fn test_remaining_ttl(
         None => 0,
         Some(SegmentRemainingTtl::Never) => 1,
         Some(SegmentRemainingTtl::Finite(left)) => {
-            put_words(out, &[left.secs, u64::from(left.nanos)]);
+            put_words(out, &[left.secs, left.nanos as u64]);
             2
         }
     }
@@ -169,14 +169,25 @@ pub extern "C" fn test_lives_at_tick(expires_at: u16, now_tick: u64) -> bool
 }
 
 // Writes the words to the front where all of them fit.
-#[tactic(auto, using(crate::proofs::Answers::placed_in, crate::proofs::Answers::placed_out))]
+#[tactic(auto, unfolding(crate::specs::Exports::placed))]
 fn put_words(out: &mut [u64], words: &[u64])
     ensures { out.new ≡ placed words.now out.old }
 {
-    if out.len() < words.len() {
-        return;
+    if words.len() <= out.len() {
+        out[..words.len()].copy_from_slice(words);
     }
-    out[..words.len()].copy_from_slice(words);
+}
+
+// A number, or a base and the refusal's number.
+#[tactic(auto, using(crate::proofs::Answers::code_refused), unfolding(crate::specs::Exports::code_of))]
+fn code_of(base: u64, answer: Result<usize, SegmentCacheBuildError>) -> u64
+    requires { base ≤ 2 ^ 63 }
+    ensures { result ≡ code_of base (write_outcome answer) }
+{
+    match answer {
+        Ok(value) => value as u64,
+        Err(refusal) => base + refusal.number() as u64,
+    }
 }
 
 #[unsafe(no_mangle)]
@@ -187,20 +198,16 @@ pub extern "C" fn test_varint_bytes(value: usize) -> usize
 }
 
 // The number of bytes written, or 2^32 and the refusal's number.
-#[tactic(auto, using(crate::proofs::Answers::code_refused, crate::proofs::Answers::code_accepted))]
 #[unsafe(no_mangle)]
 pub extern "C" fn test_write_varint(output: &mut [u8], value: usize) -> u64
     ensures { (result ≡ code_of (2 ^ 32) (written (uleb128 value) output.old).answer) × (output.new ≡ (written (uleb128 value) output.old).area) }
 {
-    match records::varint::write_varint(output, value) {
-        Ok(bytes) => bytes as u64,
-        Err(refusal) => 0x1_0000_0000 + u64::from(refusal.number()),
-    }
+    code_of(0x1_0000_0000, records::varint::write_varint(output, value))
 }
 
 // The words: the value and the position after it.
-#[tactic(auto, using(crate::proofs::Answers::placed_none))]
 #[unsafe(no_mangle)]
+#[tactic(auto, using(crate::proofs::Answers::placed_none))]
 pub extern "C" fn test_read_varint(input: &[u8], cursor: usize, out: &mut [u64]) -> bool
     ensures { told result out.new ≡ lent (varint_told (read_varint input.now cursor)) out.old }
 {
@@ -212,8 +219,8 @@ pub extern "C" fn test_read_varint(input: &[u8], cursor: usize, out: &mut [u64])
 }
 
 // 0 and the size in a word, or the refusal's number.
-#[tactic(auto, using(crate::proofs::Answers::told_refused, crate::proofs::Answers::told_accepted))]
 #[unsafe(no_mangle)]
+#[tactic(auto, using(crate::proofs::Answers::told_refused), unfolding(crate::specs::Exports::outcome_told))]
 pub extern "C" fn test_encoded_record_bytes(
     on: bool,
     key_bytes: usize,
@@ -228,12 +235,13 @@ pub extern "C" fn test_encoded_record_bytes(
             put_words(out, &[size as u64]);
             0
         }
-        Err(refusal) => u64::from(refusal.number()),
+        Err(refusal) => refusal.number() as u64,
     }
 }
 
 // 0 and the number of bytes written in a word, or the refusal's number.
 #[unsafe(no_mangle)]
+#[tactic(auto, using(crate::proofs::Answers::wrote_some), unfolding(crate::specs::Exports::outcome_told))]
 pub extern "C" fn test_append_record(
     rest: &mut [u8],
     on: bool,
@@ -248,7 +256,7 @@ pub extern "C" fn test_append_record(
     let bytes = records::record::append_record(rest, expiry, key, value, expires_at);
     if bytes == 0 {
         let refusal = SegmentCacheBuildError::AreaTooShort;
-        return u64::from(refusal.number());
+        return refusal.number() as u64;
     }
     put_words(out, &[bytes as u64]);
     0
@@ -256,8 +264,8 @@ pub extern "C" fn test_append_record(
 
 // The words: location, bytes before the key, key's place and length, value's place and length,
 // deadline, end.
-#[tactic(auto, using(crate::proofs::Answers::placed_none))]
 #[unsafe(no_mangle)]
+#[tactic(auto, using(crate::proofs::Answers::placed_none))]
 pub extern "C" fn test_record_at(bytes: &[u8], on: bool, location: usize, out: &mut [u64]) -> bool
     ensures { told result out.new ≡ lent (record_told (record_at (expiry_of on 1 0) bytes.now location)) out.old }
 {
@@ -265,22 +273,22 @@ pub extern "C" fn test_record_at(bytes: &[u8], on: bool, location: usize, out: &
     let Some(record) = Records { bytes, expiry }.record_at(location) else {
         return false;
     };
-    put_words(out, &words_of(record));
+    put_words(out, &record_words(record));
     true
 }
 
-pub(crate) fn words_of(record: RecordRef) -> [u64; 8]
-    ensures { result ≡ words_of «record» }
+fn record_words(read: RecordRef) -> [u64; 8]
+    ensures { result ≡ record_words read }
 {
     [
-        record.location as u64,
-        record.key_offset as u64,
-        record.key.at as u64,
-        record.key.len as u64,
-        record.value.at as u64,
-        record.value.len as u64,
-        u64::from(record.expires_at),
-        record.end as u64,
+        read.location as u64,
+        read.key_offset as u64,
+        read.key.at as u64,
+        read.key.len as u64,
+        read.value.at as u64,
+        read.value.len as u64,
+        read.expires_at as u64,
+        read.end as u64,
     ]
 }
 
@@ -301,11 +309,11 @@ pub extern "C" fn test_value_slice_len(arena: &[u8], at: usize, len: usize) -> u
 
 // The byte at i of the part, or 256 past its end: the length alone does not show where the part
 // begins.
-#[tactic(auto, unfolding(crate::specs::Exports::byte_or256))]
 #[unsafe(no_mangle)]
+#[tactic(auto, unfolding(crate::specs::Exports::byte_or256))]
 pub extern "C" fn test_value_slice_byte(arena: &[u8], at: usize, len: usize, i: usize) -> u64
     ensures { result ≡ byte_or256 (spanned arena.now (span_of at len)) i }
 {
     let part = records::record::value_slice(arena, Span { at, len });
-    part.get(i).map_or(256, |byte| u64::from(*byte))
+    part.get(i).map_or(256, |&byte| byte as u64)
 }

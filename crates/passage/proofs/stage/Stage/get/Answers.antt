@@ -16,8 +16,8 @@ returns-in-Err c = rw (c.refused.ensures, c.in-Finished.is, ← c.get_at_tick.en
 
 pub returns-in-Ok-None : goal.returns-in-Ok-None
 unfolding answer_text reply_text get_step
-returns-in-Ok-None c = rw (c.in-Finished.is, ← c.get_at_tick.ensures, c.in-Ok-None.is)
+returns-in-Ok-None c = rw (c.in-Finished.is, ← c.get_at_tick.ensures, c.in-Ok-None.is, c.in-Ok-None.field-0-is)
 
 pub returns-in-Ok-Some : goal.returns-in-Ok-Some
 unfolding answer_text reply_text get_step
-returns-in-Ok-Some c = rw (c.in-Finished.is, ← c.get_at_tick.ensures, c.in-Ok-Some.is)
+returns-in-Ok-Some c = rw (c.in-Finished.is, ← c.get_at_tick.ensures, c.in-Ok-Some.is, c.in-Ok-Some.field-0-is)

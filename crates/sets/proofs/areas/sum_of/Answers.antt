@@ -3,8 +3,8 @@ use Rattle.std.proofs.Common.{◌≡◌, ◌+◌, ◌<◌, get_or, take, refl, a
 use Rattle.std.proofs.lemmas.List.{get_or-take, length-take-le}
 use Rattle.sets.specs.Rebuild.{sum_of}
 use Rattle.sets.proofs.RebuildSteps.{sum_more, sum_most}
-use Rattle.sets.proofs.rebuild_finish.sum_of.Goals as goal
-use Rattle.sets.proofs.rebuild_finish.sum_of.Goals.{In-loop-word}
+use Rattle.sets.proofs.areas.sum_of.Goals as goal
+use Rattle.sets.proofs.areas.sum_of.Goals.{In-loop-word}
 
 -- the sum with the word of a turn
 next_sum : (c : In-loop-word) → let i = c.loop-word.word-index in (i < c.args.count) × (c.loop-word.sum + get_or (take c.args.count c.args.words.now) i 0 ≡ sum_of (i + 1) c.args.words.now)
