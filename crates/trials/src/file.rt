@@ -23,7 +23,7 @@ pub(crate) fn run(
     show_blocks(rt, &file)?;
     show_needs(rt, &file)?;
     load(rt, &file)?;
-    refuse(rt, file)
+    refuse(rt, &file)
 }
 
 fn write(
@@ -83,10 +83,10 @@ fn load(rt: &impl Print, file: &[u8]) -> io::Result<()> {
 
 // One byte short; kind 2 changed; the expiry flag changed; the segment's length; more records than the
 // index has room for.
-fn refuse(rt: &impl Print, file: [u8; FILE_BYTES]) -> io::Result<()> {
+fn refuse(rt: &impl Print, file: &[u8; FILE_BYTES]) -> io::Result<()> {
     load(rt, &file[..157])?;
     for (at, byte) in [(54, 7), (6, 2), (56, 13), (22, 8)] {
-        let mut changed = file;
+        let mut changed = *file;
         changed[at] = byte;
         load(rt, &changed)?;
     }
