@@ -1,4 +1,4 @@
--- The lines and pages of a chart room sheet, by the rows that they show. Document 02, Change 4: "Lay the walk out in lines of exactly 64 columns".
+-- The lines and pages of a chart room sheet, by the rows that they show. "Lay the walk out in lines of exactly 64 columns".
 -- Assumes nothing.
 use Rattle.std.specs.Prelude.{cond, List, [], ◌∷◌, ◌++◌, ℕ, zero, suc, ◌+◌, ◌-◌, ◌*◌, ◌/◌, eqb, length, replicate}
 use Rattle.texts.specs.Ascii.{ascii}

@@ -1,4 +1,4 @@
--- The chart room sheet of a set: what is asked, and what a call leaves. Document 02, Change 4. Assumes nothing.
+-- The chart room sheet of a set: what is asked, and what a call leaves. Assumes nothing.
 use Rattle.std.specs.Prelude.{Bool, true, false, cond, List, [], ◌∷◌, map, ℕ, ◌+◌, ◌*◌, leb, length, Option, Result, Ok, Err}
 use Rattle.hash_parts.specs.Error.{error_number}
 use Rattle.hash_parts.specs.declared.error.SegmentCacheBuildError.{SegmentCacheBuildError}

@@ -32,7 +32,6 @@ rest (x ∷ l) (suc i) = rest l i
 pub sum_rest : (l : List ℕ) (i : ℕ) → sum (drop i l) ≡ get_or l i 0 + sum (drop (i + 1) l)
 sum_rest l i = rw (add-one i) (rest l i)
 
--- the word at hand, and the sum of those behind it
 -- the first word of some bytes, and those behind it
 pub sum_chunk : (l w rest : List ℕ) (n : ℕ) → l ≡ w ++ rest → length w ≡ 8 → n ≡ number_of w → sum (all_words l) ≡ n + sum (all_words rest)
 unfolding words_of

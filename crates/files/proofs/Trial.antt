@@ -1,4 +1,4 @@
--- The definitions run: document 01's example as a file. Assumes nothing.
+-- The definitions run: the example of a finished set as a file. Assumes nothing.
 use mathlib.Core.Path.{◌≡◌, refl}
 use mathlib.Core.Bool.{true, false}
 use mathlib.Core.List.{List, [], ◌∷◌, ◌++◌, flat_map}

@@ -1,4 +1,4 @@
--- The blocks of a file. Document 02, Change 2: "blocks, each a 4-byte length of its content, then a 2-byte kind, then the content, all little-endian".
+-- The blocks of a file: "blocks, each a 4-byte length of its content, then a 2-byte kind, then the content, all little-endian".
 -- Assumes nothing.
 use Rattle.std.specs.Prelude.{Bool, true, false, cond, List, [], ◌∷◌, ◌++◌, ℕ, zero, suc, ◌+◌, eqb, leb, length, drop}
 use Rattle.hash_parts.specs.ZeroBytes.{bytes_of, number_of}

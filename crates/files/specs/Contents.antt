@@ -1,4 +1,4 @@
--- What the blocks of a file hold, and what 15 asks. Document 02, Change 2.
+-- What the blocks of a file hold, and what is asked of them.
 -- Assumes nothing.
 use Rattle.std.specs.Prelude.{Bool, true, cond, List, [], ◌∷◌, ◌++◌, map, ℕ, ◌+◌, ◌*◌, ◌/◌, ◌%◌, eqb, leb, length, take, drop, get_or}
 use Rattle.hash_parts.specs.ZeroBytes.{bytes_of, number_of}
@@ -106,7 +106,7 @@ file_set f =
 
 -- ---- the questions of a file
 
--- 15: "a flag, occupancy, tick, record count, byte count or kind 5's length breaks 01's bounds .., a block's length doesn't fit the counts, expiry is off with a
+-- 15: "a flag, occupancy, tick, record count, byte count or kind 5's length breaks" the bounds of a set ".., a block's length doesn't fit the counts, expiry is off with a
 -- tick not zero, or the segment lengths don't add up to kind 5's"
 unfoldable pub content_fits : List ℕ → Bool
 content_fits f =

@@ -1,4 +1,4 @@
--- Writing a set as a file: its questions, and what it leaves. Document 02, Change 2.
+-- Writing a set as a file: its questions, and what it leaves.
 -- Assumes nothing.
 use Rattle.std.specs.Prelude.{Bool, cond, ℕ, ◌+◌, ◌*◌, leb, length, take, get_or, Result, Ok, Err}
 use mathlib.Core.List.{List, [], ◌∷◌, ◌++◌, flat_map}

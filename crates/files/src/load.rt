@@ -40,7 +40,8 @@ pub fn file_needs(file: &[u8]) -> Result<FileNeeds, SegmentCacheBuildError>
     })
 }
 
-// Loads a file: its words and bytes go to the front of the areas, marks cleared.
+// Loads a file: its words and bytes go to the front of the areas, marks cleared. Each area is lent to be
+// written, and so by itself: a struct of areas lends them to be read.
 pub fn load_file(
     file: &[u8],
     index: &mut [u64],

@@ -23,7 +23,7 @@ use sets::rebuild_questions::source_holds;
 // Five headers and kind 1.
 const FIXED_BYTES: usize = 74;
 
-// How many bytes a set takes as a file.
+// How many bytes a set takes as a file. A caller may have no arena at hand.
 pub fn file_bytes(
     set: FrozenSegmentCache,
     starts: &[u64],
@@ -133,7 +133,8 @@ fn put_counts(out: &mut [u8], set: FrozenSegmentCache)
     put_numbers(content, &numbers);
 }
 
-// Numbers one after the other, each in its width.
+// Numbers one after the other, each in its width. They are counted, since nothing is known of what is
+// written through an adapter of the area's parts.
 fn put_numbers(out: &mut [u8], numbers: &[u64])
     requires { (length numbers.now ≡ 10) × (length out.old ≡ 44) }
     ensures { out.new ≡ bytes_for widths numbers.now }

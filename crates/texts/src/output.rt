@@ -1,5 +1,5 @@
 // Writing text into an output area. Each function writes from a position on and gives the position
-// after what it wrote; where the text does not fit it writes nothing.
+// after what it wrote, which the next call takes; where the text does not fit it writes nothing.
 ghost use Rattle.std.specs.Prelude.{◌≡◌, ◌*◌, ◌<◌, ◌≤◌, drop, length};
 ghost use Rattle.texts.specs.Output.{appended, decimal_text, ended_before, hex_digit, hex_text, output};
 

@@ -64,7 +64,8 @@ loop-slot-preserved c =
     let stands = standing at.At-loop-slot c.in-Some.entry c.loop-slot-test.true c.in-Some.ensures in
     let fits = fits_parts (shown at.At-loop-slot c.in-Some.entry) (print_room (shown at.At-loop-slot c.in-Some.entry) (rest at.At-loop-slot (c.loop-slot.slot + 1)) stands).1 in
     let due = deadline_short c.in-Some.entry.expires_at (omega arith) in
-    let long : length (line (shown at.At-loop-slot c.in-Some.entry)) ≡ 65 = length_line c.loop-slot.slot c.in-Some.entry.expires_at _ _ (decimal_short 7 c.loop-slot.slot (omega arith)) fits.0 fits.1 due in
+    let long : length (line (shown at.At-loop-slot c.in-Some.entry)) ≡ 65 =
+    length_line c.loop-slot.slot c.in-Some.entry.expires_at _ _ (decimal_short 7 c.loop-slot.slot (omega arith)) fits.0 fits.1 due in
     let p = c.put_entry-rows in
     print_next (shown at.At-loop-slot c.in-Some.entry) (rest at.At-loop-slot (c.loop-slot.slot + 1)) stands p.new.page p.result long p.ensures.0 p.ensures.1
 

@@ -10,4 +10,6 @@ use Rattle.charts.proofs.sheet.write_rows.Given as goal
 abbrev pub invariant-loop-slot : goal.invariant-loop-slot
 invariant-loop-slot l =
     Printing (rows_in (record_in l.view l.areas.arena.now l.areas.starts.now l.areas.lengths.now) l.index.packed l.index.buckets l.index.words.now l.areas.arena.now)
-    (rows_from (entry_at (record_in l.view l.areas.arena.now l.areas.starts.now l.areas.lengths.now) l.index.packed l.index.buckets l.index.words.now) l.areas.arena.now (8 * l.index.buckets) l.slot) l.initial.page l.page l.rows
+    (rows_from (entry_at (record_in l.view l.areas.arena.now l.areas.starts.now l.areas.lengths.now) l.index.packed l.index.buckets l.index.words.now) l.areas.arena.now
+    (8 * l.index.buckets) l.slot)
+    l.initial.page l.page l.rows

@@ -42,7 +42,8 @@ returns c =
     let front : length (take b a.index.now) ≡ b = length-take-le b a.index.now (omega arith) in
     let controls = map (masked_by 0x7f7f_7f7f_7f7f_7f7f) (words_of b l) in
     let one : out ≡ over controls a.index.now = front_home controls t.new.words a.index.now b (rw front at t.ensures.0) (masked_length _ b l) in
-    let held : length (drop b out) ≡ length a.index.now - b = omega (arith, length-drop b out, ap length one, over_length controls a.index.now (omega (arith, masked_length 0x7f7f_7f7f_7f7f_7f7f b l))) in
+    let held : length (drop b out) ≡ length a.index.now - b =
+    omega (arith, length-drop b out, ap length one, over_length controls a.index.now (omega (arith, masked_length 0x7f7f_7f7f_7f7f_7f7f b l))) in
     let some : length (take rest (drop b out)) ≡ rest = length-take-le rest (drop b out) (omega arith) in
     let two : u.new.words ≡ words_of rest tail = rw some at (u.ensures.0 ∙ u.ensures.1) in
     index_two b rest l tail a.index.now out _ (omega arith) all one (mid_home (words_of rest tail) u.new.words out b rest two (words_of_length rest tail))

@@ -61,7 +61,8 @@ told c =
 segments_are : (f : List ℕ) (s : FrozenSegmentCache) → s ≡ file_set f → length (all_words (content_of 1 f)) ≡ s.segments
 segments_are f s e = sym (ap (λ (x : FrozenSegmentCache). x.segments) e)
 
-lengths_back : (f area : List ℕ) (s : FrozenSegmentCache) → s ≡ file_set f → length (content_of 1 f) / 8 ≤ 256 → take s.segments (over (padded (all_words (content_of 1 f))) area) ≡ all_words (content_of 1 f)
+lengths_back : (f area : List ℕ) (s : FrozenSegmentCache) → s ≡ file_set f → length (content_of 1 f) / 8 ≤ 256
+    → take s.segments (over (padded (all_words (content_of 1 f))) area) ≡ all_words (content_of 1 f)
 lengths_back f area s e few =
     padded_front (all_words (content_of 1 f)) area s.segments (segments_are f s e) (omega (arith, segments_are f s e, words_of_length (length (content_of 1 f) / 8) (content_of 1 f)))
 

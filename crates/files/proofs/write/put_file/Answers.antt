@@ -38,7 +38,8 @@ module _ (s : Start) where
   sum_is : sum_of n (take n s.args.areas.lengths.now) ≡ sum_of n s.args.areas.lengths.now
   sum_is = sum_front s.args.areas.starts.now s.args.areas.lengths.now s.args.areas.arena.now n n (le_refl n)
 
-  bytes_are : segment_bytes n (take n s.args.areas.starts.now) (take n s.args.areas.lengths.now) s.args.areas.arena.now ≡ segment_bytes n s.args.areas.starts.now s.args.areas.lengths.now s.args.areas.arena.now
+  bytes_are : segment_bytes n (take n s.args.areas.starts.now) (take n s.args.areas.lengths.now) s.args.areas.arena.now
+      ≡ segment_bytes n s.args.areas.starts.now s.args.areas.lengths.now s.args.areas.arena.now
   bytes_are =
       sym (from_first (take n s.args.areas.starts.now) (take n s.args.areas.lengths.now) s.args.areas.arena.now n)
       ∙ from_front s.args.areas.starts.now s.args.areas.lengths.now s.args.areas.arena.now n 0 n (omega arith)

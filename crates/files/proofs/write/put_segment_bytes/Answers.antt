@@ -17,7 +17,9 @@ inside : (s : Start) → (g : ℕ) → g < length s.args.areas.lengths.now → g
 inside s = segments_each (length s.args.areas.arena.now) s.args.areas.starts.now s.args.areas.lengths.now (length s.args.areas.lengths.now) s.requires.1
 
 long : (s : Start) → length (segment_bytes (length s.args.areas.lengths.now) s.args.areas.starts.now s.args.areas.lengths.now s.args.areas.arena.now) ≡ length s.args.out.now
-long s = segments_length s.args.areas.starts.now s.args.areas.lengths.now s.args.areas.arena.now (length s.args.areas.lengths.now) (le_refl (length s.args.areas.lengths.now)) (inside s) ∙ sym s.requires.2
+long s =
+    segments_length s.args.areas.starts.now s.args.areas.lengths.now s.args.areas.arena.now (length s.args.areas.lengths.now)
+    (le_refl (length s.args.areas.lengths.now)) (inside s) ∙ sym s.requires.2
 
 -- the segment of a turn, and the others
 module _ (l : At-loop-i) where
@@ -28,7 +30,9 @@ module _ (l : At-loop-i) where
   left i = segments_from i (length l.args.areas.lengths.now - i) l.args.areas.starts.now l.args.areas.lengths.now l.args.areas.arena.now
 
   one : l.loop-i.i < length l.args.areas.lengths.now → left l.loop-i.i ≡ here ++ left (l.loop-i.i + 1)
-  one h = from_next l.args.areas.starts.now l.args.areas.lengths.now l.args.areas.arena.now l.loop-i.i (length l.args.areas.lengths.now - l.loop-i.i) (length l.args.areas.lengths.now - (l.loop-i.i + 1)) (omega arith)
+  one h =
+      from_next l.args.areas.starts.now l.args.areas.lengths.now l.args.areas.arena.now l.loop-i.i
+      (length l.args.areas.lengths.now - l.loop-i.i) (length l.args.areas.lengths.now - (l.loop-i.i + 1)) (omega arith)
 
   here_length : get_or l.args.areas.starts.now l.loop-i.i 0 + get_or l.args.areas.lengths.now l.loop-i.i 0 ≤ length l.args.areas.arena.now → length here ≡ get_or l.args.areas.lengths.now l.loop-i.i 0
   here_length h =

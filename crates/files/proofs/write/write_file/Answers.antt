@@ -35,7 +35,8 @@ unfolding after_write
 returns-in_err-bytes c =
     let a = c.args in
     let areas = held (goal.at.returns-in_err-bytes c).Else-not-lookup_areas_hold in
-    let k = asked_refused a.set (length a.index.now) (length a.filter.now) (length a.areas.arena.now) (length a.file.now) a.areas.starts.now a.areas.lengths.now areas _ (sym c.in_err-bytes.ensures) in
+    let k =
+    asked_refused a.set (length a.index.now) (length a.filter.now) (length a.areas.arena.now) (length a.file.now) a.areas.starts.now a.areas.lengths.now areas _ (sym c.in_err-bytes.ensures) in
     let p = err_from_is_err_and c.from_residual.result c.from_residual.ensures.1 in
     rw (p.1, p.2, k.0, k.1)
 
@@ -63,7 +64,9 @@ put_file-requires c =
     let a = c.args in
     let n = c.in_ok-bytes.bytes in
     let front : length (take n a.file.now) ≡ n = length-take-le n a.file.now c.if-file-bytes.false in
-    let told = asked_size a.set (length a.index.now) (length a.filter.now) (length a.areas.arena.now) (length (take n a.file.now)) a.areas.starts.now a.areas.lengths.now (held at.Else-not-lookup_areas_hold)
+    let told =
+    asked_size a.set (length a.index.now) (length a.filter.now) (length a.areas.arena.now) (length (take n a.file.now)) a.areas.starts.now a.areas.lengths.now
+    (held at.Else-not-lookup_areas_hold)
     n (sym c.file_bytes.ensures ∙ ap size_reply c.in_ok-bytes.was) in
     record { asked = told.1 ∙ rw (le-leb n (length (take n a.file.now)) (omega arith)); exact = front ∙ told.0 }
 
