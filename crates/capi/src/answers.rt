@@ -33,27 +33,9 @@ pub fn tell<const N: usize, T: ToWords<N>>(
     }
 }
 
-// The call on the state in lent words, and what it gives over other words.
-pub fn ask<
-    const N: usize,
-    S: FromWords,
-    T: ToWords<N>,
-    F: FnOnce(S) -> Result<T, SegmentCacheBuildError>,
->(state: &[u64], out: &mut [u64], call: F) -> u64
-    requires { F.IsAlwaysCallable call }
-    ensures { asked (F.post call) T.words_of N (S.value_in state.now) out.old (told result out.new) }
-{
-    if out.len() != N {
-        return MALFORMED;
-    }
-    let Some(state) = S::from_words(state) else {
-        return MALFORMED;
-    };
-    tell(call(state), out)
-}
-
-// The same of a call that writes to a lent area. What a closure writes to an area that it borrows is lost to the proof of its
-// maker, so the area is an argument; calls that write to several say the same line by line.
+// The call on the state in lent words, with an area that it may write to, and what it gives over other words. What a closure
+// writes to an area that it borrows is lost to the proof of its maker, so the area is an argument; calls that write to
+// several say the same line by line.
 pub fn ask_mut<
     const N: usize,
     W,
@@ -71,6 +53,20 @@ pub fn ask_mut<
         return MALFORMED;
     };
     tell(call(state, area), out)
+}
+
+// The same of a call that writes to no area.
+pub fn ask<
+    const N: usize,
+    S: FromWords,
+    T: ToWords<N>,
+    F: FnOnce(S) -> Result<T, SegmentCacheBuildError>,
+>(state: &[u64], out: &mut [u64], call: F) -> u64
+    requires { F.IsAlwaysCallable call }
+    ensures { asked (F.post call) T.words_of N (S.value_in state.now) out.old (told result out.new) }
+{
+    let mut nothing: [u8; 0] = [];
+    ask_mut(state, &mut nothing, out, |state: S, _| call(state))
 }
 
 // What a push gives: the words of the state that it leaves, and of its record's place.
