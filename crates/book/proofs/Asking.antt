@@ -1,8 +1,8 @@
 -- Lookups and mark clearings in a finished set: the answer is the book's, and the set stands for the same list after them. Assumes nothing.
-use Rattle.std.specs.Prelude.{None, Option, Some}
+use Rattle.std.specs.Prelude.{None, Option, Some, slice_get}
 use mathlib.Core.Path.{◌≡◌, refl, sym, ap, ◌∙◌}
 use mathlib.Core.Bool.{Bool, true, false, cond}
-use mathlib.Core.List.{List, [], ◌∷◌, head?}
+use mathlib.Core.List.{List, [], ◌∷◌}
 use Prim.Native.Nat.{ℕ, ◌+◌, ◌*◌, ◌/◌, ◌%◌, ◌^◌, ◌≤◌, ◌<◌}
 use native.Mathlib.Omega.{arith}
 use lib.Dec.{eqb, ltb}
@@ -80,7 +80,8 @@ module _ (H : List ℕ → ℕ) (x : SegmentExpiry) (arena : List ℕ) (top : �
       ∙ ap (ruled tick) (sym (first_is key l.list))
     where
       go : (m : List Entry) → only (keyed stored_of key) l.list ≡ m
-          → answer_of arena (gotten tick s.cache.config.packed_bucket_index s.areas.index (found_in arena s key h)).answer ≡ ruled tick (head? (only (keyed stored_of key) l.list))
+          → answer_of arena (gotten tick s.cache.config.packed_bucket_index s.areas.index (found_in arena s key h)).answer
+          ≡ ruled tick (slice_get (only (keyed stored_of key) l.list) 0)
       go [] e =
           let f = find_nothing (view_of s.cache) s.areas.index s.cache.buckets s.areas.starts s.areas.lengths arena ok.index long (λ m d y. y) key h hash bound e in
           rw (f, e)

@@ -40,12 +40,12 @@ use Rattle.book.specs.Calls.{Call, opening, push, finish, lookup, reopen, reuse,
 use Rattle.book.specs.World.{FinishedSet, unopened, world_after, told, answers}
 
 -- one record to a bucket, eight filter bits to a record
-abbrev setting : SegmentExpiry → Bool → SegmentCacheConfig
-setting expiry packed = record { expiry = expiry; target_occupied_slots = 1; packed_bucket_index = packed; negative_filter_bits_per_entry = 8 }
+abbrev config : SegmentExpiry → Bool → SegmentCacheConfig
+config expiry packed = record { expiry = expiry; target_occupied_slots = 1; packed_bucket_index = packed; negative_filter_bits_per_entry = 8 }
 
 -- areas and an arena of arbitrary content
 abbrev begin : SegmentExpiry → Bool → Call (List ℕ) ℕ
-begin expiry packed = opening (setting expiry packed) 2 (replicate 40 8) (replicate 17 7) (replicate 2 9) (replicate 257 5) (replicate 256 5)
+begin expiry packed = opening (config expiry packed) 2 (replicate 40 8) (replicate 17 7) (replicate 2 9) (replicate 257 5) (replicate 256 5)
 
 abbrev taking : ℕ → Call (List ℕ) ℕ
 taking i = load i (replicate 30 6) (replicate 17 3) (replicate 1 4) (replicate 256 2) (replicate 257 1)

@@ -7,7 +7,7 @@ use mathlib.Core.List.{List, [], ◌∷◌}
 use Prim.Native.Nat.{ℕ}
 use Rattle.hash_parts.specs.declared.error.SegmentCacheBuildError.{SegmentCacheBuildError}
 use Rattle.hash_parts.specs.declared.setting.SegmentCacheConfig.{SegmentCacheConfig}
-use Rattle.sets.specs.Answers.{replied, get_reply, take_reply, probe_reply, walk_reply, stats_reply}
+use Rattle.sets.specs.Answers.{replied, get_reply, probe_reply, walk_reply, stats_reply}
 use Rattle.sets.specs.Build.{Opened, open_result, after_open, push_result, after_push, finish_result, after_finish}
 use Rattle.sets.specs.Lookup.{Got, get_result, after_get, after_peek, Taken, take_result, after_take, probe_answer, walk_answer, stats_answer}
 use Rattle.sets.specs.Rebuild.{rebuild_open_result, after_rebuild_open, reused_result, after_reused, copied_result, after_copied, rebuild_finish_result, after_rebuild_finish}
@@ -54,7 +54,8 @@ module _ (b : SegmentCacheBuilder) (a : Areas) (arena : List ℕ) where
       → (sets : List FinishedSet) (files : List (List ℕ)) → push_left sets files after (areas_of index filter a.starts a.lengths) n r ≡ step (Built sets files) (push key value h ttl)
   make_push h key value ttl r n index filter after e sets files = go r ∙ ap (push_leaves (Built sets files) a) e
     where
-      go : (r : Result PushedRecord SegmentCacheBuildError) → push_left sets files after (areas_of index filter a.starts a.lengths) n r ≡ push_leaves (Built sets files) a (push_result r n index filter after)
+      go : (r : Result PushedRecord SegmentCacheBuildError)
+          → push_left sets files after (areas_of index filter a.starts a.lengths) n r ≡ push_leaves (Built sets files) a (push_result r n index filter after)
       go (Ok x) = refl
       go (Err e) = refl
 
@@ -63,7 +64,8 @@ module _ (b : SegmentCacheBuilder) (a : Areas) (arena : List ℕ) where
       → (sets : List FinishedSet) (files : List (List ℕ)) → finish_left sets files arena (areas_of index a.filter starts lengths) b r ≡ step (Built sets files) (finish target scratch)
   make_finish target scratch r index starts lengths used e sets files = go r ∙ ap (finish_leaves (Built sets files) a) e
     where
-      go : (r : Result FrozenSegmentCache SegmentCacheBuildError) → finish_left sets files arena (areas_of index a.filter starts lengths) b r ≡ finish_leaves (Built sets files) a (finish_result r b index starts lengths used)
+      go : (r : Result FrozenSegmentCache SegmentCacheBuildError)
+          → finish_left sets files arena (areas_of index a.filter starts lengths) b r ≡ finish_leaves (Built sets files) a (finish_result r b index starts lengths used)
       go (Ok x) = refl
       go (Err e) = refl
 
@@ -132,7 +134,8 @@ module _ (s : FinishedSet) (arena : List ℕ) where
 
 -- ---- rebuilds
 
-pub make_reopen : (s : FinishedSet) (arena : List ℕ) (records copied : ℕ) (flags : List ℕ) (tick : ℕ) (a : Areas) (r : Result SharedSegmentCacheBuilder SegmentCacheBuildError) (index filter starts lengths : List ℕ)
+pub make_reopen : (s : FinishedSet) (arena : List ℕ) (records copied : ℕ) (flags : List ℕ) (tick : ℕ)
+    (a : Areas) (r : Result SharedSegmentCacheBuilder SegmentCacheBuildError) (index filter starts lengths : List ℕ)
     → rebuild_open_result r s.cache index filter starts lengths
     ≡ after_rebuild_open s.cache s.areas.starts s.areas.lengths arena records copied flags tick a.index a.filter a.starts a.lengths
     → WhereNewest s arena
@@ -143,7 +146,8 @@ make_reopen s arena records copied flags tick a r index filter starts lengths e 
     w : World
     w = world_of arena current sets files
 
-    go : (r : Result SharedSegmentCacheBuilder SegmentCacheBuildError) → reopen_left w (areas_of index filter starts lengths) r ≡ reopen_leaves w (rebuild_open_result r s.cache index filter starts lengths)
+    go : (r : Result SharedSegmentCacheBuilder SegmentCacheBuildError)
+        → reopen_left w (areas_of index filter starts lengths) r ≡ reopen_leaves w (rebuild_open_result r s.cache index filter starts lengths)
     go (Ok x) = refl
     go (Err e) = refl
 
@@ -157,7 +161,8 @@ module _ (b : SharedSegmentCacheBuilder) (a : Areas) (arena : List ℕ) where
       → repush_left sets files arena (areas_of index filter a.starts a.lengths) n r ≡ step (Rebuilt sets files) (reuse key value h at.location at.header_bytes)
   make_reuse h key value at r n index filter e sets files = go r ∙ ap (reuse_leaves (Rebuilt sets files) a) e
     where
-      go : (r : Result PushedRecord SegmentCacheBuildError) → repush_left sets files arena (areas_of index filter a.starts a.lengths) n r ≡ reuse_leaves (Rebuilt sets files) a (reused_result r n index filter)
+      go : (r : Result PushedRecord SegmentCacheBuildError)
+          → repush_left sets files arena (areas_of index filter a.starts a.lengths) n r ≡ reuse_leaves (Rebuilt sets files) a (reused_result r n index filter)
       go (Ok x) = refl
       go (Err e) = refl
 
@@ -166,7 +171,8 @@ module _ (b : SharedSegmentCacheBuilder) (a : Areas) (arena : List ℕ) where
       → (sets : List FinishedSet) (files : List (List ℕ)) → repush_left sets files after (areas_of index filter a.starts a.lengths) n r ≡ step (Rebuilt sets files) (copy key value h ttl)
   make_copy h key value ttl r n index filter after e sets files = go r ∙ ap (copy_leaves (Rebuilt sets files) a) e
     where
-      go : (r : Result PushedRecord SegmentCacheBuildError) → repush_left sets files after (areas_of index filter a.starts a.lengths) n r ≡ copy_leaves (Rebuilt sets files) a (copied_result r n index filter after)
+      go : (r : Result PushedRecord SegmentCacheBuildError)
+          → repush_left sets files after (areas_of index filter a.starts a.lengths) n r ≡ copy_leaves (Rebuilt sets files) a (copied_result r n index filter after)
       go (Ok x) = refl
       go (Err e) = refl
 

@@ -19,12 +19,14 @@ use Rattle.sets.specs.Rebuild.{segments_inside}
 use Rattle.sets.specs.declared.rebuild.SegmentRecordLocation.{SegmentRecordLocation}
 use Rattle.sets.specs.declared.rebuild.SharedSegmentCacheBuild.{SharedSegmentCacheBuild}
 use Rattle.sets.specs.declared.rebuild.SharedSegmentCacheBuilder.{SharedSegmentCacheBuilder}
-use Rattle.sets.proofs.RebuildAccepted.{ReopenCase, reopen_made_law, reopen_refused, reopen_case, ReusedCase, reused_made_law, reused_refused, reused_case, CopiedCase, copied_made_law, copied_refused}
+use Rattle.sets.proofs.RebuildAccepted.{ReopenCase, reopen_made_law, reopen_refused, reopen_case, ReusedCase, reused_made_law}
+use Rattle.sets.proofs.RebuildAccepted.{reused_refused, reused_case, CopiedCase, copied_made_law, copied_refused}
 use Rattle.sets.proofs.RebuildAccepted.{copied_case, RefinishCase, refinish_made, refinish_refused, refinish_case}
 use Rattle.sets.proofs.RebuildClosure.{rebuild_passes, rebuild_filter_holds, reopen_passes, reused_passes, copied_passes, refinish_passes, refinish_inside}
 use Rattle.book.specs.Book.{ListedSet, Book, starts_in, filled_in, rebuilt_starts, place_of, joined, closed, reopened, rejoined, heard}
 use Rattle.book.specs.Calls.{reopen, reuse, copy, refinish, newest}
-use Rattle.book.specs.World.{Current, idle, building, rebuilding, FinishedSet, World, is_accepted, reopen_leaves, reopen_step, reuse_leaves, reuse_step, copy_leaves, copy_step, refinish_leaves}
+use Rattle.book.specs.World.{Current, idle, building, rebuilding, FinishedSet, World, is_accepted, reopen_leaves}
+use Rattle.book.specs.World.{reopen_step, reuse_leaves, reuse_step, copy_leaves, copy_step, refinish_leaves}
 use Rattle.book.specs.World.{refinish_step}
 use Rattle.book.proofs.Appending.{appended, joins}
 use Rattle.book.proofs.Copying.{rebuild_copy}

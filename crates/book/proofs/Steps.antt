@@ -21,14 +21,17 @@ use Rattle.sets.specs.Questions.{buckets_in, filter_words_in}
 use Rattle.sets.specs.Rebuild.{segments_inside}
 use Rattle.sets.specs.declared.builder.SegmentCacheBuilder.{SegmentCacheBuilder}
 use Rattle.sets.specs.declared.cache.FrozenSegmentCache.{FrozenSegmentCache}
-use Rattle.sets.proofs.Accepted.{OpenCase, open_made, open_refused, open_case, PushCase, push_made_law, push_refused_law, push_case, FinishCase, finish_made_law, finish_many, finish_refused_law, finish_case}
+use Rattle.sets.proofs.Accepted.{OpenCase, open_made, open_refused, open_case, PushCase, push_made_law, push_refused_law}
+use Rattle.sets.proofs.Accepted.{push_case, FinishCase, finish_made_law, finish_many, finish_refused_law, finish_case}
 use Rattle.sets.proofs.Closure.{builder_passes, builder_lengths, builder_filter_holds, open_passes, push_passes, finish_passes}
 use Rattle.sets.proofs.SourceClosure.{finish_inside}
 use Rattle.files.specs.Typed.{Typed}
 use Rattle.book.specs.Book.{ListedSet, ListedFile, Book, book_starts, blank, anew, filed, unfiled, joined, closed, filled_in, heard, reply_from, replied}
 use Rattle.book.specs.Calls.{Call, opening, push, finish, lookup, peek, clear, probe, walk, stats, reopen, reuse, copy, refinish, write, load, bare, bytes_in, Answer, newest}
-use Rattle.book.specs.World.{Areas, Current, idle, building, rebuilding, FinishedSet, World, is_accepted, unopened, open_leaves, opened_or, opening_step, push_leaves, push_step, finish_leaves}
-use Rattle.book.specs.World.{finish_step, lookup_step, peek_step, clear_step, probe_step, walk_step, stats_step, write_in, filed_as, write_step, load_in, loaded_as, load_step, step, answer_from}
+use Rattle.book.specs.World.{Areas, Current, idle, building, rebuilding, FinishedSet, World, is_accepted}
+use Rattle.book.specs.World.{unopened, open_leaves, opened_or, opening_step, push_leaves, push_step, finish_leaves}
+use Rattle.book.specs.World.{finish_step, lookup_step, peek_step, clear_step, probe_step, walk_step, stats_step, write_in}
+use Rattle.book.specs.World.{filed_as, write_step, load_in, loaded_as, load_step, step, answer_from}
 use Rattle.book.specs.World.{peeked_from, answered}
 use Rattle.book.proofs.Appending.{appended, joins}
 use Rattle.book.proofs.Asking.{set_answer, set_got, set_taken}

@@ -112,7 +112,8 @@ build_answers = absent ∷ value (65 ∷ 66 ∷ []) ∷ nothing ∷ value [] ∷
 -- ---- rebuilds, in both layouts
 
 -- Two segments. A rebuild that is ended; then one that drops the first segment: flags of the wrong number, a record of the dropped segment, another value,
--- a record reused, its key again as a copy, a copy that lapses, one too many; lookups in the new set and in both segments of the old. Then a rebuild that keeps all, reuses two records, copies nothing.
+-- a record reused, its key again as a copy, a copy that lapses, one too many; lookups in the new set and in both segments of the old. Then a rebuild that keeps
+-- all, reuses two records, copies nothing.
 abbrev rebuild_calls : Bool → List (Call (List ℕ) ℕ)
 rebuild_calls packed =
     opens (setting 1 packed) 2
@@ -177,7 +178,7 @@ displaced_calls packed =
 abbrev displaced_answers : List Answer
 displaced_answers = value (65 ∷ []) ∷ nothing ∷ []
 
--- ---- the example of document 01: two records, packed, ticks of one second; before it another line of sets, which its open ends
+-- ---- the worked example: two records, packed, ticks of one second; before it another line of sets, which its open ends
 
 abbrev example_calls : List (Call (List ℕ) ℕ)
 example_calls =

@@ -1,6 +1,5 @@
--- The book of document 01, "What each call must say of itself", point 6: the answers of lookups, worked out from the calls' arguments and from whether each
--- was accepted. It cites what the paper names, the deadline by Setting and the stored bytes, and nothing of how a lookup works. Of files it is document 02's,
--- Change 2: a load's argument is the file's bytes, which the book reads by itself.
+-- The book of a list of calls: the answers of lookups, worked out from the calls' arguments and from whether each was accepted. It cites the deadline by
+-- Setting and the stored bytes, and nothing of how a lookup works. A load's argument is the file's bytes, which the book reads by itself.
 -- Assumes nothing.
 use Rattle.std.specs.Prelude.{Bool, true, false, cond, List, [], ◌∷◌, ◌++◌, ℕ, zero, suc, ◌+◌, ◌*◌, ◌/◌, ◌%◌, ◌^◌, min, eqb, leb, ltb, length, take, drop, get_or, None, Option, Some, slice_get}
 use Rattle.hash_parts.specs.Duration.{encoded_expiry}
@@ -111,7 +110,7 @@ abbrev pub deadline_on : SegmentExpiry → List ℕ → ℕ → ℕ
 deadline_on setting.None tape at = 65535
 deadline_on (setting.Relative16 tick) tape at = two_bytes tape (past_prefix tape (past_prefix tape at))
 
--- ---- a file's bytes. Document 02, Change 2: "blocks, each a 4-byte length of its content, then a 2-byte kind, then the content, all little-endian. Kinds come
+-- ---- a file's bytes: "blocks, each a 4-byte length of its content, then a 2-byte kind, then the content, all little-endian. Kinds come
 -- once each, in order".
 
 -- a number by its bytes, lowest first
@@ -197,7 +196,7 @@ rejoined b key v place =
 abbrev pub anew : Book → SegmentCacheConfig → Book
 anew b config = record { expiry = config.expiry; tape = []; list = []; tick = 0; kept = []; sets = []; written = b.written }
 
--- Document 02, Change 2: "Lookups in a loaded set are held to the list that its writer was given": at a write that list is noted, with the expiry
+-- "Lookups in a loaded set are held to the list that its writer was given": at a write that list is noted, with the expiry
 abbrev pub filed : Book → Option ListedSet → Book
 filed b None = b
 filed b (Some l) =

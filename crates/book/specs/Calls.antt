@@ -1,4 +1,4 @@
--- The calls that a list is made of, all of document 01's, peek, and document 02's writing and loading of a file; and what a lookup or a peek answers.
+-- The calls that a list is made of: those of builders, sets and rebuilds, peek, and the writing and loading of a file; and what a lookup or a peek answers.
 -- Assumes nothing.
 use Rattle.std.specs.Prelude.{List, [], ◌∷◌, ℕ, None, Option, Some, slice_get}
 use Rattle.hash_parts.specs.declared.setting.SegmentCacheConfig.{SegmentCacheConfig}

@@ -1,6 +1,6 @@
 -- The world that a list of calls goes through: states and areas as the calls leave them. Each call is the very definition that its contract cites
--- (afterOpen, afterPush, afterFinish, afterGet, afterPeek, afterTake, probeAnswer, walkAnswer, statsAnswer, afterRebuildOpen, afterReused, afterCopied,
--- afterRebuildFinish, afterWrite, afterLoad), and the world after it holds what that definition says is left, refused calls included. src/calls.rt makes each
+-- (after_open, after_push, after_finish, after_get, after_peek, after_take, probe_answer, walk_answer, stats_answer, after_rebuild_open, after_reused,
+-- after_copied, after_rebuild_finish, after_write, after_load), and the world after it holds what that definition says is left, refused calls included. src/calls.rt makes each
 -- call as code, and its contracts say that the call is this step. States and areas are carried over from call to call, nothing else writes to them, and no
 -- area is shared. There is one line of rebuilds: each is opened from the newest set, and opening another ends an unfinished one. An open or a load begins
 -- another line; the files that were written stay.

@@ -28,6 +28,7 @@ use sets::rebuild::{SegmentRecordLocation, SharedSegmentCacheBuild, SharedSegmen
 use sets::stats::SegmentCacheStats;
 
 // Open, in any world.
+#[tactic(auto, using(crate::proofs::Making::make_open))]
 pub fn make_open(
     config: SegmentCacheConfig,
     entry_count: usize,
@@ -42,6 +43,7 @@ pub fn make_open(
 }
 
 // Push, whatever sets are finished. The segment areas are only named.
+#[tactic(auto, using(crate::proofs::Making::make_push))]
 pub fn make_push(
     builder: &mut SegmentCacheBuilder,
     hash: u64,
@@ -61,6 +63,7 @@ pub fn make_push(
 }
 
 // Finish, whatever sets are finished. The filter is only named.
+#[tactic(auto, using(crate::proofs::Making::make_finish))]
 pub fn make_finish(
     builder: SegmentCacheBuilder,
     target: usize,
@@ -78,6 +81,7 @@ pub fn make_finish(
 }
 
 // Lookup, in a set anywhere among others; what it gives is what the world answers.
+#[tactic(auto, using(crate::proofs::Making::make_lookup))]
 pub fn make_lookup(
     cache: FrozenSegmentCache,
     hash: u64,
@@ -94,6 +98,7 @@ pub fn make_lookup(
 }
 
 // Peek.
+#[tactic(auto, using(crate::proofs::Making::make_peek))]
 pub fn make_peek(
     cache: FrozenSegmentCache,
     hash: u64,
@@ -110,6 +115,7 @@ pub fn make_peek(
 }
 
 // Mark clearing.
+#[tactic(auto, using(crate::proofs::Making::make_clear))]
 pub fn make_clear(
     cache: FrozenSegmentCache,
     hash: u64,
@@ -125,6 +131,7 @@ pub fn make_clear(
 }
 
 // Probe.
+#[tactic(auto, using(crate::proofs::Making::make_probe))]
 pub fn make_probe(
     cache: FrozenSegmentCache,
     hash: u64,
@@ -141,6 +148,7 @@ pub fn make_probe(
 }
 
 // A step of the walk. The filter is only named.
+#[tactic(auto, using(crate::proofs::Making::make_walk))]
 pub fn make_walk(
     cache: FrozenSegmentCache,
     from: usize,
@@ -156,6 +164,7 @@ pub fn make_walk(
 }
 
 // Statistics. All areas are only named.
+#[tactic(auto, using(crate::proofs::Making::make_stats))]
 pub fn make_stats(
     cache: FrozenSegmentCache,
     index: &[u64],
@@ -169,6 +178,7 @@ pub fn make_stats(
 }
 
 // Rebuild open, of the newest set, whatever is open. The source's index and filter are only named.
+#[tactic(auto, using(crate::proofs::Making::make_reopen))]
 pub fn make_reopen(
     source: FrozenSegmentCache,
     source_index: &[u64],
@@ -201,6 +211,7 @@ pub fn make_reopen(
 }
 
 // Reused push.
+#[tactic(auto, using(crate::proofs::Making::make_reuse))]
 pub fn make_reuse(
     builder: &mut SharedSegmentCacheBuilder,
     hash: u64,
@@ -214,12 +225,11 @@ pub fn make_reuse(
     ensures filter_after { reused_result result builder.new index.new filter.new ≡ after_reused builder.old hash key.now value.now source index.old filter.old areas.entry.starts.now areas.entry.lengths.now areas.entry.arena.now }
     ensures result_after { (sets : List FinishedSet) (files : List (List ℕ)) → repush_left sets files areas.entry.arena.now (areas_of index.new filter.new areas.entry.starts.now areas.entry.lengths.now) builder.new result ≡ step (world_of areas.entry.arena.now (rebuilding builder.old (areas_of index.old filter.old areas.entry.starts.now areas.entry.lengths.now)) sets files) (reuse key.now value.now hash source.location source.header_bytes) }
 {
-    builder.push_reused(
-        hash, key, value, source, index, filter, areas,
-    )
+    builder.push_reused(hash, key, value, source, index, filter, areas)
 }
 
 // Copied push.
+#[tactic(auto, using(crate::proofs::Making::make_copy))]
 pub fn make_copy(
     builder: &mut SharedSegmentCacheBuilder,
     hash: u64,
@@ -239,6 +249,7 @@ pub fn make_copy(
 }
 
 // Rebuild finish. The filter is only named.
+#[tactic(auto, using(crate::proofs::Making::make_refinish))]
 pub fn make_refinish(
     builder: SharedSegmentCacheBuilder,
     index: &mut [u64],
@@ -255,6 +266,7 @@ pub fn make_refinish(
 }
 
 // A set is written as a file, to the front of an area.
+#[tactic(auto, using(crate::proofs::Making::make_write))]
 pub fn make_write(
     cache: FrozenSegmentCache,
     index: &[u64],
@@ -269,6 +281,7 @@ pub fn make_write(
 }
 
 // A file that was written is loaded, in any world.
+#[tactic(auto, using(crate::proofs::Making::make_load))]
 pub fn make_load(
     file: &[u8],
     index: &mut [u64],

@@ -1,12 +1,15 @@
 -- What the questions of a sheet come to. Assumes nothing.
 use mathlib.Core.Bool.{Bool, true, false, cond}
 use mathlib.Core.List.{List, [], ◌∷◌}
-use mathlib.Core.Path.{◌≡◌, refl, sym, ap}
+use mathlib.Core.Path.{◌≡◌, refl, ap}
 use Prim.Native.Nat.{ℕ, ◌+◌, ◌*◌, ◌≤◌, ◌<◌}
 use native.Mathlib.Omega.{arith}
 use borrow.Author.Tests.{le-leb, lt-leb}
 use lib.Dec.{leb}
 use lib.ListN.{length}
+use Rattle.std.specs.Prelude.{Ok, Err}
+use Rattle.hash_parts.specs.declared.error.SegmentCacheBuildError.{SegmentCacheBuildError}
+use Rattle.hash_parts.specs.declared.error.SegmentCacheBuildError.TheVariants.{FieldTooLong}
 use Rattle.records.specs.Area.{over}
 use Rattle.index.proofs.Buckets.{buckets_few}
 use Rattle.sets.specs.Answers.{Reply, accept, refuse}
@@ -16,8 +19,6 @@ use Rattle.sets.specs.declared.cache.FrozenSegmentCache.{FrozenSegmentCache}
 use Rattle.sets.proofs.Counts.{both, counts_buckets, counts_records, counts_setting, set_counts, set_index, setting_occupied}
 use Rattle.charts.specs.Line.{Row, pages_for, sheet}
 use Rattle.charts.specs.Sheet.{Printed, after_sheet, ask_pages, ask_sheet, pages_answer, row_count, rows_fit, rows_of}
-use Rattle.charts.specs.declared.sheet.RowCount.{RowCount}
-use Rattle.charts.specs.declared.sheet.RowCount.TheVariants.{Rows, TooLong}
 
 -- a set that passes question 1 has its slots in the index, and their numbers have at most eight digits
 pub slots_few : (s : FrozenSegmentCache) (index starts lengths arena : ℕ) → areas_hold_set s index starts lengths arena ≡ true
@@ -31,31 +32,21 @@ slots_few s index starts lengths arena e =
 
 -- ---- the count of the rows
 
-counted : RowCount → ℕ
-counted (Rows n) = n
-counted TooLong = 0
-
-fitting : RowCount → Bool
-fitting (Rows n) = true
-fitting TooLong = false
-
-pub count_passed : (rows : List Row) (n : ℕ) → Rows n ≡ row_count 0 rows → (rows_fit rows ≡ true) × (n ≡ length rows)
-unfolding row_count counted fitting
+pub count_passed : (rows : List Row) (n : ℕ) → Ok n ≡ row_count 0 rows → (rows_fit rows ≡ true) × (n ≡ length rows)
+unfolding row_count
 count_passed rows n e = go (rows_fit rows) e
   where
-    go : (t : Bool) → Rows n ≡ cond t (Rows (0 + length rows)) TooLong → (t ≡ true) × (n ≡ length rows)
-    go true f =
-        let m : n ≡ 0 + length rows = ap counted f in
-        (refl, omega arith)
-    go false f = (sym (ap fitting f), cc)
+    go : (t : Bool) → Ok n ≡ cond t (Ok (0 + length rows)) (Err FieldTooLong) → (t ≡ true) × (n ≡ length rows)
+    go true f = let m : n ≡ 0 + length rows = cc in (refl, omega arith)
+    go false f = (cc, cc)
 
-pub count_refused : (rows : List Row) → TooLong ≡ row_count 0 rows → rows_fit rows ≡ false
-unfolding row_count counted fitting
-count_refused rows e = go (rows_fit rows) e
+pub count_refused : (rows : List Row) (why : SegmentCacheBuildError) → Err why ≡ row_count 0 rows → (rows_fit rows ≡ false) × (why ≡ FieldTooLong)
+unfolding row_count
+count_refused rows why e = go (rows_fit rows) e
   where
-    go : (t : Bool) → TooLong ≡ cond t (Rows (0 + length rows)) TooLong → t ≡ false
-    go true f = sym (ap fitting f)
-    go false f = refl
+    go : (t : Bool) → Err why ≡ cond t (Ok (0 + length rows)) (Err FieldTooLong) → (t ≡ false) × (why ≡ FieldTooLong)
+    go true f = (cc, cc)
+    go false f = (refl, cc)
 
 -- ---- the questions of both calls
 

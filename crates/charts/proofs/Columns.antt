@@ -7,10 +7,10 @@ use native.Mathlib.Omega.{arith}
 use borrow.Author.Tests.{eq-eqb, ne_eqb}
 use borrow.Rule.Slice.PartMut.{put_mid}
 use lib.Dec.{eqb}
-use lib.ListN.{length, take, drop, set, length-append, length-drop, length-replicate, drop_of_length-le}
+use lib.ListN.{length, get_or, take, drop, set, length-append, length-drop, length-replicate}
+use Rattle.std.proofs.lemmas.List.{drop_all, drop_more, length-take-le}
 use lib.Seq.{take-append-le, drop-append-le, take-append-add, drop-append-add}
 use Rattle.records.specs.Area.{over, pasted}
-use Rattle.records.proofs.Area.{Writing, begin, complete, next_byte}
 use Rattle.texts.specs.Ascii.{ascii}
 use Rattle.texts.specs.Output.{decimal_text, hex_text}
 use Rattle.texts.proofs.Spelling.{decimal_short, hex_length_law}
@@ -147,33 +147,20 @@ length_line slot deadline key value short k v late =
     )
     (omega arith)
 
--- ---- a blank line, byte by byte
-
--- what is left of it from a column on
-abbrev pub blank_from : ℕ → List ℕ
-blank_from i = spaces (64 - i) ++ (10 ∷ [])
-
-pub blank_begin : (area : List ℕ) → length area ≡ 65 → Writing blank (blank_from 0) area area 0
-unfolding blank
-blank_begin area h = begin blank area (omega arith)
-
-pub blank_next : (i : ℕ) → i < 64 → blank_from i ≡ 32 ∷ blank_from (i + 1)
-blank_next i h = let n : 64 - i ≡ suc (64 - (i + 1)) = omega arith in rw n
+-- ---- a blank line
 
 pub length_blank : length blank ≡ 65
 unfolding blank
 length_blank = refl
 
--- what is as long as the area takes its place
-over_whole : (s area : List ℕ) → length area ≡ length s → over s area ≡ s
-over_whole s area h =
-    let short : length area ≤ length s = omega arith in
-    ap (λ (t : List ℕ). s ++ t) (drop_of_length-le area short) ∙ append-nil s
-
-pub blank_end : (area out : List ℕ) (i : ℕ) → length area ≡ 65 → Writing blank (blank_from i) area out i → i ≡ 64 → set out 64 10 ≡ blank
-blank_end area out i h w e =
-    let last : Writing blank (10 ∷ []) area out 64 = rw e at w in
-    (complete (next_byte 10 [] last refl) refl).1 ∙ over_whole blank area (h ∙ sym length_blank)
+-- spaces before the last byte, and a line feed in its place
+pub blank_is : (out s : List ℕ) → length out ≡ 65 → s ≡ spaces (length (take 64 out)) → set (s ++ drop 64 out) 64 10 ≡ blank
+unfolding blank
+blank_is out s h e =
+    let n : length (take 64 out) ≡ 64 = length-take-le 64 out (omega arith) in
+    let none : drop 65 out ≡ [] = drop_all 65 out (omega arith) in
+    let one : drop 64 out ≡ get_or out 64 0 ∷ drop 65 out = drop_more out 64 0 (omega arith) in
+    rw (e, n, one, none)
 
 -- ---- a line in its place on a page, which was lent and comes home
 

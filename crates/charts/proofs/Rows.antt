@@ -1,55 +1,41 @@
 -- Laws of a set's rows, slot by slot: whether each fits, and how many there are. Assumes nothing.
 use mathlib.Core.Bool.{Bool, true, false, cond}
 use mathlib.Core.List.{List, [], ◌∷◌, map}
-use mathlib.Core.Path.{◌≡◌, refl, sym, ap}
+use mathlib.Core.Path.{◌≡◌, refl, ap}
 use Prim.Native.Nat.{ℕ, suc, ◌+◌, ◌-◌, ◌*◌, ◌≤◌, ◌<◌}
 use native.Mathlib.Omega.{arith}
 use borrow.Author.Tests.{leb-true}
 use lib.Dec.{leb}
-use lib.ListN.{length, length-map}
-use Rattle.records.specs.declared.record.RecordAnswer.{RecordAnswer}
-use Rattle.records.specs.declared.record.RecordAnswer.TheVariants.{Read, Unreadable}
+use lib.ListN.{length}
+use Rattle.std.specs.Prelude.{Option, Some, None, Ok, Err}
+use Rattle.hash_parts.specs.declared.error.SegmentCacheBuildError.TheVariants.{FieldTooLong}
 use Rattle.records.specs.declared.record.RecordRef.{RecordRef}
-use Rattle.index.specs.Find.{slot_at}
-use Rattle.index.specs.declared.slot.IndexSlot.TheVariants.{Empty, Used}
 use Rattle.sets.specs.Lookup.{entry_at}
 use Rattle.sets.specs.Walk.{entries_from, entries_in}
-use Rattle.sets.proofs.WalkList.{entries_few, entries_hit, entries_miss, entries_none}
+use Rattle.sets.proofs.WalkList.{entries_hit, entries_miss, entries_none}
 use Rattle.charts.specs.Line.{Row}
 use Rattle.charts.specs.Sheet.{row_count, row_fits, row_of, rows_fit, rows_in}
-use Rattle.charts.specs.declared.sheet.RowCount.TheVariants.{Rows, TooLong}
 
 -- ---- the rows from a slot on
 
-abbrev pub rows_from : (ℕ → RecordAnswer) → List ℕ → ℕ → ℕ → List Row
+abbrev pub rows_from : (ℕ → Option RecordRef) → List ℕ → ℕ → ℕ → List Row
 rows_from at arena slots s = map (row_of arena) (entries_from at s (slots - s))
 
-module _ (at : ℕ → RecordAnswer) (arena : List ℕ) (slots s : ℕ) where
-  pub rows_hit : (r : RecordRef) → s < slots → at s ≡ Read r → rows_from at arena slots s ≡ row_of arena (record { slot = s; entry = r }) ∷ rows_from at arena slots (s + 1)
+module _ (at : ℕ → Option RecordRef) (arena : List ℕ) (slots s : ℕ) where
+  pub rows_hit : (r : RecordRef) → s < slots → at s ≡ Some r → rows_from at arena slots s ≡ row_of arena (record { slot = s; entry = r }) ∷ rows_from at arena slots (s + 1)
   rows_hit r h e = ap (map (row_of arena)) (entries_hit at slots s r h e)
 
-  pub rows_miss : s < slots → at s ≡ Unreadable → rows_from at arena slots s ≡ rows_from at arena slots (s + 1)
+  pub rows_miss : s < slots → at s ≡ None → rows_from at arena slots s ≡ rows_from at arena slots (s + 1)
   rows_miss h e = ap (map (row_of arena)) (entries_miss at slots s h e)
 
   pub rows_none : slots ≤ s → rows_from at arena slots s ≡ []
   rows_none h = ap (map (row_of arena)) (entries_none at slots s h)
 
--- what a slot says, and what is read under its location
-module _ (read : ℕ → RecordAnswer) (packed : Bool) (buckets : ℕ) (index : List ℕ) (slot : ℕ) where
-  pub slot_empty : slot_at packed buckets index slot ≡ Empty → entry_at read packed buckets index slot ≡ Unreadable
-  unfolding entry_at
-  slot_empty e = rw e
-
-  pub slot_used : (tag stored : ℕ) (answer : RecordAnswer) → slot_at packed buckets index slot ≡ Used tag stored → answer ≡ read stored → entry_at read packed buckets index slot ≡ answer
-  unfolding entry_at
-  slot_used tag stored answer e f = rw e (sym f)
-
--- no more rows than slots
-pub rows_few : (read : ℕ → RecordAnswer) (packed : Bool) (buckets : ℕ) (index arena : List ℕ) → length (rows_in read packed buckets index arena) ≤ 8 * buckets
+-- from the first slot on they are all
+pub rows_all : (read : ℕ → Option RecordRef) (packed : Bool) (buckets : ℕ) (index arena : List ℕ)
+    → rows_from (entry_at read packed buckets index) arena (8 * buckets) 0 ≡ rows_in read packed buckets index arena
 unfolding entries_in
-rows_few read packed buckets index arena =
-    let at : ℕ → RecordAnswer = entry_at read packed buckets index in
-    omega (arith, length-map (entries_from at 0 (8 * buckets)) (row_of arena), entries_few at 0 (8 * buckets))
+rows_all read packed buckets index arena = let e : 8 * buckets - 0 ≡ 8 * buckets = omega arith in rw e
 
 -- ---- whether rows fit
 
@@ -79,10 +65,10 @@ module _ (n : ℕ) (r : Row) (rows : List Row) where
   unfolding row_count rows_fit
   count_fits e = let m : n + suc (length rows) ≡ n + 1 + length rows = omega arith in rw (e, m)
 
-  pub count_long : row_fits r ≡ false → row_count n (r ∷ rows) ≡ TooLong
+  pub count_long : row_fits r ≡ false → row_count n (r ∷ rows) ≡ Err FieldTooLong
   unfolding row_count rows_fit
   count_long e = rw e
 
-pub count_none : (n : ℕ) → row_count n [] ≡ Rows n
+pub count_none : (n : ℕ) → row_count n [] ≡ Ok n
 unfolding row_count rows_fit
 count_none n = let e : n + 0 ≡ n = omega arith in rw e

@@ -6,20 +6,18 @@ use Prim.Native.Nat.{ℕ, zero, suc, ◌+◌, ◌*◌, ◌≤◌, ◌<◌}
 use native.Mathlib.Omega.{arith}
 use lib.Dec.{leb}
 use lib.ListN.{length, get_or}
+use Rattle.std.specs.Prelude.{Option, Some, None}
 use Rattle.hash_parts.specs.declared.setting.SegmentExpiry.{SegmentExpiry}
-use Rattle.hash_parts.specs.declared.setting.SegmentExpiry.TheVariants.{None, Relative16}
+use Rattle.hash_parts.specs.declared.setting.SegmentExpiry.TheVariants as setting
 use Rattle.hash_parts.proofs.Bytes.{Bytes, no_bytes, one_byte, bytes_drop, bytes_take}
 use Rattle.records.specs.Area.{part, spanned}
 use Rattle.records.specs.Record.{deadline_in, record_at}
-use Rattle.records.specs.declared.record.RecordAnswer.{RecordAnswer}
-use Rattle.records.specs.declared.record.RecordAnswer.TheVariants.{Read, Unreadable}
 use Rattle.records.specs.declared.record.RecordRef.{RecordRef}
 use Rattle.records.specs.declared.record.Span.{Span}
 use Rattle.records.proofs.Stored.{read_by}
 use Rattle.index.specs.Find.{slot_at}
 use Rattle.index.specs.View.{record_in}
-use Rattle.index.specs.declared.slot.IndexSlot.{IndexSlot}
-use Rattle.index.specs.declared.slot.IndexSlot.TheVariants.{Empty, Used}
+use Rattle.index.specs.Slot.{IndexSlot}
 use Rattle.index.specs.declared.view.SegmentView.{SegmentView}
 use Rattle.index.proofs.Views.{read_in}
 use Rattle.sets.specs.Lookup.{entry_at, named_by}
@@ -39,24 +37,20 @@ byte_at zero (one_byte h p) = h
 byte_at (suc i) (one_byte h p) = byte_at i p
 
 deadline_in_law : (e : SegmentExpiry) (s : List ℕ) (q : ℕ) → Bytes s → deadline_in e s q < 65536
-deadline_in_law None s q b = omega arith
-deadline_in_law (Relative16 tick) s q b = omega (arith, byte_at q b, byte_at (q + 1) b)
+deadline_in_law setting.None s q b = omega arith
+deadline_in_law (setting.Relative16 tick) s q b = omega (arith, byte_at q b, byte_at (q + 1) b)
 
-at_deadline : (e : SegmentExpiry) (s : List ℕ) (at : ℕ) (r : RecordRef) → Bytes s → record_at e s at ≡ Read r → r.expires_at < 65536
+at_deadline : (e : SegmentExpiry) (s : List ℕ) (at : ℕ) (r : RecordRef) → Bytes s → record_at e s at ≡ Some r → r.expires_at < 65536
 at_deadline e s at r b f =
     let p = read_by e s at r f in
     let d : deadline_in e s p.q ≡ r.expires_at = ap (λ (y : RecordRef). y.expires_at) p.is in
     omega (arith, d, deadline_in_law e s p.q b)
 
-says_nothing : {A : Type 0} {r : RecordRef} → Unreadable ≡ Read r → A
-says_nothing {r = r} e = absurd (let z : ◌≡◌ {A = ℕ} 0 1 = ap told e in omega arith)
-  where
-    told : RecordAnswer → ℕ
-    told Unreadable = 0
-    told (Read x) = 1
+says_nothing : {A : Type 0} {r : RecordRef} → None ≡ Some r → A
+says_nothing e = absurd (cc)
 
 module _ (view : SegmentView) (arena starts lengths : List ℕ) (bytes : Bytes arena) where
-  in_deadline : (stored : ℕ) (r : RecordRef) → record_in view arena starts lengths stored ≡ Read r → r.expires_at < 65536
+  in_deadline : (stored : ℕ) (r : RecordRef) → record_in view arena starts lengths stored ≡ Some r → r.expires_at < 65536
   unfolding record_in
   in_deadline zero r f = says_nothing f
   in_deadline (suc location) r f =
@@ -65,13 +59,13 @@ module _ (view : SegmentView) (arena starts lengths : List ℕ) (bytes : Bytes a
       omega (arith, d, at_deadline view.expiry _ _ p.r (bytes_take p.len (bytes_drop p.start (bytes_take view.filled bytes))) p.read)
 
   entry_deadline : (packed : Bool) (buckets : ℕ) (index : List ℕ) (slot : ℕ) (r : RecordRef)
-      → entry_at (record_in view arena starts lengths) packed buckets index slot ≡ Read r → r.expires_at < 65536
+      → entry_at (record_in view arena starts lengths) packed buckets index slot ≡ Some r → r.expires_at < 65536
   unfolding entry_at
   entry_deadline packed buckets index slot r f = go (slot_at packed buckets index slot) f
     where
-      go : (s : IndexSlot) → named_by (record_in view arena starts lengths) s ≡ Read r → r.expires_at < 65536
-      go Empty g = says_nothing g
-      go (Used tag stored) g = in_deadline stored r g
+      go : (s : IndexSlot) → named_by (record_in view arena starts lengths) s ≡ Some r → r.expires_at < 65536
+      go None g = says_nothing g
+      go (Some used) g = in_deadline used.1 r g
 
 -- ---- rows that a sheet shows whole
 
@@ -95,7 +89,7 @@ span_bytes arena span b = go (leb (span.at + span.len) (length arena))
     go true = bytes_take span.len (bytes_drop span.at b)
     go false = no_bytes
 
-module _ (at : ℕ → RecordAnswer) (arena : List ℕ) (bytes : Bytes arena) (small : (slot : ℕ) (r : RecordRef) → at slot ≡ Read r → r.expires_at < 65536) where
+module _ (at : ℕ → Option RecordRef) (arena : List ℕ) (bytes : Bytes arena) (small : (slot : ℕ) (r : RecordRef) → at slot ≡ Some r → r.expires_at < 65536) where
   every_from : (n slot : ℕ) → slot + n ≤ 100000000 → rows_fit (map (row_of arena) (entries_from at slot n)) ≡ true → Every (map (row_of arena) (entries_from at slot n))
   unfolding entries_from
   every_from zero slot h f = every_none
@@ -104,11 +98,11 @@ module _ (at : ℕ → RecordAnswer) (arena : List ℕ) (bytes : Bytes arena) (s
       rest : List Row
       rest = map (row_of arena) (entries_from at (suc slot) n)
 
-      go : (x : RecordAnswer) → at slot ≡ x → rows_fit (map (row_of arena) (entry_then slot x (entries_from at (suc slot) n))) ≡ true
+      go : (x : Option RecordRef) → at slot ≡ x → rows_fit (map (row_of arena) (entry_then slot x (entries_from at (suc slot) n))) ≡ true
           → (rows_fit (map (row_of arena) (entries_from at (suc slot) n)) ≡ true → Every (map (row_of arena) (entries_from at (suc slot) n)))
           → Every (map (row_of arena) (entry_then slot x (entries_from at (suc slot) n)))
-      go Unreadable e g more = more g
-      go (Read r) e g more =
+      go None e g more = more g
+      go (Some r) e g more =
           let row : Row = row_of arena (record { slot = slot; entry = r }) in
           let both = fit_next row (map (row_of arena) (entries_from at (suc slot) n)) g in
           let parts = fits_parts row both.0 in

@@ -1,8 +1,10 @@
 -- The chart room sheet of a set: what is asked, and what a call leaves. Document 02, Change 4. Assumes nothing.
-use Rattle.std.specs.Prelude.{Bool, true, false, cond, List, [], ◌∷◌, map, ℕ, ◌+◌, ◌*◌, leb, length}
+use Rattle.std.specs.Prelude.{Bool, true, false, cond, List, [], ◌∷◌, map, ℕ, ◌+◌, ◌*◌, leb, length, Option, Result, Ok, Err}
 use Rattle.hash_parts.specs.Error.{error_number}
+use Rattle.hash_parts.specs.declared.error.SegmentCacheBuildError.{SegmentCacheBuildError}
+use Rattle.hash_parts.specs.declared.error.SegmentCacheBuildError.TheVariants.{FieldTooLong}
 use Rattle.records.specs.Area.{over, spanned}
-use Rattle.records.specs.declared.record.RecordAnswer.{RecordAnswer}
+use Rattle.records.specs.declared.record.RecordRef.{RecordRef}
 use Rattle.index.specs.declared.find.FoundRecord.{FoundRecord}
 use Rattle.sets.specs.Answers.{Reply, accept, refuse}
 use Rattle.sets.specs.Lookup.{areas_hold_set}
@@ -10,10 +12,6 @@ use Rattle.sets.specs.Questions.{all, decided, first_no}
 use Rattle.sets.specs.Walk.{entries_in, entries_of}
 use Rattle.sets.specs.declared.cache.FrozenSegmentCache.{FrozenSegmentCache}
 use Rattle.charts.specs.Line.{Row, pages_for, sheet}
-use Rattle.charts.specs.declared.sheet.RowCount.{RowCount}
-use Rattle.charts.specs.declared.sheet.RowCount.TheVariants as count
-use Rattle.charts.specs.declared.sheet.SheetAnswer.{SheetAnswer}
-use Rattle.charts.specs.declared.sheet.SheetAnswer.TheVariants as answer
 
 -- ---- the rows of a set: "lapsed records are printed too", so that no tick is given
 
@@ -46,9 +44,9 @@ ask_sheet s index starts lengths arena rows page =
 
 -- ---- how many pages a sheet has
 
-abbrev pub sheet_reply : SheetAnswer → Reply ℕ (Unit {0})
-sheet_reply (answer.Pages n) = accept n
-sheet_reply (answer.Refused e) = refuse (error_number e) tt
+abbrev pub sheet_reply : Result ℕ SegmentCacheBuildError → Reply ℕ (Unit {0})
+sheet_reply (Ok n) = accept n
+sheet_reply (Err e) = refuse (error_number e) tt
 
 unfoldable pub pages_answer : FrozenSegmentCache → List ℕ → List ℕ → List ℕ → List ℕ → Reply ℕ (Unit {0})
 pages_answer s index starts lengths arena =
@@ -61,7 +59,7 @@ pub record Printed : Type 0 where
   pub answer : Reply ℕ (Unit {0})
   pub page : List ℕ
 
-abbrev pub sheet_result : SheetAnswer → List ℕ → Printed
+abbrev pub sheet_result : Result ℕ SegmentCacheBuildError → List ℕ → Printed
 sheet_result r page = record { answer = sheet_reply r; page = page }
 
 -- the sheet stands at the front of the page area; bytes past it stay, and a refusal changes none
@@ -75,9 +73,9 @@ after_sheet s index starts lengths arena page =
 -- ---- for private functions alone
 
 -- the rows of an index, by what reads a location
-abbrev pub rows_in : (ℕ → RecordAnswer) → Bool → ℕ → List ℕ → List ℕ → List Row
+abbrev pub rows_in : (ℕ → Option RecordRef) → Bool → ℕ → List ℕ → List ℕ → List Row
 rows_in read packed buckets index arena = map (row_of arena) (entries_in read packed buckets index)
 
 -- how many rows there are behind others, where each fits
-unfoldable pub row_count : ℕ → List Row → RowCount
-row_count before rows = cond (rows_fit rows) (count.Rows (before + length rows)) count.TooLong
+unfoldable pub row_count : ℕ → List Row → Result ℕ SegmentCacheBuildError
+row_count before rows = cond (rows_fit rows) (Ok (before + length rows)) (Err FieldTooLong)

@@ -33,8 +33,7 @@ pub(crate) fn put_row(
     ensures { (result ≡ number + 1) × (page.new ≡ pasted (65 * number) (line (row slot key.now value.now deadline)) page.old) }
 {
     let at = number * LINE_BYTES;
-    let end = at + LINE_BYTES;
-    put_fields(&mut page[at..end], slot, key, value, deadline);
+    put_fields(&mut page[at..at + LINE_BYTES], slot, key, value, deadline);
     number + 1
 }
 
@@ -64,11 +63,7 @@ fn put_blank(out: &mut [u8])
     requires { length out.old ≡ 65 }
     ensures { out.new ≡ blank }
 {
-    let mut i = 0;
-    while i < DEADLINE_END {
-        out[i] = b' ';
-        i += 1;
-    }
+    out[..DEADLINE_END].fill(b' ');
     out[DEADLINE_END] = b'\n';
 }
 
@@ -77,18 +72,8 @@ pub(crate) fn put_blanks(area: &mut [u8], count: usize)
     requires { 65 * count ≤ length area.old }
     ensures { area.new ≡ over (lines count []) area.old }
 {
-    let mut number = 0;
-    while number < count {
-        number = put_blank_line(area, number);
+    for number in 0..count {
+        let at = number * LINE_BYTES;
+        put_blank(&mut area[at..at + LINE_BYTES]);
     }
-}
-
-fn put_blank_line(area: &mut [u8], number: usize) -> usize
-    requires { 65 * number + 65 ≤ length area.old }
-    ensures { (result ≡ number + 1) × (area.new ≡ pasted (65 * number) blank area.old) }
-{
-    let at = number * LINE_BYTES;
-    let end = at + LINE_BYTES;
-    put_blank(&mut area[at..end]);
-    number + 1
 }

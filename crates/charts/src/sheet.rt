@@ -7,12 +7,12 @@ ghost use Rattle.charts.specs.Sheet.{after_sheet, pages_answer, row_count, row_f
 
 use crate::line::{LINE_BYTES, put_blanks, put_row};
 use hash_parts::error::SegmentCacheBuildError;
-use index::find::slot_at;
-use index::slot::IndexSlot;
-use index::view::{SegmentView, record_at_location};
+use index::find::FinishedIndex;
+use index::view::{SegmentAreas, SegmentView};
 use index::word::BUCKET_SLOTS;
-use records::record::{RecordAnswer, RecordRef, value_slice};
+use records::record::{RecordRef, value_slice};
 use sets::cache::FrozenSegmentCache;
+use sets::lookup::entry_at;
 
 // The lines of a page, and its bytes.
 const PAGE_LINES: usize = 50;
@@ -22,180 +22,109 @@ const PAGE_BYTES: usize = PAGE_LINES * LINE_BYTES;
 // The columns of key and value show so many bytes.
 const FIELD_BYTES: usize = 12;
 
-#[derive(Clone, Copy)]
-pub enum SheetAnswer {
-    // How many pages the sheet has.
-    Pages(usize),
-    Refused(SegmentCacheBuildError),
-}
-
-#[derive(Clone, Copy)]
-pub(crate) enum RowCount {
-    Rows(usize),
-    // A key or value is too long for its columns.
-    TooLong,
-}
-
 // How many pages a set's sheet has. A page takes 3,250 bytes.
 pub fn sheet_pages(
     set: FrozenSegmentCache,
     index: &[u64],
-    starts: &[u64],
-    lengths: &[u64],
-    arena: &[u8],
-) -> SheetAnswer
-    ensures { sheet_reply result ≡ pages_answer set index.now starts.now lengths.now arena.now }
+    areas: SegmentAreas<'_>,
+) -> Result<usize, SegmentCacheBuildError>
+    ensures { sheet_reply result ≡ pages_answer set index.now areas.entry.starts.now areas.entry.lengths.now areas.entry.arena.now }
 {
-    if !set.areas_hold(index.len(), starts.len(), lengths.len(), arena.len()) {
-        return SheetAnswer::Refused(SegmentCacheBuildError::InvalidState);
-    }
-    let packed = set.config.packed_bucket_index;
-    let count = count_rows(
-        set.view(),
-        packed,
-        set.buckets,
-        index,
+    let SegmentAreas {
         starts,
         lengths,
         arena,
-    );
-    let RowCount::Rows(rows) = count else {
-        return SheetAnswer::Refused(SegmentCacheBuildError::FieldTooLong);
-    };
-    SheetAnswer::Pages((rows + (PAGE_LINES - 1)) / PAGE_LINES)
+    } = areas;
+    if !set.areas_hold(index.len(), starts.len(), lengths.len(), arena.len()) {
+        return Err(SegmentCacheBuildError::InvalidState);
+    }
+    let rows = count_rows(set.view(), set.finished_index(index), areas)?;
+    Ok(rows.div_ceil(PAGE_LINES))
 }
 
 // Prints a set's sheet to the front of a page area, and says how many pages it has.
 pub fn print_sheet(
     set: FrozenSegmentCache,
     index: &[u64],
-    starts: &[u64],
-    lengths: &[u64],
-    arena: &[u8],
+    areas: SegmentAreas<'_>,
     page: &mut [u8],
-) -> SheetAnswer
-    ensures { sheet_result result page.new ≡ after_sheet set index.now starts.now lengths.now arena.now page.old }
+) -> Result<usize, SegmentCacheBuildError>
+    ensures { sheet_result result page.new ≡ after_sheet set index.now areas.entry.starts.now areas.entry.lengths.now areas.entry.arena.now page.old }
 {
-    let answer = sheet_pages(set, index, starts, lengths, arena);
-    let SheetAnswer::Pages(pages) = answer else {
-        return answer;
-    };
+    let pages = sheet_pages(set, index, areas)?;
     if page.len() / PAGE_BYTES < pages {
-        return SheetAnswer::Refused(SegmentCacheBuildError::AreaTooShort);
+        return Err(SegmentCacheBuildError::AreaTooShort);
     }
-    let packed = set.config.packed_bucket_index;
-    write_sheet(
-        set.view(),
-        packed,
-        set.buckets,
-        index,
-        starts,
-        lengths,
-        arena,
-        pages,
-        page,
-    );
-    answer
+    write_sheet(set.view(), set.finished_index(index), areas, pages, page);
+    Ok(pages)
 }
 
 // The first pass: counts the rows, and asks of each whether it fits.
 fn count_rows(
     view: SegmentView,
-    packed: bool,
-    buckets: usize,
-    index: &[u64],
-    starts: &[u64],
-    lengths: &[u64],
-    arena: &[u8],
-) -> RowCount
-    requires { 8 * buckets ≤ length index.now }
-    ensures { result ≡ row_count 0 (rows_in (record_in view arena.now starts.now lengths.now) packed buckets index.now arena.now) }
+    index: FinishedIndex<'_>,
+    areas: SegmentAreas<'_>,
+) -> Result<usize, SegmentCacheBuildError>
+    requires { 8 * index.buckets ≤ length index.words.now }
+    ensures { result ≡ row_count 0 (rows_in (record_in view areas.entry.arena.now areas.entry.starts.now areas.entry.lengths.now) index.entry.packed index.entry.buckets index.entry.words.now areas.entry.arena.now) }
 {
-    let slots = buckets * BUCKET_SLOTS;
     let mut rows = 0;
-    let mut slot = 0;
-    while slot < slots {
-        let here = slot;
-        slot += 1;
-        let IndexSlot::Used(_, stored) = slot_at(index, packed, buckets, here) else {
+    for slot in 0..index.buckets * BUCKET_SLOTS {
+        let Some(entry) = entry_at(view, index, slot, areas) else {
             continue;
         };
-        let read = record_at_location(view, arena, starts, lengths, stored);
-        let RecordAnswer::Read(entry) = read else {
-            continue;
-        };
-        if !entry_fits(arena, entry) {
-            return RowCount::TooLong;
+        if !entry_fits(areas.arena, entry) {
+            return Err(SegmentCacheBuildError::FieldTooLong);
         }
         rows += 1;
     }
-    RowCount::Rows(rows)
+    Ok(rows)
 }
 
 // Whether key and value fit their columns.
 fn entry_fits(arena: &[u8], entry: RecordRef) -> bool
     ensures { result ≡ row_fits (row_of arena.now (record { slot = 0; entry = entry })) }
 {
-    let key = entry.key;
-    let value = entry.value;
-    if value_slice(arena, key).len() > FIELD_BYTES {
-        return false;
-    }
-    value_slice(arena, value).len() <= FIELD_BYTES
+    value_slice(arena, entry.key).len() <= FIELD_BYTES
+        && value_slice(arena, entry.value).len() <= FIELD_BYTES
 }
 
 // The second pass: a line to each row, and blank lines to the end of the last page.
 fn write_sheet(
     view: SegmentView,
-    packed: bool,
-    buckets: usize,
-    index: &[u64],
-    starts: &[u64],
-    lengths: &[u64],
-    arena: &[u8],
+    index: FinishedIndex<'_>,
+    areas: SegmentAreas<'_>,
     pages: usize,
     page: &mut [u8],
 )
-    requires buckets_in_bounds { (8 * buckets ≤ length index.now) × (8 * buckets ≤ 100000000) }
-    requires arena_value { rows_fit (rows_in (record_in view arena.now starts.now lengths.now) packed buckets index.now arena.now) ≡ true }
-    requires pages_value { (pages ≡ pages_for (length (rows_in (record_in view arena.now starts.now lengths.now) packed buckets index.now arena.now))) × (3250 * pages ≤ length page.old) }
-    ensures { page.new ≡ over (sheet (rows_in (record_in view arena.now starts.now lengths.now) packed buckets index.now arena.now)) page.old }
+    requires buckets_in_bounds { (8 * index.buckets ≤ length index.words.now) × (8 * index.buckets ≤ 100000000) }
+    requires arena_value { rows_fit (rows_in (record_in view areas.arena.now areas.starts.now areas.lengths.now) index.packed index.buckets index.words.now areas.arena.now) ≡ true }
+    requires pages_value { (pages ≡ pages_for (length (rows_in (record_in view areas.arena.now areas.starts.now areas.lengths.now) index.packed index.buckets index.words.now areas.arena.now))) × (3250 * pages ≤ length page.old) }
+    ensures { page.new ≡ over (sheet (rows_in (record_in view areas.entry.arena.now areas.entry.starts.now areas.entry.lengths.now) index.entry.packed index.entry.buckets index.entry.words.now areas.entry.arena.now)) page.old }
 {
-    let rows = write_rows(view, packed, buckets, index, starts, lengths, arena, page);
+    let rows = write_rows(view, index, areas, page);
     let at = rows * LINE_BYTES;
     put_blanks(&mut page[at..], pages * PAGE_LINES - rows);
 }
 
 fn write_rows(
     view: SegmentView,
-    packed: bool,
-    buckets: usize,
-    index: &[u64],
-    starts: &[u64],
-    lengths: &[u64],
-    arena: &[u8],
+    index: FinishedIndex<'_>,
+    areas: SegmentAreas<'_>,
     page: &mut [u8],
 ) -> usize
-    requires buckets_in_bounds { (8 * buckets ≤ length index.now) × (8 * buckets ≤ 100000000) }
-    requires arena_value { rows_fit (rows_in (record_in view arena.now starts.now lengths.now) packed buckets index.now arena.now) ≡ true }
-    requires arena_in_bounds { 65 * length (rows_in (record_in view arena.now starts.now lengths.now) packed buckets index.now arena.now) ≤ length page.old }
-    ensures value { (result ≡ length (rows_in (record_in view arena.now starts.now lengths.now) packed buckets index.now arena.now)) × (65 * result ≡ length (lines (length (rows_in (record_in view arena.now starts.now lengths.now) packed buckets index.now arena.now)) (rows_in (record_in view arena.now starts.now lengths.now) packed buckets index.now arena.now))) }
-    ensures page_after { page.new ≡ over (lines (length (rows_in (record_in view arena.now starts.now lengths.now) packed buckets index.now arena.now)) (rows_in (record_in view arena.now starts.now lengths.now) packed buckets index.now arena.now)) page.old }
+    requires buckets_in_bounds { (8 * index.buckets ≤ length index.words.now) × (8 * index.buckets ≤ 100000000) }
+    requires arena_value { rows_fit (rows_in (record_in view areas.arena.now areas.starts.now areas.lengths.now) index.packed index.buckets index.words.now areas.arena.now) ≡ true }
+    requires arena_in_bounds { 65 * length (rows_in (record_in view areas.arena.now areas.starts.now areas.lengths.now) index.packed index.buckets index.words.now areas.arena.now) ≤ length page.old }
+    ensures value { let rows = rows_in (record_in view areas.entry.arena.now areas.entry.starts.now areas.entry.lengths.now) index.entry.packed index.entry.buckets index.entry.words.now areas.entry.arena.now in (result ≡ length rows) × (65 * result ≡ length (lines (length rows) rows)) }
+    ensures page_after { let rows = rows_in (record_in view areas.entry.arena.now areas.entry.starts.now areas.entry.lengths.now) index.entry.packed index.entry.buckets index.entry.words.now areas.entry.arena.now in page.new ≡ over (lines (length rows) rows) page.old }
 {
-    let slots = buckets * BUCKET_SLOTS;
     let mut rows = 0;
-    let mut slot = 0;
-    while slot < slots {
-        let here = slot;
-        slot += 1;
-        let IndexSlot::Used(_, stored) = slot_at(index, packed, buckets, here) else {
+    for slot in 0..index.buckets * BUCKET_SLOTS {
+        let Some(entry) = entry_at(view, index, slot, areas) else {
             continue;
         };
-        let read = record_at_location(view, arena, starts, lengths, stored);
-        let RecordAnswer::Read(entry) = read else {
-            continue;
-        };
-        rows = put_entry(page, rows, here, entry, arena);
+        rows = put_entry(page, rows, slot, entry, areas.arena);
     }
     rows
 }
@@ -204,14 +133,12 @@ fn put_entry(page: &mut [u8], number: usize, slot: usize, entry: RecordRef, aren
     requires { (65 * number + 65 ≤ length page.old) × (slot < 100000000) × (row_fits (row_of arena.now (record { slot = slot; entry = entry })) ≡ true) }
     ensures { (result ≡ number + 1) × (page.new ≡ pasted (65 * number) (line (row_of arena.now (record { slot = slot; entry = entry }))) page.old) }
 {
-    let key = entry.key;
-    let value = entry.value;
     put_row(
         page,
         number,
         slot,
-        value_slice(arena, key),
-        value_slice(arena, value),
+        value_slice(arena, entry.key),
+        value_slice(arena, entry.value),
         entry.expires_at,
     )
 }

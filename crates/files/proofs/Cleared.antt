@@ -1,7 +1,7 @@
 -- Words whose marks are cleared show the same slots, where each that is used names a record. Assumes nothing.
 use mathlib.Core.Path.{◌≡◌, refl, sym, ap, ap₂, ◌∙◌}
 use mathlib.Core.Bool.{Bool, true, false, cond}
-use mathlib.Core.Option.{Option}
+use Rattle.std.specs.Prelude.{Option, Some, None}
 use mathlib.Core.List.{List, [], ◌∷◌, map, Forall₂}
 use Prim.Native.Nat.{ℕ, ◌*◌}
 use native.Mathlib.Omega.{arith}
@@ -12,8 +12,7 @@ use borrow.Author.Tests.{eqb-true, ne_eqb}
 use Rattle.records.specs.Record.{Stored}
 use Rattle.index.specs.Slot.{word_slot}
 use Rattle.index.specs.Word.{word_tag, word_stored, unmarked}
-use Rattle.index.specs.declared.slot.IndexSlot.{IndexSlot}
-use Rattle.index.specs.declared.slot.IndexSlot.TheVariants.{Empty, Used}
+use Rattle.index.specs.Slot.{IndexSlot}
 use Rattle.index.proofs.Entries.{Cell, cell_used}
 use Rattle.index.proofs.Flat.{index_slots}
 use Rattle.index.proofs.Words.{unmarked_tag, unmarked_stored}
@@ -21,7 +20,7 @@ use Rattle.files.specs.Contents.{unmarked_index}
 use Rattle.files.proofs.Unmarked.{packed_unmarked}
 
 module _ {E : Type 0} (stored : E → Stored) (H : List ℕ → ℕ) (Holds : ℕ → E → Type 0) (located : (e : E) → Holds 0 e → ⊥) where
-  used_cleared : (w : ℕ) (c : Option E) {t l : ℕ} → l ≡ word_stored w → Cell stored H false Holds (Used t l) c → word_slot (unmarked w) ≡ Used (word_tag w) (word_stored w)
+  used_cleared : (w : ℕ) (c : Option E) {t l : ℕ} → l ≡ word_stored w → Cell stored H false Holds (Some (t, l)) c → word_slot (unmarked w) ≡ Some (word_tag w, word_stored w)
   unfolding word_slot
   used_cleared w c p (cell_used {e = e} q y) =
       let n : word_stored w ≡ 0 → ⊥ = λ (z : word_stored w ≡ 0). located e (rw (p ∙ z) at y) in
@@ -32,7 +31,7 @@ module _ {E : Type 0} (stored : E → Stored) (H : List ℕ → ℕ) (Holds : �
   unfolding word_slot
   word_cleared w c x = go (eqb w 0) refl x
     where
-      go : (b : Bool) → eqb w 0 ≡ b → Cell stored H false Holds (cond b Empty (Used (word_tag w) (word_stored w))) c → word_slot (unmarked w) ≡ cond b Empty (Used (word_tag w) (word_stored w))
+      go : (b : Bool) → eqb w 0 ≡ b → Cell stored H false Holds (cond b None (Some (word_tag w, word_stored w))) c → word_slot (unmarked w) ≡ cond b None (Some (word_tag w, word_stored w))
       go true e y = rw (eqb-true w 0 e)
       go false e y = used_cleared w c refl y
 

@@ -10,7 +10,7 @@ use Rattle.hash_parts.specs.ZeroBytes.{bytes_of}
 use Rattle.index.specs.Packed.{packed_slots_of, packed_bucket, word_bytes}
 use Rattle.index.proofs.Contents.{packed_buckets}
 use Rattle.index.specs.Slot.{word_slot}
-use Rattle.index.specs.declared.slot.IndexSlot.{IndexSlot}
+use Rattle.index.specs.Slot.{IndexSlot}
 use Rattle.index.proofs.Flat.{index_slots}
 
 module _ (buckets : ℕ) (ws rest : List ℕ) (long : length ws ≡ 8 * buckets) where

@@ -5,7 +5,6 @@ use mathlib.Core.List.{List, [], ◌∷◌, ◌++◌, map}
 use Prim.Native.Nat.{ℕ, zero, suc, ◌+◌, ◌*◌, ◌/◌, ◌%◌, ◌≤◌, ◌<◌}
 use native.Mathlib.Omega.{arith}
 use borrow.Author.Tests.{eqb-true, leb-true}
-use borrow.Rule.Slice.PartMut.{put_mid}
 use lib.Dec.{eqb, leb}
 use lib.ListN.{length, take, drop, length-map}
 use lib.Seq.{take_at, drop_at, drop-drop}
@@ -33,10 +32,6 @@ use Rattle.files.proofs.Passes.{words_of_length}
 use Rattle.files.proofs.Told.{ContentTold, content_told}
 
 -- ---- words
-
--- words that were read into a part of an area
-pub words_home : (area home : List ℕ) (at n : ℕ) (s : List ℕ) → length s ≡ n → home ≡ s → put_mid at n area home ≡ pasted at s area
-words_home area home at n s e h = ap₂ (λ (l : List ℕ) (k : ℕ). take at area ++ (l ++ drop k (drop at area))) h (sym e)
 
 pub words_split : (a b : ℕ) (l : List ℕ) → words_of (a + b) l ≡ words_of a l ++ words_of b (drop (8 * a) l)
 unfolding words_of

@@ -1,7 +1,7 @@
 -- Words that are written and read again are their lower 64 bits, and slots and filter are read from these alone. Assumes nothing.
 use mathlib.Core.Path.{◌≡◌, refl, sym, ap, ap₂, ◌∙◌}
 use mathlib.Core.Bool.{Bool, true, false, cond}
-use mathlib.Core.Option.{Option}
+use Rattle.std.specs.Prelude.{Option}
 use mathlib.Core.List.{List, [], ◌∷◌, ◌++◌, map, flatten, Forall₂}
 use Prim.Native.Nat.{ℕ, zero, suc, ◌+◌, ◌*◌, ◌/◌, ◌%◌, ◌^◌, ◌≤◌, ◌<◌}
 use native.Mathlib.Nat.{mod-eq_of_lt}
@@ -20,7 +20,7 @@ use Rattle.index.specs.Filter.{bit_past, first_bit, second_bit, third_bit, filte
 use Rattle.index.specs.Packed.{packed_bucket, packed_slots_of, unmarked_byte, word_bytes, words_of}
 use Rattle.index.proofs.Contents.{packed_buckets}
 use Rattle.index.specs.Word.{unmarked}
-use Rattle.index.specs.declared.slot.IndexSlot.{IndexSlot}
+use Rattle.index.specs.Slot.{IndexSlot}
 use Rattle.hash_parts.proofs.Bytes.{bytes_of_law, bytes_number, length_bytes, number_bytes}
 use Rattle.index.proofs.Entries.{Cell}
 use Rattle.index.proofs.Filters.{filter_word_below, has_none, has_is}

@@ -1,33 +1,32 @@
 -- Laws of the pieces that a file is written of: a block by its header and its content, words as bytes, the index without its marks. Assumes nothing.
 use mathlib.Core.Path.{◌≡◌, refl, sym, ap, ap₂, ◌∙◌}
-use mathlib.Core.Bool.{true, false, cond}
+use mathlib.Core.Bool.{Bool, true, false, cond}
 use mathlib.Core.List.{List, [], ◌∷◌, ◌++◌, map, flat_map, append_assoc}
-use Prim.Native.Nat.{ℕ, suc, ◌+◌, ◌≤◌, ◌<◌}
+use Prim.Native.Nat.{ℕ, zero, suc, ◌+◌, ◌≤◌, ◌<◌}
 use native.Mathlib.Numerals.{add-one}
 use native.Mathlib.Omega.{arith}
 use lib.ListN.{length, take, drop, get_or, length-append}
 use lib.Seq.{drop-cons}
+use Rattle.std.proofs.lemmas.List.{drop_all, get_or-take}
+use Rattle.std.specs.Int.{from_bool}
 use Rattle.hash_parts.specs.ZeroBytes.{bytes_of}
 use Rattle.hash_parts.proofs.Bytes.{length_bytes}
-use Rattle.records.specs.Area.{part, pasted}
+use Rattle.records.specs.Area.{part}
 use Rattle.index.specs.Packed.{word_bytes}
 use Rattle.index.specs.Walk.{up_from}
+use Rattle.sets.specs.Rebuild.{sum_of}
 use Rattle.sets.specs.declared.cache.FrozenSegmentCache.{FrozenSegmentCache}
 use Rattle.files.specs.Blocks.{block}
-use Rattle.files.specs.Contents.{bytes_for, unmarked_index, widths}
+use Rattle.files.specs.Contents.{bytes_for, sum, unmarked_index, widths}
 use Rattle.files.specs.Copies.{masked_by}
 use Rattle.files.specs.Write.{count_bytes, count_numbers, expiry_flag, segment_bytes, tick_nanos, tick_secs}
-use Rattle.files.proofs.Copying.{paste_next}
 use Rattle.files.proofs.Low.{bytes_low}
 use Rattle.files.proofs.Masks.{control_masked, whole_masked, word_masked}
 
 -- a header, and the content behind it
-pub block_pasted : (at end size kind : ℕ) (content area : List ℕ) → size ≡ length content → end ≡ at + 6 → at ≤ length area
-    → pasted end content (pasted at (bytes_of 4 size ++ bytes_of 2 kind) area) ≡ pasted at (block kind content) area
-block_pasted at end size kind content area e n h =
-    let header : length (bytes_of 4 size ++ bytes_of 2 kind) ≡ 6 = omega (arith, length-append (bytes_of 4 size) (bytes_of 2 kind), length_bytes 4 size, length_bytes 2 kind) in
-    paste_next at end (bytes_of 4 size ++ bytes_of 2 kind) content area (omega arith) h
-    ∙ ap (λ (s : List ℕ). pasted at s area) (append_assoc (bytes_of 4 size) (bytes_of 2 kind) content ∙ ap (λ (n : ℕ). bytes_of 4 n ++ (bytes_of 2 kind ++ content)) e)
+pub block_made : (body : List ℕ) (kind size : ℕ) (header content : List ℕ) → header ≡ bytes_of 4 size ++ bytes_of 2 kind → content ≡ body → size ≡ length body
+    → header ++ content ≡ block kind body
+block_made body kind size header content e f n = rw (e, f, n) (append_assoc (bytes_of 4 (length body)) (bytes_of 2 kind) body)
 
 pub block_length : (kind : ℕ) (content : List ℕ) → length (block kind content) ≡ 6 + length content
 block_length kind content =
@@ -72,10 +71,25 @@ pub one_number : (widths numbers : List ℕ) (i : ℕ) → i < length widths →
 unfolding bytes_for
 one_number widths numbers i h g = rw (drop-cons widths i 0 h, drop-cons numbers i 0 g, add-one i)
 
+pub numbers_long : (widths numbers : List ℕ) → length numbers ≡ length widths → length (bytes_for widths numbers) ≡ sum widths
+unfolding bytes_for
+numbers_long [] numbers h = refl
+numbers_long (w ∷ ws) [] h = absurd (omega arith)
+numbers_long (w ∷ ws) (n ∷ numbers) h = omega (arith, length-append (bytes_of w n) (bytes_for ws numbers), length_bytes w n, numbers_long ws numbers (omega arith))
+
+pub no_numbers : (i : ℕ) (numbers : List ℕ) → 10 ≤ i → bytes_for (drop i widths) numbers ≡ []
+unfolding bytes_for
+no_numbers i numbers h = rw (drop_all i widths h)
+
 -- kind 1, whatever its numbers are
 pub counts_long : (a b c d e f g h i j : ℕ) → length (bytes_for widths (a ∷ b ∷ c ∷ d ∷ e ∷ f ∷ g ∷ h ∷ i ∷ j ∷ [])) ≡ 44
 unfolding bytes_for bytes_of
 counts_long a b c d e f g h i j = refl
+
+-- a flag
+pub flag_is : (b : Bool) → from_bool b ≡ cond b 1 0
+flag_is true = refl
+flag_is false = refl
 
 -- of a set, whose flags and tick were worked out
 pub counts_same : (s : FrozenSegmentCache) (flag secs nanos packed : ℕ) → flag ≡ expiry_flag s.config.expiry → secs ≡ tick_secs s.config.expiry
@@ -103,3 +117,20 @@ module _ (starts lengths arena : List ℕ) where
   pub from_last : (i k : ℕ) → k ≡ 0 → segments_from i k starts lengths arena ≡ []
   unfolding segments_from up_from flat_map
   from_last i k e = rw e
+
+  -- of starts and lengths by their front
+  module _ (count : ℕ) where
+    pub from_front : (i k : ℕ) → i + k ≤ count → segments_from i k (take count starts) (take count lengths) arena ≡ segments_from i k starts lengths arena
+    unfolding segments_from up_from flat_map
+    from_front i zero h = refl
+    from_front i (suc k) h =
+        let s : get_or (take count starts) i 0 ≡ get_or starts i 0 = get_or-take count starts i 0 (omega arith) in
+        let t : get_or (take count lengths) i 0 ≡ get_or lengths i 0 = get_or-take count lengths i 0 (omega arith) in
+        let rest : segments_from (suc i) k (take count starts) (take count lengths) arena ≡ segments_from (suc i) k starts lengths arena = from_front (suc i) k (omega arith) in
+        ap₂ (λ (x y : ℕ). part x y arena ++ segments_from (suc i) k (take count starts) (take count lengths) arena) s t
+        ∙ ap (λ (r : List ℕ). part (get_or starts i 0) (get_or lengths i 0) arena ++ r) rest
+
+    pub sum_front : (n : ℕ) → n ≤ count → sum_of n (take count lengths) ≡ sum_of n lengths
+    unfolding sum_of
+    sum_front zero h = refl
+    sum_front (suc n) h = ap₂ ◌+◌ (sum_front n (omega arith)) (get_or-take count lengths n 0 (omega arith))

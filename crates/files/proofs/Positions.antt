@@ -1,21 +1,17 @@
--- Laws of blocks by the position that they begin at: whether they are whole, where the next begins, what they hold. Assumes nothing.
-use mathlib.Core.Path.{◌≡◌, refl, sym, ap, ◌∙◌}
+-- Laws of blocks: whether they are whole, what stands behind them, what they hold. Assumes nothing.
+use mathlib.Core.Path.{◌≡◌, refl, sym, ◌∙◌}
 use mathlib.Core.Bool.{Bool, true, false, cond}
 use mathlib.Core.List.{List, [], ◌∷◌}
-use Prim.Native.Nat.{ℕ, zero, suc, ◌+◌, ◌-◌, ◌≤◌, ◌<◌}
-use native.Mathlib.Nat.{add_assoc}
+use Prim.Native.Nat.{ℕ, zero, suc, ◌+◌, ◌≤◌, ◌<◌}
 use native.Mathlib.Decide.{dec_le}
 use native.Mathlib.Omega.{arith}
-use borrow.Author.Tests.{le-leb, lt-leb, leb-true, leb-false}
+use borrow.Author.Tests.{eqb-true, le-leb, lt-leb, leb-true, leb-false, ne_eqb}
 use lib.Dec.{eqb, leb}
-use lib.ListN.{length, take, drop, length-drop, drop_of_length-le}
-use lib.Seq.{drop-drop, take_all, take-nil}
-use Rattle.hash_parts.specs.ZeroBytes.{number_of}
-use Rattle.records.specs.Area.{part}
+use lib.ListN.{length, drop_of_length-le}
 use Rattle.sets.proofs.Counts.{both}
 use Rattle.files.specs.Blocks.{behind, frames_well, is_whole, kind_in, kinds_from, size_in}
 
--- ---- one block: g is the file from the block on
+-- ---- g is the file from the block on
 
 module _ (g : List ℕ) where
   pub whole_short : length g < 6 → is_whole g ≡ false
@@ -70,10 +66,10 @@ unfolding frames_well
 frames_none zero = refl
 frames_none (suc n) = refl
 
-pub frames_last : (g : List ℕ) → frames_well 0 g ≡ leb (length g) 0
+pub frames_last : (g : List ℕ) → frames_well 0 g ≡ eqb (length g) 0
 unfolding frames_well
 frames_last [] = refl
-frames_last (b ∷ g) = sym (lt-leb (suc (length g)) 0 (omega arith))
+frames_last (b ∷ g) = sym (ne_eqb (suc (length g)) 0 (λ e. omega arith))
 
 pub kinds_none : (kind n : ℕ) → kinds_from kind (suc n) [] ≡ false
 unfolding kinds_from
@@ -83,53 +79,14 @@ pub kinds_last : (kind : ℕ) (g : List ℕ) → kinds_from kind 0 g ≡ true
 unfolding kinds_from
 kinds_last kind g = refl
 
--- ---- blocks of a file
+-- ---- whether anything is left
 
-module _ (f : List ℕ) (at : ℕ) where
-  pub from_end : length f ≤ at → drop at f ≡ []
-  from_end h = drop_of_length-le f h
+pub none_left : (g : List ℕ) → eqb (length g) 0 ≡ true → g ≡ []
+none_left [] e = refl
+none_left (b ∷ g) e = absurd (let z = eqb-true (suc (length g)) 0 e in omega arith)
 
-  pub length_from : length (drop at f) ≡ length f - at
-  length_from = length-drop at f
+pub some_left : (g : List ℕ) → eqb (length g) 0 ≡ false → 0 < length g
+some_left [] e = cc
+some_left (b ∷ g) e = omega arith
 
-  -- whether anything is left from the position on
-  pub rest_none : leb (length f) at ≡ leb (length (drop at f)) 0
-  rest_none = go (dec_le (length f) at)
-    where
-      go : Dec (length f ≤ at) → leb (length f) at ≡ leb (length (drop at f)) 0
-      go (yes h) = rw (le-leb (length f) at h, le-leb (length (drop at f)) 0 (omega (arith, length_from)))
-      go (no h) = rw (lt-leb (length f) at (omega arith), lt-leb (length (drop at f)) 0 (omega (arith, length_from)))
-
-  -- the kind as the code reads it
-  pub kind_at : number_of (part (at + 4) 2 f) ≡ kind_in (drop at f)
-  kind_at = ap (λ (l : List ℕ). number_of (take 2 l)) (sym (drop-drop 4 at f))
-
-  -- no content where there is no whole header
-  pub content_none : length f - at < 6 → part 6 (size_in (drop at f)) (drop at f) ≡ []
-  content_none h =
-      let short : length (drop at f) ≤ 6 = omega (arith, length_from) in
-      rw (drop_of_length-le (drop at f) short) (take-nil (size_in (drop at f)))
-
-  -- where the block behind it begins
-  pub behind_at : (next : ℕ) → next ≡ at + 6 + size_in (drop at f) → drop next f ≡ behind (drop at f)
-  behind_at next e = rw (e, add_assoc at 6 (size_in (drop at f))) (sym (drop-drop (6 + size_in (drop at f)) at f))
-
-  -- what it holds, up to where the next begins
-  module _ (next : ℕ) (header : at + 6 ≤ length f) (inside : next ≤ length f) (e : drop next f ≡ behind (drop at f)) where
-    left : length f - next ≡ length f - at - (6 + size_in (drop at f))
-    left = sym (length-drop next f) ∙ ap length e ∙ length-drop (6 + size_in (drop at f)) (drop at f) ∙ ap (λ (n : ℕ). n - (6 + size_in (drop at f))) length_from
-
-    pub content_room : at + 6 ≤ next
-    content_room = omega (arith, left)
-
-    pub content_is : take (next - (at + 6)) (drop (at + 6) f) ≡ part 6 (size_in (drop at f)) (drop at f)
-    content_is = go (dec_le (6 + size_in (drop at f)) (length f - at)) ∙ ap (take (size_in (drop at f))) (sym (drop-drop 6 at f))
-      where
-        rest : length (drop (at + 6) f) ≡ length f - (at + 6)
-        rest = length-drop (at + 6) f
-
-        go : Dec (6 + size_in (drop at f) ≤ length f - at) → take (next - (at + 6)) (drop (at + 6) f) ≡ take (size_in (drop at f)) (drop (at + 6) f)
-        go (yes h) = let n : next - (at + 6) ≡ size_in (drop at f) = omega (arith, left) in rw n
-        go (no h) =
-            take_all (next - (at + 6)) (drop (at + 6) f) (omega (arith, left, rest))
-            ∙ sym (take_all (size_in (drop at f)) (drop (at + 6) f) (omega (arith, left, rest)))
+-- ---- the content, as much of it as there is

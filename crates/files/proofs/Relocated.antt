@@ -2,17 +2,16 @@
 use mathlib.Core.Path.{◌≡◌, refl, sym, ap, ap₂, ◌∙◌}
 use mathlib.Core.Bool.{true, false}
 use mathlib.Core.List.{List}
-use mathlib.Core.Option.{none, some}
 use Prim.Native.Nat.{ℕ, zero, suc, ◌+◌, ◌-◌, ◌/◌, ◌%◌, ◌^◌, ◌≤◌, ◌<◌}
 use native.Mathlib.Omega.{arith}
 use native.Mathlib.Decide.{dec_lt}
 use lib.ListN.{length, take, get_or, length-take}
 use borrow.Author.Tests.{le-leb, lt-ltb, le-ltb}
+use Rattle.std.specs.Prelude.{Option, Some, None}
 use Rattle.hash_parts.specs.declared.setting.SegmentExpiry.{SegmentExpiry}
 use Rattle.records.specs.Area.{part}
 use Rattle.records.specs.Record.{record_at, contents, stored_at}
-use Rattle.records.specs.declared.record.RecordAnswer.{RecordAnswer}
-use Rattle.records.specs.declared.record.RecordAnswer.TheVariants.{Read, Unreadable}
+use Rattle.records.specs.declared.record.RecordRef.{RecordRef}
 use Rattle.records.proofs.Stored.{record_inside}
 use Rattle.records.specs.declared.record.Span.{Span}
 use Rattle.index.specs.Word.{segment_part}
@@ -26,9 +25,9 @@ use Rattle.index.proofs.Views.{part_front, part_part}
 abbrev pub span_moved : ℕ → ℕ → Span → Span
 span_moved from to span = record { at = to + (span.at - from); len = span.len }
 
-abbrev pub relocated : ℕ → ℕ → RecordAnswer → RecordAnswer
-relocated from to (Read r) =
-    Read record {
+abbrev pub relocated : ℕ → ℕ → Option RecordRef → Option RecordRef
+relocated from to (Some r) =
+    Some record {
       location = r.location;
       key_offset = r.key_offset;
       key = span_moved from to r.key;
@@ -36,15 +35,15 @@ relocated from to (Read r) =
       end = r.end;
       expires_at = r.expires_at;
     }
-relocated from to Unreadable = Unreadable
+relocated from to None = None
 
 -- the segment of a stored location, which is the location plus 1
 abbrev pub segment_at : ℕ → ℕ
 segment_at stored = segment_part (stored - 1)
 
-moved_again : (location from to : ℕ) (a : RecordAnswer) → answer_moved location to a ≡ relocated from to (answer_moved location from a)
-moved_again location from to Unreadable = refl
-moved_again location from to (Read r) =
+moved_again : (location from to : ℕ) (a : Option RecordRef) → answer_moved location to a ≡ relocated from to (answer_moved location from a)
+moved_again location from to None = refl
+moved_again location from to (Some r) =
     let k : from + r.key.at - from ≡ r.key.at = omega arith in
     let v : from + r.value.at - from ≡ r.value.at = omega arith in
     rw (k, v)
@@ -68,13 +67,13 @@ module _ (view : SegmentView) (arena starts lengths : List ℕ) (location : ℕ)
       let short : length bytes ≤ view.filled = rw length-take (omega arith) in
       sym (part_part start len at n bytes h ∙ part_front (start + at) n view.filled arena (omega arith))
 
-  moved_contents : start + len ≤ length bytes → (a : RecordAnswer) → record_at view.expiry (part start len bytes) (location % 2 ^ 32) ≡ a
+  moved_contents : start + len ≤ length bytes → (a : Option RecordRef) → record_at view.expiry (part start len bytes) (location % 2 ^ 32) ≡ a
       → contents arena (answer_moved location start a) ≡ contents (part start len bytes) a
-  moved_contents i Unreadable f = refl
-  moved_contents i (Read r) f =
+  moved_contents i None f = refl
+  moved_contents i (Some r) f =
       let b = record_inside view.expiry (part start len bytes) (location % 2 ^ 32) r f in
       let t : length (part start len bytes) ≤ len = rw length-take (omega arith) in
-      ap₂ (λ (k w : List ℕ). some record { key = k; value = w; deadline = r.expires_at })
+      ap₂ (λ (k w : List ℕ). Some record { key = k; value = w; deadline = r.expires_at })
       (home i r.key.at r.key.len (omega arith))
       (home i r.value.at r.value.len (omega arith))
 
@@ -83,7 +82,7 @@ module _ (view : SegmentView) (arena starts lengths : List ℕ) (location : ℕ)
   unfolding stored_in record_in in_segment stored_at
   stored_by_segment s i = rw (s, le-leb _ _ i) (moved_contents i (record_at view.expiry (part start len bytes) (location % 2 ^ 32)) refl)
 
-  stored_outside : is_segment view starts lengths g ≡ false → stored_in view arena starts lengths (suc location) ≡ none
+  stored_outside : is_segment view starts lengths g ≡ false → stored_in view arena starts lengths (suc location) ≡ None
   unfolding stored_in record_in
   stored_outside s = rw s
 
@@ -92,7 +91,7 @@ module _ (view : SegmentView) (arena starts lengths : List ℕ) (location : ℕ)
   unfolding record_in in_segment
   read_by_segment s i = rw (s, le-leb _ _ i)
 
-  read_outside : is_segment view starts lengths g ≡ false → record_in view arena starts lengths (suc location) ≡ Unreadable
+  read_outside : is_segment view starts lengths g ≡ false → record_in view arena starts lengths (suc location) ≡ None
   unfolding record_in
   read_outside s = rw s
 

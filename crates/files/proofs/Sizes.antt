@@ -44,15 +44,16 @@ module _ (s : FrozenSegmentCache) (index filter arena file : ℕ) (starts length
   unfolding ask_write
   asked_is = rw held
 
-  pub asked_refused : (n : ℕ) → size_answer s starts lengths ≡ refuse n tt → first_no (ask_write s index filter starts lengths arena file) ≡ 11
+  pub asked_refused : (n : ℕ) → size_answer s starts lengths ≡ refuse n tt → (first_no (ask_write s index filter starts lengths arena file) ≡ 11) × (n ≡ 11)
   asked_refused n e =
-      asked_is ∙ go (segments_inside s.segments s.filled starts lengths) (leb (sum_of s.segments lengths) most_arena_bytes) (sym answer_is ∙ e)
+      let told = go (segments_inside s.segments s.filled starts lengths) (leb (sum_of s.segments lengths) most_arena_bytes) (sym answer_is ∙ e) in
+      (asked_is ∙ told.0, told.1)
     where
       go : (i t : Bool) → ◌≡◌ {A = Reply ℕ (Unit {0})} (decided (cond i (cond t 0 11) 11) (accept (file_size s lengths)) (λ m. refuse m tt)) (refuse n tt)
-          → ◌≡◌ {A = ℕ} (cond i (cond t (cond (leb (file_size s lengths) file) 0 10) 11) 11) 11
+          → (◌≡◌ {A = ℕ} (cond i (cond t (cond (leb (file_size s lengths) file) 0 10) 11) 11) 11) × (n ≡ 11)
       go true true q = absurd (let z : ◌≡◌ {A = ℕ} 0 1 = cc in omega arith)
-      go true false q = refl
-      go false t q = refl
+      go true false q = (refl, cc)
+      go false t q = (refl, cc)
 
   pub asked_size : (n : ℕ) → size_answer s starts lengths ≡ accept n
       → (n ≡ file_size s lengths) × (first_no (ask_write s index filter starts lengths arena file) ≡ cond (leb n file) 0 10)

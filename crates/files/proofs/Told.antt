@@ -1,21 +1,19 @@
 -- What the numbers of a file tell, and what 15 asks in the order in which it is asked. Assumes nothing.
-use mathlib.Core.Path.{◌≡◌, refl, sym, ap, ap₂, ◌∙◌}
-use mathlib.Core.Bool.{Bool, true, false, cond}
+use mathlib.Core.Path.{◌≡◌, refl, sym, ◌∙◌}
+use mathlib.Core.Bool.{Bool, true, false}
 use mathlib.Core.List.{List, [], ◌∷◌}
-use Prim.Native.Nat.{ℕ, ◌+◌, ◌*◌, ◌/◌, ◌%◌, ◌≤◌, ◌<◌}
+use Prim.Native.Nat.{ℕ, ◌*◌, ◌/◌, ◌%◌, ◌≤◌, ◌<◌}
 use native.Mathlib.Omega.{arith}
 use lib.Dec.{eqb, leb}
 use lib.ListN.{length}
-use borrow.Author.Tests.{eqb-true, leb-true, eq-eqb, ne_eqb, le-leb, lt-leb}
+use borrow.Author.Tests.{eqb-true, leb-true, eq-eqb, le-leb, lt-leb}
 use Rattle.hash_parts.specs.declared.setting.SegmentCacheConfig.{SegmentCacheConfig}
-use Rattle.hash_parts.specs.declared.setting.SegmentExpiry.{SegmentExpiry}
-use Rattle.hash_parts.specs.declared.setting.SegmentExpiry.TheVariants.{None, Relative16}
 use Rattle.sets.specs.Lookup.{set_fits}
 use Rattle.sets.specs.Questions.{all, bytes_fit, counts_fit, setting_fits}
 use Rattle.sets.specs.declared.cache.FrozenSegmentCache.{FrozenSegmentCache}
 use Rattle.sets.proofs.Counts.{both}
 use Rattle.files.specs.Blocks.{content_of}
-use Rattle.files.specs.Contents.{buckets_of, content_fits, expiry_in, field, file_set, filter_words_of, records_in, segment_count_fits, segment_lengths, setting_in, tick_fits}
+use Rattle.files.specs.Contents.{buckets_of, content_fits, field, file_set, filter_words_of, records_in, segment_count_fits, segment_lengths, setting_in, tick_fits}
 use Rattle.files.specs.Plan.{blocks_fit, flags_fit}
 use Rattle.files.proofs.Passes.{words_of_length}
 
@@ -29,26 +27,6 @@ bool_same {b} {c} there back = go b c there back
 
 module _ (f : List ℕ) where
   -- ---- kind 1
-
-  pub tick_on : (n : ℕ) → n ≡ field 0 f → (n ≡ 0 → ⊥) → true ≡ tick_fits f
-  tick_on n e some = sym (ap (λ (b : Bool). cond b (eqb (field 1 f + field 2 f) 0) true) (ne_eqb (field 0 f) 0 (λ z. some (e ∙ z))))
-
-  pub tick_off : (n : ℕ) → n ≡ field 0 f → n ≡ 0 → tick_fits f ≡ eqb (field 1 f + field 2 f) 0
-  tick_off n e none = ap (λ (b : Bool). cond b (eqb (field 1 f + field 2 f) 0) true) (eq-eqb (field 0 f) 0 (sym e ∙ none))
-
-  pub expiry_off : (n : ℕ) → n ≡ field 0 f → (n ≡ 1 → ⊥) → None ≡ expiry_in f
-  expiry_off n e other =
-      sym (ap (λ (b : Bool). cond b (Relative16 record { secs = field 1 f; nanos = field 2 f }) None) (ne_eqb (field 0 f) 1 (λ z. other (e ∙ z))))
-
-  pub expiry_on : (n s m : ℕ) → n ≡ field 0 f → n ≡ 1 → s ≡ field 1 f → m ≡ field 2 f → Relative16 record { secs = s; nanos = m } ≡ expiry_in f
-  expiry_on n s m e one x y =
-      ap₂ (λ (secs nanos : ℕ). Relative16 record { secs = secs; nanos = nanos }) x y
-      ∙ sym (ap (λ (b : Bool). cond b (Relative16 record { secs = field 1 f; nanos = field 2 f }) None) (eq-eqb (field 0 f) 1 (sym e ∙ one)))
-
-  pub setting_is : (e : SegmentExpiry) (o p b : ℕ) → e ≡ expiry_in f → o ≡ field 3 f → p ≡ field 4 f → b ≡ field 5 f
-      → ◌≡◌ {A = SegmentCacheConfig}
-      (record { expiry = e; target_occupied_slots = o; packed_bucket_index = eqb p 1; negative_filter_bits_per_entry = b }) (setting_in f)
-  setting_is e o p b x y z w = rw (x, y, z, w)
 
   pub set_is : (c : SegmentCacheConfig) (records buckets words segments bytes keys values headers : ℕ) → c ≡ setting_in f → records ≡ records_in f → buckets ≡ buckets_of f
       → words ≡ filter_words_of f → segments ≡ length (content_of 1 f) / 8 → bytes ≡ length (content_of 4 f) → keys ≡ field 7 f → values ≡ field 8 f → headers ≡ field 9 f

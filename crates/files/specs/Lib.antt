@@ -5,3 +5,4 @@ pub mod Write
 pub mod Typed
 pub mod Copies
 pub mod Plan
+pub mod Kinds

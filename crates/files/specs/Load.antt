@@ -1,7 +1,8 @@
 -- Loading a file: its questions, and what it leaves in every area. Document 02, Change 2.
 -- Assumes nothing.
-use Rattle.std.specs.Prelude.{Bool, List, [], ◌∷◌, ◌++◌, ℕ, ◌*◌, leb, length}
+use Rattle.std.specs.Prelude.{Bool, List, [], ◌∷◌, ◌++◌, ℕ, ◌*◌, leb, length, Result, Ok, Err}
 use Rattle.hash_parts.specs.Error.{error_number}
+use Rattle.hash_parts.specs.declared.error.SegmentCacheBuildError.{SegmentCacheBuildError}
 use Rattle.records.specs.Area.{over}
 use Rattle.index.specs.Segments.{most_segments, padded}
 use Rattle.sets.specs.Answers.{Reply, accept, refuse}
@@ -10,10 +11,6 @@ use Rattle.sets.specs.declared.cache.FrozenSegmentCache.{FrozenSegmentCache}
 use Rattle.files.specs.Blocks.{content_of}
 use Rattle.files.specs.Contents.{ask_file, buckets_of, file_filter, file_index, file_set, filter_words_of, segment_lengths, starts_by}
 use Rattle.files.specs.declared.load.FileNeeds.{FileNeeds}
-use Rattle.files.specs.declared.load.FileNeedsAnswer.{FileNeedsAnswer}
-use Rattle.files.specs.declared.load.FileNeedsAnswer.TheVariants as needs
-use Rattle.files.specs.declared.load.LoadFileAnswer.{LoadFileAnswer}
-use Rattle.files.specs.declared.load.LoadFileAnswer.TheVariants as loads
 
 -- 10: "any lent area too short .. and .. a lent arena above 01's bound"; the areas by their lengths
 unfoldable pub load_areas_hold : List ℕ → ℕ → ℕ → ℕ → ℕ → ℕ → Bool
@@ -69,14 +66,14 @@ needs_answer f = decided (first_no (ask_file f)) (accept (needs_of f)) (λ n. re
 
 -- ---- answers
 
-abbrev pub needs_reply : FileNeedsAnswer → Reply FileNeeds (Unit {0})
-needs_reply (needs.Needs n) = accept n
-needs_reply (needs.Refused e) = refuse (error_number e) tt
+abbrev pub needs_reply : Result FileNeeds SegmentCacheBuildError → Reply FileNeeds (Unit {0})
+needs_reply (Ok n) = accept n
+needs_reply (Err e) = refuse (error_number e) tt
 
-abbrev pub load_reply : LoadFileAnswer → Reply FrozenSegmentCache (Unit {0})
-load_reply (loads.Loaded s) = accept s
-load_reply (loads.Refused e) = refuse (error_number e) tt
+abbrev pub load_reply : Result FrozenSegmentCache SegmentCacheBuildError → Reply FrozenSegmentCache (Unit {0})
+load_reply (Ok s) = accept s
+load_reply (Err e) = refuse (error_number e) tt
 
-abbrev pub load_result : LoadFileAnswer → List ℕ → List ℕ → List ℕ → List ℕ → List ℕ → Loaded
+abbrev pub load_result : Result FrozenSegmentCache SegmentCacheBuildError → List ℕ → List ℕ → List ℕ → List ℕ → List ℕ → Loaded
 load_result r index filter starts lengths arena =
     record { answer = load_reply r; index = index; filter = filter; starts = starts; lengths = lengths; arena = arena }

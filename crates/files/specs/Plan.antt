@@ -1,18 +1,17 @@
 -- What private functions answer by: the questions of a file, with the set that it tells of.
 -- Assumes nothing.
-use Rattle.std.specs.Prelude.{Bool, List, [], ◌∷◌, ℕ, ◌*◌, ◌%◌, eqb, leb, length}
+use Rattle.std.specs.Prelude.{Bool, List, [], ◌∷◌, ℕ, ◌*◌, ◌%◌, eqb, leb, length, Result, Ok, Err}
 use Rattle.hash_parts.specs.Error.{error_number}
+use Rattle.hash_parts.specs.declared.error.SegmentCacheBuildError.{SegmentCacheBuildError}
 use Rattle.sets.specs.Answers.{Reply, accept, refuse}
 use Rattle.sets.specs.Questions.{all, decided, first_no, most_arena_bytes}
 use Rattle.sets.specs.declared.cache.FrozenSegmentCache.{FrozenSegmentCache}
 use Rattle.files.specs.Blocks.{content_of}
 use Rattle.files.specs.Contents.{ask_file, field, file_set, segment_lengths, sum, tick_fits}
-use Rattle.files.specs.declared.content.FilePlan.{FilePlan}
-use Rattle.files.specs.declared.content.FilePlan.TheVariants.{Set, Refused}
 
-abbrev pub plan_reply : FilePlan → Reply FrozenSegmentCache (Unit {0})
-plan_reply (Set s) = accept s
-plan_reply (Refused e) = refuse (error_number e) tt
+abbrev pub plan_reply : Result FrozenSegmentCache SegmentCacheBuildError → Reply FrozenSegmentCache (Unit {0})
+plan_reply (Ok s) = accept s
+plan_reply (Err e) = refuse (error_number e) tt
 
 -- the set of a file that passes 13, 14 and 15
 unfoldable pub file_asked : List ℕ → Reply FrozenSegmentCache (Unit {0})

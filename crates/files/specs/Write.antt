@@ -1,8 +1,9 @@
 -- Writing a set as a file: its questions, and what it leaves. Document 02, Change 2.
 -- Assumes nothing.
-use Rattle.std.specs.Prelude.{Bool, cond, ℕ, ◌+◌, ◌*◌, leb, length, take, get_or}
+use Rattle.std.specs.Prelude.{Bool, cond, ℕ, ◌+◌, ◌*◌, leb, length, take, get_or, Result, Ok, Err}
 use mathlib.Core.List.{List, [], ◌∷◌, ◌++◌, flat_map}
 use Rattle.hash_parts.specs.Error.{error_number}
+use Rattle.hash_parts.specs.declared.error.SegmentCacheBuildError.{SegmentCacheBuildError}
 use Rattle.hash_parts.specs.declared.setting.SegmentExpiry.{SegmentExpiry}
 use Rattle.hash_parts.specs.declared.setting.SegmentExpiry.TheVariants.{None, Relative16}
 use Rattle.records.specs.Area.{over, part}
@@ -15,10 +16,6 @@ use Rattle.sets.specs.Rebuild.{areas_hold_source, segments_inside, sum_of}
 use Rattle.sets.specs.declared.cache.FrozenSegmentCache.{FrozenSegmentCache}
 use Rattle.files.specs.Blocks.{block}
 use Rattle.files.specs.Contents.{bytes_for, unmarked_index, widths}
-use Rattle.files.specs.declared.write.FileSizeAnswer.{FileSizeAnswer}
-use Rattle.files.specs.declared.write.FileSizeAnswer.TheVariants as sizes
-use Rattle.files.specs.declared.write.WriteFileAnswer.{WriteFileAnswer}
-use Rattle.files.specs.declared.write.WriteFileAnswer.TheVariants as writes
 
 -- "with expiry off both tick fields are zero"
 abbrev pub expiry_flag : SegmentExpiry → ℕ
@@ -93,13 +90,13 @@ size_answer s starts lengths = decided (first_no (ask_size s starts lengths)) (a
 
 -- ---- answers
 
-abbrev pub size_reply : FileSizeAnswer → Reply ℕ (Unit {0})
-size_reply (sizes.Bytes n) = accept n
-size_reply (sizes.Refused e) = refuse (error_number e) tt
+abbrev pub size_reply : Result ℕ SegmentCacheBuildError → Reply ℕ (Unit {0})
+size_reply (Ok n) = accept n
+size_reply (Err e) = refuse (error_number e) tt
 
-abbrev pub write_reply : WriteFileAnswer → Reply ℕ (Unit {0})
-write_reply (writes.Written n) = accept n
-write_reply (writes.Refused e) = refuse (error_number e) tt
+abbrev pub write_reply : Result ℕ SegmentCacheBuildError → Reply ℕ (Unit {0})
+write_reply (Ok n) = accept n
+write_reply (Err e) = refuse (error_number e) tt
 
-abbrev pub write_result : WriteFileAnswer → List ℕ → FileWritten
+abbrev pub write_result : Result ℕ SegmentCacheBuildError → List ℕ → FileWritten
 write_result r file = record { answer = write_reply r; file = file }

@@ -1,103 +1,105 @@
 // The blocks of a file: a length of four bytes, a kind of two, the content. A block is told by the
-// position that it begins at.
-ghost use Rattle.std.specs.Prelude.{true, ◌++◌, ◌≡◌, ◌+◌, ◌^◌, ◌<◌, ◌≤◌, drop, length};
+// part of the file that begins with it.
+ghost use Rattle.std.specs.Prelude.{true, ◌++◌, ◌≡◌, ◌-◌, ◌^◌, ◌<◌, ◌≤◌, length};
 ghost use Rattle.hash_parts.specs.ZeroBytes.{bytes_of};
-ghost use Rattle.records.specs.Area.{part, pasted};
-ghost use Rattle.files.specs.Blocks.{behind, content_of, frames_well, is_whole, kinds_from, size_in};
+ghost use Rattle.records.specs.Area.{part};
+ghost use Rattle.files.specs.Blocks.{behind, content_of, frames_well, is_whole, kind_in, kinds_from, size_in};
+ghost use Rattle.files.specs.Kinds.{kind_number};
 
-use crate::copies::{number_at, put_number};
+use crate::copies::{number_of, put_number};
 
 const SIZE_BYTES: usize = 4;
 
-const KIND_BYTES: usize = 2;
+pub(crate) const HEADER_BYTES: usize = 6;
 
-const HEADER_BYTES: usize = 6;
+const BLOCKS: u64 = 5;
 
-const BLOCKS: usize = 5;
+// The five kinds, in the order in which their blocks stand in a file.
+#[derive(Clone, Copy, Debug, PartialEq, Eq)]
+pub(crate) enum BlockKind {
+    Counts = 1,
+    Lengths = 2,
+    Index = 3,
+    Filter = 4,
+    Segments = 5,
+}
 
-// The five blocks in their order; the kind of each is one more.
-pub(crate) const COUNTS: usize = 0;
+impl BlockKind {
+    fn number(self) -> u64
+        ensures { result ≡ kind_number self }
+    {
+        self as u64
+    }
+}
 
-pub(crate) const LENGTHS: usize = 1;
-
-pub(crate) const INDEX: usize = 2;
-
-pub(crate) const FILTER: usize = 3;
-
-pub(crate) const SEGMENTS: usize = 4;
-
-fn size_at(file: &[u8], at: usize) -> usize
-    requires { at + 6 ≤ length file.now }
-    ensures { (result ≡ size_in (drop at file.now)) × (result < 2 ^ 32) }
+fn size_in(rest: &[u8]) -> usize
+    requires { 6 ≤ length rest.now }
+    ensures { (result ≡ size_in rest.now) × (result < 2 ^ 32) }
 {
-    number_at(file, at, SIZE_BYTES) as usize
+    number_of(&rest[..SIZE_BYTES]) as usize
+}
+
+fn kind_in(rest: &[u8]) -> u64
+    requires { 6 ≤ length rest.now }
+    ensures { result ≡ kind_in rest.now }
+{
+    number_of(&rest[SIZE_BYTES..HEADER_BYTES])
 }
 
 // Whether the block ends in the file.
-fn is_whole(file: &[u8], at: usize) -> bool
-    requires { at ≤ length file.now }
-    ensures { result ≡ is_whole (drop at file.now) }
+fn is_whole(rest: &[u8]) -> bool
+    ensures { result ≡ is_whole rest.now }
 {
-    if file.len() - at < HEADER_BYTES {
-        return false;
-    }
-    file.len() - at - HEADER_BYTES >= size_at(file, at)
+    rest.len() >= HEADER_BYTES && rest.len() - HEADER_BYTES >= size_in(rest)
 }
 
-// Where the block behind it begins; the file's end where it is not whole.
-fn next_block(file: &[u8], at: usize) -> usize
-    requires { at ≤ length file.now }
-    ensures { (drop result file.now ≡ behind (drop at file.now)) × (result ≤ length file.now) }
+// The part of the file behind the block; nothing where it is not whole.
+fn behind(rest: &[u8]) -> &[u8]
+    ensures { result.now ≡ behind rest.now }
 {
-    if !is_whole(file, at) {
-        return file.len();
+    if !is_whole(rest) {
+        return &[];
     }
-    at + HEADER_BYTES + size_at(file, at)
+    &rest[HEADER_BYTES + size_in(rest)..]
 }
 
 // The content of the block; what there is of it where it is not whole.
-fn content_at(file: &[u8], at: usize) -> &[u8]
-    requires { at ≤ length file.now }
-    ensures { result.now ≡ part 6 (size_in (drop at file.now)) (drop at file.now) }
+fn content_in(rest: &[u8]) -> &[u8]
+    ensures { result.now ≡ part 6 (size_in rest.now) rest.now }
 {
-    if file.len() - at < HEADER_BYTES {
-        return &file[0..0];
+    if rest.len() < HEADER_BYTES {
+        return &[];
     }
-    let begin = at + HEADER_BYTES;
-    let end = next_block(file, at);
-    &file[begin..end]
+    let size = size_in(rest).min(rest.len() - HEADER_BYTES);
+    &rest[HEADER_BYTES..HEADER_BYTES + size]
 }
 
-// The content of a block by its number; the first is 0.
-pub(crate) fn content_of(file: &[u8], block: usize) -> &[u8]
-    ensures { result.now ≡ content_of block file.now }
+// The content of the block that stands where that of a kind belongs.
+pub(crate) fn content_of(file: &[u8], kind: BlockKind) -> &[u8]
+    ensures { result.now ≡ content_of (kind_number kind - 1) file.now }
 {
-    let mut at = 0;
-    let mut left = block;
-    while left > 0 {
-        at = next_block(file, at);
-        left -= 1;
+    let mut rest = file;
+    for _ in 1..kind.number() {
+        rest = behind(rest);
     }
-    content_at(file, at)
+    content_in(rest)
 }
 
 // Whether no block runs past the file's end and nothing follows the fifth.
 pub(crate) fn frames_well(file: &[u8]) -> bool
     ensures { result ≡ frames_well 5 file.now }
 {
-    let mut at = 0;
-    let mut left = BLOCKS;
-    while left > 0 {
-        if at >= file.len() {
+    let mut rest = file;
+    for _ in 0..BLOCKS {
+        if rest.is_empty() {
             return true;
         }
-        if !is_whole(file, at) {
+        if !is_whole(rest) {
             return false;
         }
-        at = next_block(file, at);
-        left -= 1;
+        rest = behind(rest);
     }
-    at >= file.len()
+    rest.is_empty()
 }
 
 // Whether the kinds are 1 to 5, in this order.
@@ -105,26 +107,25 @@ pub(crate) fn kinds_in_order(file: &[u8]) -> bool
     requires { frames_well 5 file.now ≡ true }
     ensures { result ≡ kinds_from 1 5 file.now }
 {
-    let mut at = 0;
-    let mut kind = 1;
-    while kind <= BLOCKS {
-        if at >= file.len() {
+    let mut rest = file;
+    for kind in 1..=BLOCKS {
+        if rest.is_empty() {
             return false;
         }
-        if number_at(file, at + SIZE_BYTES, KIND_BYTES) as usize != kind {
+        if kind_in(rest) != kind {
             return false;
         }
-        at = next_block(file, at);
-        kind += 1;
+        rest = behind(rest);
     }
     true
 }
 
-// Writes the header of a block, and gives the position after it.
-pub(crate) fn put_header(out: &mut [u8], at: usize, size: usize, kind: u64) -> usize
-    requires { at + 6 ≤ length out.old }
-    ensures { (result ≡ at + 6) × (out.new ≡ pasted at (bytes_of 4 size ++ bytes_of 2 kind) out.old) }
+// Writes the header of a block whose content has a size.
+pub(crate) fn put_header(out: &mut [u8], size: usize, kind: BlockKind)
+    requires { length out.old ≡ 6 }
+    ensures { out.new ≡ bytes_of 4 size ++ bytes_of 2 (kind_number kind) }
 {
-    let after_size = put_number(out, at, size as u64, SIZE_BYTES);
-    put_number(out, after_size, kind, KIND_BYTES)
+    let (size_bytes, kind_bytes) = out.split_at_mut(SIZE_BYTES);
+    put_number(size_bytes, size as u64);
+    put_number(kind_bytes, kind.number());
 }

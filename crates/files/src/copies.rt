@@ -1,7 +1,6 @@
-// Numbers and words in bytes, the lowest byte first; copying of bytes, and of words with some bits cleared.
-ghost use Rattle.std.specs.Prelude.{map, ◌≡◌, ◌+◌, ◌-◌, ◌*◌, ◌^◌, ◌<◌, ◌≤◌, get_or, length};
+// Numbers and words in bytes, the lowest byte first. Of words that are copied some bits are cleared.
+ghost use Rattle.std.specs.Prelude.{map, ◌≡◌, ◌-◌, ◌*◌, ◌^◌, ◌<◌, ◌≤◌, length};
 ghost use Rattle.hash_parts.specs.ZeroBytes.{bytes_of, number_of};
-ghost use Rattle.records.specs.Area.{part, pasted};
 ghost use Rattle.index.specs.Packed.{word_bytes, words_of};
 ghost use Rattle.files.specs.Copies.{masked_by};
 
@@ -14,67 +13,34 @@ pub(crate) const UNMARKED_WORD: u64 = 0x7fff_ffff_ffff_ffff;
 
 pub(crate) const UNMARKED_CONTROL: u64 = 0x7f7f_7f7f_7f7f_7f7f;
 
-// A byte as a number that is known to be below 256.
-fn byte_at(bytes: &[u8], at: usize) -> u64
-    requires { at < length bytes.now }
-    ensures { (result ≡ get_or bytes.now at 0) × (result < 256) }
+// The number of at most eight bytes.
+pub(crate) fn number_of(bytes: &[u8]) -> u64
+    requires { length bytes.now ≤ 8 }
+    ensures { (result ≡ number_of bytes.now) × (result < 256 ^ length bytes.now) }
 {
-    bytes[at] as u64
+    let mut word = [0; WORD_BYTES];
+    word[..bytes.len()].copy_from_slice(bytes);
+    u64::from_le_bytes(word)
 }
 
-// The number of so many bytes.
-pub(crate) fn number_at(bytes: &[u8], at: usize, width: usize) -> u64
-    requires { (at + width ≤ length bytes.now) × (width ≤ 8) }
-    ensures { (result ≡ number_of (part at width bytes.now)) × (result < 256 ^ width) }
+// Writes the lowest bytes of a number, as many as are lent.
+pub(crate) fn put_number(out: &mut [u8], number: u64)
+    requires { length out.old ≤ 8 }
+    ensures { out.new ≡ bytes_of (length out.old) number }
 {
-    let mut number = 0;
-    let mut left = width;
-    while left > 0 {
-        left -= 1;
-        number = number * 256 + byte_at(bytes, at + left);
-    }
-    number
+    let width = out.len();
+    out.copy_from_slice(&number.to_le_bytes()[..width]);
 }
 
-// Writes the lowest bytes of a number, and gives the position after them.
-pub(crate) fn put_number(out: &mut [u8], at: usize, number: u64, width: usize) -> usize
-    requires { at + width ≤ length out.old }
-    ensures { (result ≡ at + width) × (out.new ≡ pasted at (bytes_of width number) out.old) }
+// Writes words as bytes, to an area of their length.
+pub(crate) fn put_words(out: &mut [u8], words: &[u64], mask: u64)
+    requires { length out.old ≡ 8 * length words.now }
+    ensures { out.new ≡ word_bytes (map (masked_by mask) words.now) }
 {
-    let mut rest = number;
-    let mut i = 0;
-    while i < width {
-        out[at + i] = (rest % 256) as u8;
-        rest = rest / 256;
-        i += 1;
+    for (i, word) in words.iter().enumerate() {
+        let at = WORD_BYTES * i;
+        put_number(&mut out[at..at + WORD_BYTES], *word & mask);
     }
-    at + width
-}
-
-pub(crate) fn put_bytes(out: &mut [u8], at: usize, bytes: &[u8]) -> usize
-    requires { at + length bytes.now ≤ length out.old }
-    ensures { (result ≡ at + length bytes.now) × (out.new ≡ pasted at bytes.now out.old) }
-{
-    let mut i = 0;
-    while i < bytes.len() {
-        out[at + i] = bytes[i];
-        i += 1;
-    }
-    at + bytes.len()
-}
-
-// Writes words as bytes from a position on, and gives the position after them.
-pub(crate) fn put_words(out: &mut [u8], at: usize, words: &[u64], mask: u64) -> usize
-    requires { at + 8 * length words.now ≤ length out.old }
-    ensures { (result ≡ at + 8 * length words.now) × (out.new ≡ pasted at (word_bytes (map (masked_by mask) words.now)) out.old) }
-{
-    let mut end = at;
-    let mut i = 0;
-    while i < words.len() {
-        end = put_number(out, end, words[i] & mask, WORD_BYTES);
-        i += 1;
-    }
-    end
 }
 
 // Reads as many words as are lent. The second part of what it ensures comes of the bytes' type: words of
@@ -83,9 +49,8 @@ pub(crate) fn take_words(bytes: &[u8], mask: u64, words: &mut [u64])
     requires { 8 * length words.old ≤ length bytes.now }
     ensures { (words.new ≡ map (masked_by mask) (words_of (length words.old) bytes.now)) × (map (masked_by (2 ^ 64 - 1)) (words_of (length words.old) bytes.now) ≡ words_of (length words.old) bytes.now) }
 {
-    let mut i = 0;
-    while i < words.len() {
-        words[i] = number_at(bytes, WORD_BYTES * i, WORD_BYTES) & mask;
-        i += 1;
+    for (i, word) in words.iter_mut().enumerate() {
+        let at = WORD_BYTES * i;
+        *word = number_of(&bytes[at..at + WORD_BYTES]) & mask;
     }
 }

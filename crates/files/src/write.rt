@@ -1,53 +1,44 @@
 // Writing a finished set as a file.
-ghost use Rattle.std.specs.Prelude.{cond, true, ◌≡◌, ◌+◌, ◌*◌, ◌^◌, ◌<◌, ◌≤◌, length, take};
-ghost use Rattle.records.specs.Area.{over, part, pasted};
+ghost use Rattle.std.specs.Prelude.{true, ◌≡◌, ◌+◌, ◌*◌, ◌^◌, ◌<◌, ◌≤◌, length};
 ghost use Rattle.index.specs.Packed.{word_bytes};
 ghost use Rattle.sets.specs.Lookup.{areas_hold_lookup};
 ghost use Rattle.sets.specs.Questions.{first_no};
 ghost use Rattle.sets.specs.Rebuild.{segments_inside, sum_of};
 ghost use Rattle.files.specs.Blocks.{block};
-ghost use Rattle.files.specs.Contents.{bytes_for, unmarked_index};
-ghost use Rattle.files.specs.Write.{after_write, ask_write, count_bytes, expiry_flag, file_of, segment_bytes, size_answer, size_reply, tick_nanos, tick_secs, write_result};
+ghost use Rattle.files.specs.Contents.{bytes_for, unmarked_index, widths};
+ghost use Rattle.files.specs.Kinds.{kind_number};
+ghost use Rattle.files.specs.Write.{after_write, ask_write, count_bytes, expiry_flag, file_of, file_size, segment_bytes, size_answer, size_reply, tick_nanos, tick_secs, write_result};
 
-use crate::blocks::put_header;
+use crate::blocks::{BlockKind, HEADER_BYTES, put_header};
 use crate::content::{BUCKET_BYTES, COUNT_BYTES, MAX_ARENA_BYTES, WIDTHS};
-use crate::copies::{
-    UNMARKED_CONTROL, UNMARKED_WORD, WHOLE, WORD_BYTES, put_bytes, put_number, put_words,
-};
+use crate::copies::{UNMARKED_CONTROL, UNMARKED_WORD, WHOLE, WORD_BYTES, put_number, put_words};
 use hash_parts::error::SegmentCacheBuildError;
 use hash_parts::setting::SegmentExpiry;
+use index::view::SegmentAreas;
 use index::word::BUCKET_SLOTS;
+use sets::areas::sum_of;
 use sets::cache::FrozenSegmentCache;
 use sets::rebuild_questions::source_holds;
 
 // Five headers and kind 1.
 const FIXED_BYTES: usize = 74;
 
-#[derive(Clone, Copy)]
-pub enum FileSizeAnswer {
-    Bytes(usize),
-    Refused(SegmentCacheBuildError),
-}
-
-#[derive(Clone, Copy)]
-pub enum WriteFileAnswer {
-    // How many bytes the file has.
-    Written(usize),
-    Refused(SegmentCacheBuildError),
-}
-
 // How many bytes a set takes as a file.
-pub fn file_bytes(set: FrozenSegmentCache, starts: &[u64], lengths: &[u64]) -> FileSizeAnswer
+pub fn file_bytes(
+    set: FrozenSegmentCache,
+    starts: &[u64],
+    lengths: &[u64],
+) -> Result<usize, SegmentCacheBuildError>
     ensures { size_reply result ≡ size_answer set starts.now lengths.now }
 {
     if !source_holds(set, starts, lengths, set.filled) {
-        return FileSizeAnswer::Refused(SegmentCacheBuildError::InvalidState);
+        return Err(SegmentCacheBuildError::InvalidState);
     }
     let bytes = sum_of(lengths, set.segments);
     if bytes > MAX_ARENA_BYTES {
-        return FileSizeAnswer::Refused(SegmentCacheBuildError::InvalidState);
+        return Err(SegmentCacheBuildError::InvalidState);
     }
-    FileSizeAnswer::Bytes(
+    Ok(
         FIXED_BYTES
             + WORD_BYTES * set.segments
             + BUCKET_BYTES * set.buckets
@@ -56,18 +47,21 @@ pub fn file_bytes(set: FrozenSegmentCache, starts: &[u64], lengths: &[u64]) -> F
     )
 }
 
-// Writes the set to the front of the file area, marks cleared.
+// Writes the set to the front of the file area, marks cleared, and says how many bytes the file has.
 pub fn write_file(
     set: FrozenSegmentCache,
     index: &[u64],
     filter: &[u64],
-    starts: &[u64],
-    lengths: &[u64],
-    arena: &[u8],
+    areas: SegmentAreas<'_>,
     file: &mut [u8],
-) -> WriteFileAnswer
-    ensures { write_result result file.new ≡ after_write set index.now filter.now starts.now lengths.now arena.now file.old }
+) -> Result<usize, SegmentCacheBuildError>
+    ensures { write_result result file.new ≡ after_write set index.now filter.now areas.entry.starts.now areas.entry.lengths.now areas.entry.arena.now file.old }
 {
+    let SegmentAreas {
+        starts,
+        lengths,
+        arena,
+    } = areas;
     if !set.lookup_areas_hold(
         index.len(),
         filter.len(),
@@ -75,198 +69,152 @@ pub fn write_file(
         lengths.len(),
         arena.len(),
     ) {
-        return WriteFileAnswer::Refused(SegmentCacheBuildError::InvalidState);
+        return Err(SegmentCacheBuildError::InvalidState);
     }
-    let FileSizeAnswer::Bytes(bytes) = file_bytes(set, starts, lengths) else {
-        return WriteFileAnswer::Refused(SegmentCacheBuildError::InvalidState);
-    };
+    let bytes = file_bytes(set, starts, lengths)?;
     if file.len() < bytes {
-        return WriteFileAnswer::Refused(SegmentCacheBuildError::AreaTooShort);
+        return Err(SegmentCacheBuildError::AreaTooShort);
     }
-    put_file(set, index, filter, starts, lengths, arena, file);
-    WriteFileAnswer::Written(bytes)
+    put_file(set, index, filter, areas, &mut file[..bytes]);
+    Ok(bytes)
 }
 
-fn sum_of(words: &[u64], count: usize) -> usize
-    requires { (count ≤ length words.now) × (sum_of count words.now < 2 ^ 64) }
-    ensures { result ≡ sum_of count words.now }
-{
-    let mut sum = 0;
-    let mut i = 0;
-    while i < count {
-        sum += words[i] as usize;
-        i += 1;
-    }
-    sum
-}
-
+// Writes the set to an area of the file's length, a block after the other.
 fn put_file(
     set: FrozenSegmentCache,
     index: &[u64],
     filter: &[u64],
-    starts: &[u64],
-    lengths: &[u64],
-    arena: &[u8],
+    areas: SegmentAreas<'_>,
     file: &mut [u8],
 )
-    requires { first_no (ask_write set (length index.now) (length filter.now) starts.now lengths.now (length arena.now) (length file.old)) ≡ 0 }
-    ensures { file.new ≡ over (file_of set index.now filter.now starts.now lengths.now arena.now) file.old }
+    requires asked { first_no (ask_write set (length index.now) (length filter.now) areas.starts.now areas.lengths.now (length areas.arena.now) (length file.old)) ≡ 0 }
+    requires exact { length file.old ≡ file_size set areas.lengths.now }
+    ensures { file.new ≡ file_of set index.now filter.now areas.entry.starts.now areas.entry.lengths.now areas.entry.arena.now }
 {
-    let after_counts = put_counts(file, 0, set);
-    let after_lengths = put_front(file, after_counts, 2, lengths, set.segments);
-    let packed = set.config.packed_bucket_index;
-    let after_index = put_index(file, after_lengths, packed, set.buckets, index);
-    let after_filter = put_front(file, after_index, 4, filter, set.filter_words);
-    put_segments(file, after_filter, set.segments, starts, lengths, arena);
+    let (counts, rest) = file.split_at_mut(HEADER_BYTES + COUNT_BYTES);
+    put_counts(counts, set);
+    let (out, rest) = rest.split_at_mut(HEADER_BYTES + WORD_BYTES * set.segments);
+    let lengths = &areas.lengths[..set.segments];
+    put_block(out, BlockKind::Lengths, lengths);
+    let (out, rest) = rest.split_at_mut(HEADER_BYTES + BUCKET_BYTES * set.buckets);
+    let words = &index[..BUCKET_SLOTS * set.buckets];
+    put_index(out, set.config.packed_bucket_index, set.buckets, words);
+    let (out, rest) = rest.split_at_mut(HEADER_BYTES + WORD_BYTES * set.filter_words);
+    put_block(out, BlockKind::Filter, &filter[..set.filter_words]);
+    let segments = SegmentAreas {
+        starts: &areas.starts[..set.segments],
+        lengths,
+        arena: areas.arena,
+    };
+    put_segments(rest, segments);
 }
 
 // Kind 1: the numbers of the setting and the counts.
-fn put_counts(file: &mut [u8], at: usize, set: FrozenSegmentCache) -> usize
-    requires { at + 50 ≤ length file.old }
-    ensures { (result ≡ at + 50) × (file.new ≡ pasted at (block 1 (count_bytes set)) file.old) }
+fn put_counts(out: &mut [u8], set: FrozenSegmentCache)
+    requires { length out.old ≡ 50 }
+    ensures { out.new ≡ block 1 (count_bytes set) }
 {
-    let begin = put_header(file, at, COUNT_BYTES, 1);
+    let (header, content) = out.split_at_mut(HEADER_BYTES);
+    put_header(header, COUNT_BYTES, BlockKind::Counts);
     let config = set.config;
-    let expiry = config.expiry;
-    let flag = expiry_flag(expiry);
-    let secs = tick_secs(expiry);
-    let nanos = tick_nanos(expiry);
-    let packed = flag_of(config.packed_bucket_index);
+    let (expiry_on, secs, nanos) = expiry_numbers(config.expiry);
     let numbers = [
-        flag,
+        expiry_on,
         secs,
         nanos,
         config.target_occupied_slots as u64,
-        packed,
+        u64::from(config.packed_bucket_index),
         config.negative_filter_bits_per_entry as u64,
         set.entries as u64,
         set.logical_key_bytes as u64,
         set.logical_value_bytes as u64,
         set.record_header_bytes as u64,
     ];
-    let widths = WIDTHS;
-    put_numbers(file, begin, &widths, &numbers)
+    put_numbers(content, &numbers);
 }
 
-// Numbers one after the other, each in so many bytes.
-fn put_numbers(file: &mut [u8], at: usize, widths: &[usize], numbers: &[u64]) -> usize
-    requires { (length widths.now ≡ length numbers.now) × (at + length (bytes_for widths.now numbers.now) ≤ length file.old) }
-    ensures { (result ≡ at + length (bytes_for widths.now numbers.now)) × (file.new ≡ pasted at (bytes_for widths.now numbers.now) file.old) }
+// Numbers one after the other, each in its width.
+fn put_numbers(out: &mut [u8], numbers: &[u64])
+    requires { (length numbers.now ≡ 10) × (length out.old ≡ 44) }
+    ensures { out.new ≡ bytes_for widths numbers.now }
 {
-    let mut end = at;
-    let mut i = 0;
-    while i < widths.len() {
-        end = put_number(file, end, numbers[i], widths[i]);
-        i += 1;
+    let mut at = 0;
+    for (i, number) in numbers.iter().enumerate() {
+        let end = at + WIDTHS[i];
+        put_number(&mut out[at..end], *number);
+        at = end;
     }
-    end
 }
 
-fn flag_of(on: bool) -> u64
-    ensures { result ≡ cond on 1 0 }
-{
-    if on { 1 } else { 0 }
-}
-
-fn expiry_flag(expiry: SegmentExpiry) -> u64
-    ensures { result ≡ expiry_flag expiry }
+// Whether expiry is on, and the tick; with expiry off both its numbers are zero.
+fn expiry_numbers(expiry: SegmentExpiry) -> (u64, u64, u64)
+    ensures { (result.0 ≡ expiry_flag expiry) × (result.1 ≡ tick_secs expiry) × (result.2 ≡ tick_nanos expiry) }
 {
     match expiry {
-        SegmentExpiry::None => 0,
-        SegmentExpiry::Relative16 { tick: _ } => 1,
+        SegmentExpiry::None => (0, 0, 0),
+        SegmentExpiry::Relative16 { tick } => (1, tick.secs, tick.nanos as u64),
     }
 }
 
-fn tick_secs(expiry: SegmentExpiry) -> u64
-    ensures { result ≡ tick_secs expiry }
+// A block of words, as they are.
+fn put_block(out: &mut [u8], kind: BlockKind, words: &[u64])
+    requires { length out.old ≡ 6 + 8 * length words.now }
+    ensures { out.new ≡ block (kind_number kind) (word_bytes words.now) }
 {
-    match expiry {
-        SegmentExpiry::None => 0,
-        SegmentExpiry::Relative16 { tick } => tick.secs,
-    }
-}
-
-fn tick_nanos(expiry: SegmentExpiry) -> u64
-    ensures { result ≡ tick_nanos expiry }
-{
-    match expiry {
-        SegmentExpiry::None => 0,
-        SegmentExpiry::Relative16 { tick } => tick.nanos as u64,
-    }
-}
-
-// Kinds 2 and 4: the first words of an area.
-fn put_front(file: &mut [u8], at: usize, kind: u64, words: &[u64], count: usize) -> usize
-    requires { (at + 6 + 8 * count ≤ length file.old) × (count ≤ length words.now) }
-    ensures { (result ≡ at + 6 + 8 * count) × (file.new ≡ pasted at (block kind (word_bytes (take count words.now))) file.old) }
-{
-    let begin = put_header(file, at, count * WORD_BYTES, kind);
-    put_words(file, begin, &words[0..count], WHOLE)
+    let (header, content) = out.split_at_mut(HEADER_BYTES);
+    put_header(header, content.len(), kind);
+    put_words(content, words, WHOLE);
 }
 
 // Kind 3.
-fn put_index(file: &mut [u8], at: usize, packed: bool, buckets: usize, index: &[u64]) -> usize
-    requires { (at + 6 + 64 * buckets ≤ length file.old) × (8 * buckets ≤ length index.now) }
-    ensures { (result ≡ at + 6 + 64 * buckets) × (file.new ≡ pasted at (block 3 (word_bytes (unmarked_index packed buckets (take (8 * buckets) index.now)))) file.old) }
+fn put_index(out: &mut [u8], packed: bool, buckets: usize, index: &[u64])
+    requires { (length out.old ≡ 6 + 64 * buckets) × (length index.now ≡ 8 * buckets) }
+    ensures { out.new ≡ block 3 (word_bytes (unmarked_index packed buckets index.now)) }
 {
-    let begin = put_header(file, at, buckets * BUCKET_BYTES, 3);
-    put_unmarked(file, begin, packed, buckets, index)
+    let (header, content) = out.split_at_mut(HEADER_BYTES);
+    put_header(header, content.len(), BlockKind::Index);
+    put_unmarked(content, packed, buckets, index);
 }
 
 // The index without its marks. In the packed layout these stand in the control words, the first of the
 // index.
-fn put_unmarked(file: &mut [u8], at: usize, packed: bool, buckets: usize, index: &[u64]) -> usize
-    requires { (at + 64 * buckets ≤ length file.old) × (8 * buckets ≤ length index.now) }
-    ensures { (result ≡ at + 64 * buckets) × (file.new ≡ pasted at (word_bytes (unmarked_index packed buckets (take (8 * buckets) index.now))) file.old) }
+fn put_unmarked(out: &mut [u8], packed: bool, buckets: usize, index: &[u64])
+    requires { (length out.old ≡ 64 * buckets) × (length index.now ≡ 8 * buckets) }
+    ensures { out.new ≡ word_bytes (unmarked_index packed buckets index.now) }
 {
-    let end = buckets * BUCKET_SLOTS;
     if !packed {
-        return put_words(file, at, &index[0..end], UNMARKED_WORD);
+        put_words(out, index, UNMARKED_WORD);
+        return;
     }
-    let references = put_words(file, at, &index[0..buckets], UNMARKED_CONTROL);
-    put_words(file, references, &index[buckets..end], WHOLE)
+    let (controls, references) = out.split_at_mut(WORD_BYTES * buckets);
+    put_words(controls, &index[..buckets], UNMARKED_CONTROL);
+    put_words(references, &index[buckets..], WHOLE);
 }
 
 // Kind 5: the segments' bytes, one after the other.
-fn put_segments(
-    file: &mut [u8],
-    at: usize,
-    segments: usize,
-    starts: &[u64],
-    lengths: &[u64],
-    arena: &[u8],
-) -> usize
-    requires { (segments ≤ length starts.now) × (segments ≤ length lengths.now) × (segments_inside segments (length arena.now) starts.now lengths.now ≡ true) × (at + 6 + sum_of segments lengths.now ≤ length file.old) }
-    ensures { (result ≡ at + 6 + sum_of segments lengths.now) × (file.new ≡ pasted at (block 5 (segment_bytes segments starts.now lengths.now arena.now)) file.old) }
+fn put_segments(out: &mut [u8], areas: SegmentAreas<'_>)
+    requires { (length areas.starts.now ≡ length areas.lengths.now) × (segments_inside (length areas.lengths.now) (length areas.arena.now) areas.starts.now areas.lengths.now ≡ true) × (length out.old ≡ 6 + sum_of (length areas.lengths.now) areas.lengths.now) }
+    ensures { out.new ≡ block 5 (segment_bytes (length areas.entry.lengths.now) areas.entry.starts.now areas.entry.lengths.now areas.entry.arena.now) }
 {
-    let size = sum_of(lengths, segments);
-    let begin = put_header(file, at, size, 5);
-    put_segment_bytes(file, begin, segments, starts, lengths, arena)
+    let (header, content) = out.split_at_mut(HEADER_BYTES);
+    put_header(header, content.len(), BlockKind::Segments);
+    put_segment_bytes(content, areas);
 }
 
-fn put_segment_bytes(
-    file: &mut [u8],
-    at: usize,
-    segments: usize,
-    starts: &[u64],
-    lengths: &[u64],
-    arena: &[u8],
-) -> usize
-    requires { (segments ≤ length starts.now) × (segments ≤ length lengths.now) × (segments_inside segments (length arena.now) starts.now lengths.now ≡ true) × (at + sum_of segments lengths.now ≤ length file.old) }
-    ensures { (result ≡ at + sum_of segments lengths.now) × (file.new ≡ pasted at (segment_bytes segments starts.now lengths.now arena.now) file.old) }
+fn put_segment_bytes(out: &mut [u8], areas: SegmentAreas<'_>)
+    requires { (length areas.starts.now ≡ length areas.lengths.now) × (segments_inside (length areas.lengths.now) (length areas.arena.now) areas.starts.now areas.lengths.now ≡ true) × (length out.old ≡ sum_of (length areas.lengths.now) areas.lengths.now) }
+    ensures { out.new ≡ segment_bytes (length areas.entry.lengths.now) areas.entry.starts.now areas.entry.lengths.now areas.entry.arena.now }
 {
-    let mut end = at;
-    let mut i = 0;
-    while i < segments {
-        end = put_segment(file, end, starts[i] as usize, lengths[i] as usize, arena);
-        i += 1;
+    let SegmentAreas {
+        starts,
+        lengths,
+        arena,
+    } = areas;
+    let mut at = 0;
+    for (i, length) in lengths.iter().enumerate() {
+        let start = starts[i] as usize;
+        let length = *length as usize;
+        out[at..at + length].copy_from_slice(&arena[start..start + length]);
+        at += length;
     }
-    end
-}
-
-fn put_segment(file: &mut [u8], at: usize, start: usize, bytes: usize, arena: &[u8]) -> usize
-    requires { (start + bytes ≤ length arena.now) × (at + bytes ≤ length file.old) }
-    ensures { (result ≡ at + bytes) × (file.new ≡ pasted at (part start bytes arena.now) file.old) }
-{
-    put_bytes(file, at, &arena[start..start + bytes])
 }

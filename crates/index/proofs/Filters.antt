@@ -1,5 +1,5 @@
 -- Laws of the negative filter: a marked hash may be there, and marks are never lost. Assumes nothing.
-use Rattle.std.proofs.Common.{◌≡◌, ℕ, ◌+◌, ◌-◌, ◌*◌, ◌/◌, ◌%◌, ◌^◌, ◌<◌, ◌≤◌, min, max, true, eqb, List, length, get_or, set, sym, refl, ap, ◌∙◌, ap₂, mod-lt, mul-le-mul, one-mul, div-add-mod', zero-mul, arith, lit<, length-set, get_or-set_other, get_or-set_same, pow_pos, shl_exact, eq-eqb, ne_eqb, eqb-true, le-leb}
+use Rattle.std.proofs.Common.{◌≡◌, ℕ, ◌+◌, ◌-◌, ◌*◌, ◌/◌, ◌%◌, ◌^◌, ◌<◌, ◌≤◌, min, max, true, eqb, List, length, get_or, set, sym, refl, ap, ◌∙◌, ap₂, mod-lt, one-mul, div-add-mod', zero-mul, arith, lit<, length-set, get_or-set_other, get_or-set_same, pow_pos, shl_exact, eq-eqb, ne_eqb, eqb-true, le-leb}
 use native.Mathlib.Decide.{dec_le, ℕ_discrete}
 use lib.Arith.{digits_mod, bin_ind}
 use lib.Bits.{bit_and, bit_or, and_step, or_step, or_shr, and_shr, and_zero_r, and_self, or_comm, xor_lt}
@@ -11,13 +11,6 @@ use Rattle.index.specs.Filter.{bit_past, filter_word, filter_mask, filter_marked
 -- `1 << i` at 64 bits
 pub one_shl : (i : ℕ) → i < 64 → (1 * 2 ^ i) % 2 ^ 64 ≡ 2 ^ i
 one_shl i h = shl_exact {a = 1} 1 i 64 (lit< tt) (omega arith) ∙ one-mul (2 ^ i)
-
--- so many bits to each record fit 64 bits
-pub bits_fit : {records bits : ℕ} → records < 2 ^ 32 → bits < 2 ^ 8 → records * bits ≤ 4294967295 * 255
-bits_fit {records} {bits} r b =
-    let x : records ≤ 4294967295 = omega arith in
-    let y : bits ≤ 255 = omega arith in
-    mul-le-mul x y
 
 -- ---- the bits of a mask in a word
 

@@ -124,9 +124,3 @@ module _ (view : SegmentView) (packed : Bool) (index : List ℕ) (buckets : ℕ)
     find_walks fit first =
         let s : 8 * buckets ≤ length index = omega arith in
         simp (le-leb _ _ s) (found_first packed (filter_has filter words h) (Looks starts lengths arena key h) buckets h first)
-
--- a step that is neither a hit nor on ends the walk
-pub stops : (s : FindStep) → ((r : FoundRecord) → s ≡ Hit r → ⊥) → (s ≡ Next → ⊥) → s ≡ Stop
-stops (Hit r) n m = absurd (n r refl)
-stops Stop n m = refl
-stops Next n m = absurd (m refl)

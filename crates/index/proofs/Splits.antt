@@ -3,7 +3,8 @@ use Rattle.std.proofs.Common.{◌≡◌, ℕ, zero, suc, ◌+◌, ◌-◌, ◌*�
 use Rattle.std.proofs.lemmas.Bool.{leb-false}
 use Rattle.std.specs.Prelude.{Ok, Err, Result}
 use Rattle.std.proofs.lemmas.List.Sorted.{IsNonDecreasingBy-from_default, IsPartitionedBy-leb}
-use Rattle.std.specs.List.Sorted.{IsNonDecreasingBy, IsPartitionedBy, IsPartitionPoint}
+use Rattle.std.specs.List.{AllWithin, between}
+use Rattle.std.specs.List.Sorted.{IsPartitionedBy, IsPartitionPoint}
 use native.Mathlib.Decide.{dec_lt}
 use borrow.Author.Tests.{lt-leb}
 use Rattle.hash_parts.specs.declared.error.SegmentCacheBuildError.{SegmentCacheBuildError}
@@ -40,49 +41,53 @@ segment_is (a ∷ b ∷ ss) l (suc i) asc h from to =
     past (inl e) = inl (omega (arith, e))
     past (inr k) = let e : suc i + 1 ≡ suc (i + 1) = omega arith in inr (rw e at k)
 
--- the starts rise
-starts_rise : {area : List ℕ} {count : ℕ} → StartsIn area count → IsNonDecreasingBy (λ s. s) (take count area)
-starts_rise {area} {count} s = IsNonDecreasingBy-from_default (λ s. s) (take count area) 0 (rises (take count area) s.ascend)
-  where
-    rises : (ss : List ℕ) → Ascends ss → (i j : ℕ) → i ≤ j → j < length ss → get_or ss i 0 ≤ get_or ss j 0
-    rises [] asc i j le h = absurd (not-suc-le-zero h)
-    rises (a ∷ ss) asc zero j le h = first_least a ss asc j h
-    rises (a ∷ ss) asc (suc i) zero le h = absurd (omega arith)
-    rises (a ∷ ss) asc (suc i) (suc j) le h = rises ss (ascend_rest a ss asc) i j (omega arith) (omega (arith, h))
+-- the starts after the first rise
+rises : (ss : List ℕ) → Ascends ss → (i j : ℕ) → i ≤ j → j < length ss → get_or ss i 0 ≤ get_or ss j 0
+rises [] asc i j le h = absurd (not-suc-le-zero h)
+rises (a ∷ ss) asc zero j le h = first_least a ss asc j h
+rises (a ∷ ss) asc (suc i) zero le h = absurd (omega arith)
+rises (a ∷ ss) asc (suc i) (suc j) le h = rises ss (ascend_rest a ss asc) i j (omega arith) (omega (arith, h))
 
--- so those not above a location come first
-pub starts_parted : {area : List ℕ} {count : ℕ} (l : ℕ) → StartsIn area count → IsPartitionedBy (λ s. leb s l) (take count area)
-starts_parted {area} {count} l s = IsPartitionedBy-leb (λ s. s) (take count area) l (starts_rise s)
+module _ {area : List ℕ} {count : ℕ} (s : StartsIn area count) where
+  abbrev pub later : List ℕ
+  later = between 1 count area
 
--- and the last of them begins the segment of the location
-pub record LastStart (area : List ℕ) (count l i : ℕ) : Type 0 where
-  pub some : 0 < i
-  pub is : i - 1 ≡ segment_of (take count area) l
-  pub within : i - 1 < count
-  pub from : get_or area (i - 1) 0 ≤ l
+  -- the first start is 0
+  all_are : take count area ≡ 0 ∷ later
+  all_are = go area count s.some s.first s.within
+    where
+      go : (area : List ℕ) (count : ℕ) → 0 < count → get_or area 0 0 ≡ 0 → count ≤ length area → take count area ≡ 0 ∷ between 1 count area
+      go [] count p f h = absurd (omega (arith, h))
+      go (a ∷ area) zero p f h = absurd (omega arith)
+      go (a ∷ area) (suc n) p f h =
+          let e : suc n - 1 ≡ n = omega arith in
+          rw (f, e)
 
-pub last_start : {area : List ℕ} {count : ℕ} (l i : ℕ) → StartsIn area count → i ≤ length (take count area)
-    → IsPartitionPoint (λ s. leb s l ≡ true) (λ s. leb s l ≡ false) (take count area) i → LastStart area count l i
-last_start {area} {count} l zero s h p =
-    let long : length (take count area) ≡ count = length-take-le count area s.within in
-    let first : get_or (take count area) 0 0 ≡ 0 = get_or-take count area 0 0 s.some ∙ s.first in
-    let above = leb-false _ _ (p.1 0 0 (omega arith) (omega (arith, s.some, long))) in
-    absurd (omega (arith, above, first))
-last_start {area} {count} l (suc i) s h p =
-    let long : length (take count area) ≡ count = length-take-le count area s.within in
-    let here : get_or (take count area) i 0 ≡ get_or area i 0 = get_or-take count area i 0 (omega (arith, long)) in
-    let from : get_or (take count area) i 0 ≤ l = leb-true _ _ (p.0 i 0 (omega arith) (omega arith)) in
-    let is : suc i - 1 ≡ i = omega arith in
-    record {
-      some = omega arith;
-      is = rw is (sym (segment_is (take count area) l i s.ascend (omega arith) from (go (dec_lt (suc i) (length (take count area))))));
-      within = omega (arith, long);
-      from = rw is (rw here at from);
-    }
-  where
-    go : Dec (suc i < length (take count area)) → (i + 1 ≡ length (take count area)) ⊎ (l < get_or (take count area) (i + 1) 0)
-    go (no n) = inl (omega arith)
-    go (yes y) = inr (rw (add-one i) (leb-false _ _ (p.1 (suc i) 0 (omega arith) y)))
+  later_ascend : Ascends later
+  later_ascend = ascend_rest 0 later (rw all_are at s.ascend)
+
+  -- so those not above a location come first
+  pub starts_parted : (l : ℕ) → IsPartitionedBy (λ s. leb s l) later
+  starts_parted l = IsPartitionedBy-leb (λ s. s) later l (IsNonDecreasingBy-from_default (λ s. s) later 0 (rises later later_ascend))
+
+  -- and as many as there are is the segment of the location
+  pub last_start : (l i : ℕ) → i ≤ length later → IsPartitionPoint (λ s. leb s l ≡ true) (λ s. leb s l ≡ false) later i
+      → (i ≡ segment_of (take count area) l) × (i < count) × (get_or area i 0 ≤ l)
+  last_start l i h p =
+      let long : length (take count area) ≡ count = length-take-le count area s.within in
+      let more : suc (length later) ≡ count = sym (ap length all_are) ∙ long in
+      let from : get_or (0 ∷ later) i 0 ≤ l = below i h p.0 in
+      let is = segment_is (0 ∷ later) l i (rw all_are at s.ascend) (omega arith) from (go (dec_lt i (length later))) in
+      let here : get_or (0 ∷ later) i 0 ≡ get_or area i 0 = ap (λ (ss : List ℕ). get_or ss i 0) (sym all_are) ∙ get_or-take count area i 0 (omega arith) in
+      (rw all_are (sym is), omega arith, rw here at from)
+    where
+      below : (i : ℕ) → i ≤ length later → AllWithin (λ s. leb s l ≡ true) later 0 i → get_or (0 ∷ later) i 0 ≤ l
+      below zero h f = omega arith
+      below (suc j) h f = leb-true _ _ (f j 0 (omega arith) (omega arith))
+
+      go : Dec (i < length later) → (i + 1 ≡ length (0 ∷ later)) ⊎ (l < get_or (0 ∷ later) (i + 1) 0)
+      go (no n) = inl (omega arith)
+      go (yes y) = inr (rw (add-one i) (leb-false _ _ (p.1 i 0 (omega arith) y)))
 
 -- ---- split words
 

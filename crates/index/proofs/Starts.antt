@@ -56,7 +56,8 @@ pub lower_last : (words : List ℕ) (w bound : ℕ) → next_start (words ++ (w 
 unfolding next_start
 lower_last [] w bound = refl
 lower_last (v ∷ words) w bound =
-    ap (λ (rest : ℕ). cond (starts_at bound v) (min (word_stored v - 1) rest) rest) (lower_last words w bound) ∙ go (starts_at bound v) (starts_at bound w) (word_stored v - 1) (word_stored w - 1) (next_start words bound)
+    ap (λ (rest : ℕ). cond (starts_at bound v) (min (word_stored v - 1) rest) rest) (lower_last words w bound)
+    ∙ go (starts_at bound v) (starts_at bound w) (word_stored v - 1) (word_stored w - 1) (next_start words bound)
   where
     go : (x y : Bool) (m n rest : ℕ) → cond x (min m (cond y (min n rest) rest)) (cond y (min n rest) rest) ≡ cond y (min n (cond x (min m rest) rest)) (cond x (min m rest) rest)
     go true true m n rest = omega arith

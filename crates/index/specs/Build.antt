@@ -1,4 +1,4 @@
--- The index of a build. Document 01, Index: "Buckets: records divided by occupancy, rounded up, at least 1. Open and rebuild open set to 0 the index
+-- The index of a build. "Buckets: records divided by occupancy, rounded up, at least 1. Open and rebuild open set to 0 the index
 -- and filter words that their counts need; words past them are never written. .. A push takes the first empty slot, walking on from the first
 -- bucket and around."
 -- Assumes nothing.
@@ -14,7 +14,7 @@ use Rattle.records.specs.Record.{Stored, stored_at}
 use Rattle.index.specs.Walk.{bucket_walk}
 use Rattle.index.specs.Word.{word_tag, word_stored}
 
--- buckets for so many records at this occupancy; one for occupancy 0, which question 3 refuses
+-- buckets for so many records at this occupancy; one for occupancy 0, which opening refuses
 unfoldable pub buckets_for : ℕ → ℕ → ℕ
 buckets_for records occupied = cond (occupied == 0) 1 (max 1 (ceil_div records occupied))
 
@@ -73,7 +73,7 @@ unfoldable pub slot_for : (ℕ → Bool) → List ℕ → ℕ → ℕ → SlotAn
 slot_for taken index buckets h =
     cond (nat_le (8 * buckets) (length index)) (searched_all (λ b. looks taken (8 * b) (take 8 (drop (8 * b) index))) (bucket_walk h buckets)) (Err CapacityOverflow)
 
--- its answer as document 01 counts it: "Key new among the words of its tag on its walk? 4."; "A push that walks all buckets without an empty slot would
+-- its answer by its number: "Key new among the words of its tag on its walk? 4."; "A push that walks all buckets without an empty slot would
 -- also give 3, at that walk's end after 4"
 abbrev pub slot_outcome : SlotAnswer → Outcome
 slot_outcome (Ok s) = accepted s

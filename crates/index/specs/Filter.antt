@@ -1,4 +1,4 @@
--- The negative filter. Document 01: "As many 64-bit words as records × filter bits (0 to 255) need, none if either is 0. Hashes are mixed by a
+-- The negative filter: "As many 64-bit words as records × filter bits (0 to 255) need, none if either is 0. Hashes are mixed by a
 -- multiplication that wraps at 64 bits, as in `negative_filter_location`."
 -- Assumes nothing.
 use Rattle.std.specs.Prelude.{ℕ, ◌+◌, ◌-◌, ◌/◌, ◌%◌, ◌^◌, Bool, true, false, cond, List, length, ◌==◌, bit_and, bit_or, nat_le, slice_index, slice_set}

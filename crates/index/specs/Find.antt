@@ -1,5 +1,5 @@
--- Finding a record. Document 01, Negative filter: "A lookup asks after its second bucket, if neither a hit nor an empty slot came"; Packed index: "Matching
--- bytes are visited from the lowest set bit up"; questions: "An index word of the right tag whose record can't be read, stored location 0 included,
+-- Finding a record. "A lookup asks after its second bucket, if neither a hit nor an empty slot came"; "Matching
+-- bytes are visited from the lowest set bit up"; "An index word of the right tag whose record can't be read, stored location 0 included,
 -- ends a lookup with nothing".
 -- Assumes nothing.
 use Rattle.std.specs.Prelude.{ℕ, suc, ◌*◌, ◌/◌, ◌%◌, Bool, true, false, cond, not, List, [], ◌∷◌, map, length, take, drop, ◌==◌, nat_le, nat_lt, slice_index_or, Option, Some, None}

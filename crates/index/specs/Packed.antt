@@ -1,4 +1,4 @@
--- The packed index. Document 01: "One control word a bucket, then 7 bytes a slot: tag div 128 (2 bytes), location + 1 (5 bytes), little-endian. Control
+-- The packed index: "One control word a bucket, then 7 bytes a slot: tag div 128 (2 bytes), location + 1 (5 bytes), little-endian. Control
 -- byte: (tag mod 128) mod 127 + 1, empty 0, top bit the mark." The references of a bucket, 8 × 7 bytes, are just seven words.
 -- Assumes nothing.
 use Rattle.std.specs.Prelude.{ℕ, zero, suc, ◌+◌, ◌-◌, ◌*◌, ◌%◌, Bool, false, cond, List, [], ◌∷◌, ◌++◌, map, length, take, drop, ◌==◌, nat_le, slice_index, slice_set, Some, None}

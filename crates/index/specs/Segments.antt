@@ -1,4 +1,4 @@
--- Segments. Document 01: "Up to the target: one. Else each next segment starts at the lowest record location not below the last start plus target; with
+-- Segments: "Up to the target: one. Else each next segment starts at the lowest record location not below the last start plus target; with
 -- none, no more. Location becomes segment × 2^32 + offset. Start and length stand in two 256-word areas, unused words 0."
 -- Assumes nothing.
 use Rattle.std.specs.Prelude.{ℕ, zero, suc, ◌+◌, ◌-◌, ◌*◌, min, Bool, true, false, cond, List, [], ◌∷◌, ◌++◌, map, length, take, drop, replicate, ◌==◌, nat_le, nat_lt, slice_index, Result, Ok, Err}
@@ -119,7 +119,7 @@ split index buckets filled target starts lengths =
 
 -- ---- the question on locations
 
--- Questions: "Each occupied word's location below the filled bytes, stored location 0 counting as no?"
+-- "Each occupied word's location below the filled bytes, stored location 0 counting as no?"
 abbrev pub inside : ℕ → ℕ → Bool
 inside filled w = cond (w == 0) true (cond (word_stored w == 0) false (nat_le (word_stored w) filled))
 

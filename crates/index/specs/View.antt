@@ -1,5 +1,5 @@
--- The record under a stored location of a finished set. Document 01, Segments: "Location becomes segment × 2^32 + offset. Start and length stand in two
--- 256-word areas"; questions: "A segment not inside the filled arena holds no readable record."
+-- The record under a stored location of a finished set. "Location becomes segment × 2^32 + offset. Start and length stand in two
+-- 256-word areas"; "A segment not inside the filled arena holds no readable record."
 -- Assumes nothing.
 use Rattle.std.specs.Prelude.{ℕ, zero, suc, ◌+◌, ◌-◌, ◌%◌, ◌^◌, Bool, false, cond, List, length, take, nat_le, nat_lt, slice_index, Option, Some, None}
 use Rattle.hash_parts.specs.declared.setting.SegmentExpiry.{SegmentExpiry}
@@ -9,7 +9,7 @@ use Rattle.records.specs.declared.record.RecordRef.{RecordRef}
 use Rattle.index.specs.Word.{offset_part, segment_part}
 use Rattle.index.specs.declared.view.SegmentView.{SegmentView}
 
--- a record of a segment that starts at `begin`, with its location in the set and its spans in the arena. Document 02, Change 1: the end is "counted as
+-- a record of a segment that starts at `begin`, with its location in the set and its spans in the arena. The end is "counted as
 -- its own is", so by segment and offset; a number of 64 bits, which no location of a set makes wrap (`read_end` of sets' proofs)
 abbrev pub ref_moved : RecordRef → ℕ → ℕ → RecordRef
 ref_moved r location begin =

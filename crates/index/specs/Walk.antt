@@ -1,4 +1,4 @@
--- The walk over the buckets of an index. Document 01, Index: "The index is 64-bit words, eight to a bucket", "walking on from the first bucket and
+-- The walk over the buckets of an index. "The index is 64-bit words, eight to a bucket", "walking on from the first bucket and
 -- around".
 -- Assumes nothing.
 use Rattle.std.specs.Prelude.{ℕ, zero, suc, List, [], ◌∷◌, ◌++◌, take, drop}

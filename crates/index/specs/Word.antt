@@ -1,4 +1,4 @@
--- Index words. Document 01, Index: "An empty word is 0; else tag × 2^40 + location + 1, bit 63 the access mark."
+-- Index words: "An empty word is 0; else tag × 2^40 + location + 1, bit 63 the access mark."
 -- Assumes nothing.
 use Rattle.std.specs.Prelude.{ℕ, ◌+◌, ◌*◌, ◌/◌, ◌%◌, ◌^◌}
 

@@ -5,11 +5,12 @@ ghost use Rattle.hash_parts.specs.Duration.{ceil_div};
 ghost use Rattle.index.specs.Filter.{filter_word, filter_mask, bit_past, filter_marked, displaced, displaced_marked, filter_has};
 
 use crate::word::BUCKET_SLOTS;
+use hash_parts::hash::{mixed_hash, reduce_hash};
 
 const NEGATIVE_FILTER_PREFIX_BUCKETS: usize = 2;
 
 // A word of the filter, and the bits of a hash in it.
-#[derive(Clone, Copy)]
+#[derive(Clone, Copy, Debug, PartialEq, Eq)]
 pub struct FilterLocation {
     pub word: usize,
     pub mask: u64,
@@ -26,17 +27,17 @@ pub struct NegativeFilter<'a> {
 pub fn negative_filter_words(records: u32, bits_per_entry: u8) -> usize
     ensures { result ≡ ceil_div (records * bits_per_entry) 64 }
 {
-    (((records as u64) * (bits_per_entry as u64) + 63) / 64) as usize
+    (u64::from(records) * u64::from(bits_per_entry)).div_ceil(64) as usize
 }
 
 pub fn negative_filter_location(words: usize, hash: u64) -> FilterLocation
     ensures { (result.word ≡ filter_word words hash) × (result.mask ≡ filter_mask hash) × (result.word ≤ words - 1) }
 {
-    let mixed = hash_parts::hash::mixed_hash(hash);
+    let mixed = mixed_hash(hash);
     let first = hash % 64;
     let second = bit_past(first, first, (mixed >> 21) % 64);
     let third = bit_past(first, second, bit_past(first, second, (mixed >> 42) % 64));
-    let word = hash_parts::hash::reduce_hash(mixed, words);
+    let word = reduce_hash(mixed, words);
     FilterLocation {
         word,
         mask: bit(first) | bit(second) | bit(third),
@@ -44,14 +45,12 @@ pub fn negative_filter_location(words: usize, hash: u64) -> FilterLocation
 }
 
 // A bit, or the next around where it is one of two others.
+#[tactic(auto, unfolding(crate::specs::Filter::bit_past))]
 fn bit_past(a: u64, b: u64, bit: u64) -> u64
     requires { bit < 64 }
     ensures { (result ≡ bit_past a b bit) × (result < 64) }
 {
-    if bit == a {
-        return (bit + 1) % 64;
-    }
-    if bit == b {
+    if bit == a || bit == b {
         return (bit + 1) % 64;
     }
     bit
@@ -64,7 +63,8 @@ fn bit(i: u64) -> u64
     1 << i
 }
 
-// Marks a hash. Without words, or with more than the area has, nothing is marked.
+// Marks a hash. Without words, or with more than the area has, nothing is marked. The area is lent to be
+// written, so it is no NegativeFilter, which only reads.
 pub fn mark_negative_filter(filter: &mut [u64], words: usize, hash: u64)
     ensures { filter.new ≡ filter_marked filter.old words hash }
 {
@@ -74,22 +74,19 @@ pub fn mark_negative_filter(filter: &mut [u64], words: usize, hash: u64)
     if filter.len() < words {
         return;
     }
-    let location = negative_filter_location(words, hash);
-    let word = location.word;
-    filter[word] |= location.mask;
+    let FilterLocation { word, mask } = negative_filter_location(words, hash);
+    filter[word] |= mask;
 }
 
 // How many buckets past the first a slot's bucket is.
+#[tactic(auto, unfolding(crate::specs::Filter::displaced))]
 pub fn bucket_displacement(primary: usize, current: usize, buckets: usize) -> usize
     ensures { result ≡ displaced primary current buckets }
 {
     if current >= primary {
         return current - primary;
     }
-    if buckets < primary {
-        return current;
-    }
-    buckets - primary + current
+    buckets.saturating_sub(primary) + current
 }
 
 // Marks the hash of a record in a slot that is two or more buckets past its first: a lookup has by
@@ -97,7 +94,7 @@ pub fn bucket_displacement(primary: usize, current: usize, buckets: usize) -> us
 pub fn mark_displaced(filter: &mut [u64], words: usize, hash: u64, slot: usize, buckets: usize)
     ensures { filter.new ≡ displaced_marked filter.old words hash slot buckets }
 {
-    let primary = hash_parts::hash::reduce_hash(hash, buckets);
+    let primary = reduce_hash(hash, buckets);
     if bucket_displacement(primary, slot / BUCKET_SLOTS, buckets) < NEGATIVE_FILTER_PREFIX_BUCKETS {
         return;
     }
@@ -115,8 +112,7 @@ impl NegativeFilter<'_> {
         if self.words.len() < self.count {
             return true;
         }
-        let location = negative_filter_location(self.count, hash);
-        let word = location.word;
-        self.words[word] & location.mask == location.mask
+        let FilterLocation { word, mask } = negative_filter_location(self.count, hash);
+        self.words[word] & mask == mask
     }
 }

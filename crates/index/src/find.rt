@@ -33,13 +33,14 @@ pub struct FinishedIndex<'a> {
 }
 
 // A record that was found, and the slot that names it.
-#[derive(Clone, Copy)]
+#[derive(Clone, Copy, Debug, PartialEq, Eq)]
 pub struct FoundRecord {
     pub slot: usize,
     pub entry: RecordRef,
 }
 
-// What a slot or a bucket says: a hit, the end of the walk with nothing, or on.
+// What a slot or a bucket says: a hit, the end of the walk with nothing, or on. An enum of its own, since
+// `Option<Option<FoundRecord>>` would name none of the three.
 #[derive(Clone, Copy)]
 pub(crate) enum FindStep {
     Hit(FoundRecord),
@@ -153,7 +154,7 @@ fn kept_tag(packed: bool, tag: u64) -> u64
     ensures { result ≡ kept_tag packed tag }
 {
     if packed {
-        return (packed_control_tag(tag) as u64) + 128 * (packed_secondary_tag(tag) as u64);
+        return u64::from(packed_control_tag(tag)) + 128 * u64::from(packed_secondary_tag(tag));
     }
     tag
 }
@@ -210,7 +211,7 @@ impl FinishedIndex<'_> {
         ensures { result ≡ marks (candidates self.entry.packed tag self.entry.words.now bucket) }
     {
         if self.packed {
-            return tagged_bytes(self.words[bucket], packed_control_tag(tag) as u64);
+            return tagged_bytes(self.words[bucket], u64::from(packed_control_tag(tag)));
         }
         let begin = BUCKET_SLOTS * bucket;
         marks_from(passed_over(&self.words[begin..begin + BUCKET_SLOTS], tag))

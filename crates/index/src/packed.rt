@@ -39,7 +39,7 @@ fn pack_bucket(index: &mut [u64], buckets: usize, bucket: usize) -> u64
     control_word(words)
 }
 
-// Eight references of seven bytes are seven words.
+// Eight references of seven bytes are seven words, each split at another byte: so seven lines and no loop.
 fn write_references(index: &mut [u64], at: usize, words: [u64; BUCKET_SLOTS])
     requires { at + 7 ≤ length index.old }
     ensures { index.new ≡ pasted at (reference_words words) index.old }
@@ -61,7 +61,7 @@ fn packed_reference(word: u64) -> u64
     if word == 0 {
         return 0;
     }
-    (packed_secondary_tag(index_tag(word)) as u64) + index_location(word) * 0x1_0000
+    u64::from(packed_secondary_tag(index_tag(word))) + index_location(word) * 0x1_0000
 }
 
 fn control_word(words: [u64; BUCKET_SLOTS]) -> u64

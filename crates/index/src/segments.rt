@@ -13,7 +13,7 @@ use hash_parts::error::SegmentCacheBuildError;
 
 pub const MAX_RECORD_SEGMENTS: usize = 256;
 
-// Above every location.
+// Above every location: where the search for the lowest begins, so also its answer where there is none.
 const NO_START: u64 = LOCATIONS;
 
 // Splits the records under an index. Where there would be more than 256 segments only the first 256
@@ -137,10 +137,7 @@ fn start_after(index: &[u64], buckets: usize, filled: usize, target: usize, last
     if target == 0 {
         return NO_START;
     }
-    if filled <= last {
-        return NO_START;
-    }
-    if filled - last <= target {
+    if filled.saturating_sub(last) <= target {
         return NO_START;
     }
     next_start(index, buckets, (last + target) as u64)
@@ -182,10 +179,10 @@ fn split_word(word: u64, starts: &[u64], count: usize) -> u64
     encode_index_word(index_tag(word), (segment as u64) * SEGMENT_BYTES + offset)
 }
 
-// The last start that is not above a location.
+// The last start that is not above a location. The first start is not above any.
 fn find_segment(starts: &[u64], count: usize, location: u64) -> usize
     requires { StartsIn starts.now count }
     ensures { (result ≡ segment_of (take count starts.now) location) × (result < count) × (slice_index starts.now result ≤ location) }
 {
-    starts[..count].partition_point(|start| *start <= location) - 1
+    starts[1..count].partition_point(|start| *start <= location)
 }

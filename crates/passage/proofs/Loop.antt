@@ -6,15 +6,11 @@ use Prim.Native.Nat.{ℕ, ◌+◌, ◌-◌, ◌≤◌}
 use native.Mathlib.Omega.{arith}
 use borrow.Author.Tests.{leb-true, ltb-false}
 use lib.Dec.{leb, ltb}
-use lib.ListN.{length, take}
-use lib.Seq.{length-take-le}
+use lib.ListN.{length}
 use Rattle.records.specs.Area.{over, pasted}
-use Rattle.passage_lines.specs.Bytes.{first_from}
-use Rattle.passage_lines.specs.Input.{input, next_before, next_line, Kept, kept, unread, kept_unread}
-use Rattle.passage_lines.specs.Output.{Output, output, appended}
+use Rattle.passage_lines.specs.Input.{input, Kept, kept, unread, kept_unread}
+use Rattle.texts.specs.Output.{Output, output, appended}
 use Rattle.passage_lines.specs.declared.input.Input.{Input}
-use Rattle.passage_lines.specs.declared.input.NextLine.TheVariants.{Line, TooLong, Skipped, More}
-use Rattle.passage_lines.proofs.Search.{first_within}
 
 -- ---- the output
 
@@ -41,42 +37,3 @@ kept_inside block out i j e = go (ltb (length block) i.end) refl (ltb i.end i.at
     go true l u q = at_end (input 0 0 false) block q (omega arith)
     go false l true q = at_end (input 0 0 false) block q (omega arith)
     go false l false q = at_end (input 0 (i.end - i.at) i.skipping) (over (unread block i) block) q (omega (arith, ltb-false (length block) i.end l))
-
--- a line lies inside the block
-before_inside : (block : List ℕ) (at end feed from to : ℕ) (skipping : Bool) (j : Input) → at ≤ feed → feed ≤ length block → next_before at end skipping feed ≡ Line from to j
-    → (from ≤ to) × (to ≤ length block)
-before_inside block at end feed from to true j h k e = absurd (skipped (ltb feed end) e)
-  where
-    skipped : (t : Bool) → cond t (Skipped (input (feed + 1) end false)) (More (input end end true)) ≡ Line from to j → ⊥
-    skipped true q = let z : ◌≡◌ {A = ℕ} 0 1 = cc in omega arith
-    skipped false q = let z : ◌≡◌ {A = ℕ} 0 1 = cc in omega arith
-before_inside block at end feed from to false j h k e = found (ltb feed end) (ltb 8192 (end - at)) e
-  where
-    found : (t u : Bool) → cond t (Line at feed (input (feed + 1) end false)) (cond u (TooLong (input end end true)) (More (input at end false))) ≡ Line from to j
-        → (from ≤ to) × (to ≤ length block)
-    found true u q =
-        let f : at ≡ from = cc in
-        let g : feed ≡ to = cc in
-        (omega arith, omega arith)
-    found false true q = absurd (let z : ◌≡◌ {A = ℕ} 0 1 = cc in omega arith)
-    found false false q = absurd (let z : ◌≡◌ {A = ℕ} 0 1 = cc in omega arith)
-
-pub line_inside : (block : List ℕ) (i j : Input) (from to : ℕ) → next_line block i ≡ Line from to j → (from ≤ to) × (to ≤ length block)
-unfolding next_line
-line_inside block i j from to e = go (ltb (length block) i.end) refl (ltb i.end i.at) refl e
-  where
-    feed : ℕ
-    feed = first_from 10 (take i.end block) i.at
-
-    more : More (input 0 0 false) ≡ Line from to j → ⊥
-    more q = let z : ◌≡◌ {A = ℕ} 0 1 = cc in omega arith
-
-    go : (t : Bool) → ltb (length block) i.end ≡ t → (u : Bool) → ltb i.end i.at ≡ u
-        → cond t (More (input 0 0 false)) (cond u (More (input 0 0 false)) (next_before i.at i.end i.skipping feed)) ≡ Line from to j
-        → (from ≤ to) × (to ≤ length block)
-    go true l u m q = absurd (more q)
-    go false l true m q = absurd (more q)
-    go false l false m q =
-        let n : length (take i.end block) ≡ i.end = length-take-le i.end block (ltb-false (length block) i.end l) in
-        let w = first_within 10 (take i.end block) i.at (omega (arith, ltb-false i.end i.at m)) in
-        before_inside block i.at i.end feed from to i.skipping j w.0 (omega (arith, ltb-false (length block) i.end l)) q

@@ -4,7 +4,8 @@ use mathlib.Core.List.{List}
 use Prim.Native.Nat.{ℕ, ◌*◌, ◌≤◌}
 use native.Mathlib.Omega.{arith}
 use lib.ListN.{length}
-use Rattle.hash_parts.specs.declared.duration.Lifetime.{Lifetime}
+use Rattle.std.proofs.Common.{Option}
+use Rattle.hash_parts.specs.declared.duration.Duration.{Duration}
 use Rattle.hash_parts.specs.declared.setting.SegmentCacheConfig.{SegmentCacheConfig}
 use Rattle.sets.specs.Answers.{accept}
 use Rattle.sets.specs.Build.{Opened, builder_opened, after_open}
@@ -24,7 +25,7 @@ open_out Fresh records config index filter starts lengths arena n = absurd (n re
 open_out (Building b) records config index filter starts lengths arena n = refl
 open_out (Finished s) records config index filter starts lengths arena n = refl
 
-pub put_out : (s : Stage) (hash : ℕ) (key value : List ℕ) (ttl : Lifetime) (index filter arena : List ℕ) → ((b : SegmentCacheBuilder) → s ≡ Building b → ⊥)
+pub put_out : (s : Stage) (hash : ℕ) (key value : List ℕ) (ttl : Option Duration) (index filter arena : List ℕ) → ((b : SegmentCacheBuilder) → s ≡ Building b → ⊥)
     → putting s bad_text index filter arena ≡ put_step s hash key value ttl index filter arena
 unfolding put_step
 put_out Fresh hash key value ttl index filter arena n = refl

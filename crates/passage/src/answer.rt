@@ -1,126 +1,70 @@
 // Answering a line of the input.
-ghost use Rattle.std.specs.Prelude.{◌≡◌, length};
+ghost use Rattle.std.specs.Prelude.{◌≡◌, length, unwrap_or};
 ghost use Rattle.passage_lines.specs.Hex.{bytes_of_hex};
-ghost use Rattle.passage_lines.specs.Output.{appended, output};
-ghost use Rattle.passage.specs.Answer.{answered_by, areas, get_bytes, line_step, put_bytes, within};
-ghost use Rattle.passage.specs.Stage.{answer_text, got, put};
+ghost use Rattle.texts.specs.Output.{appended, output};
+ghost use Rattle.passage.specs.Answer.{get_bytes, line_step, put_bytes, within};
+ghost use Rattle.passage.specs.Stage.{after_getting, after_putting, answer_text, answered_by};
 
-use crate::stage::{Answer, Stage, Step, close_set, get_value, open_set, put_record};
-use hash_parts::duration::Lifetime;
+use crate::areas::{Areas, KeyAndValue};
+use crate::stage::{Answer, BAD, Stage};
+use hash_parts::duration::Duration;
 use passage_lines::command::{Command, parse_line};
-use passage_lines::hex::{DecodeAnswer, decode_hex};
-use passage_lines::reply::{Reply, put_reply, put_value};
-use records::record::{Span, value_slice};
+use passage_lines::hex::decode_hex;
+use passage_lines::reply::{put_reply, put_value};
+use records::record::value_slice;
 
 // What a line does and prints. The areas for key and value hold their bytes while the line is
-// answered; 4,096 bytes in each are enough for every line.
+// answered.
 pub(crate) fn answer_line(
-    stage: Stage,
+    stage: &mut Stage,
     line: &[u8],
-    key: &mut [u8],
-    value: &mut [u8],
-    index: &mut [u64],
-    filter: &mut [u64],
-    starts: &mut [u64],
-    lengths: &mut [u64],
-    scratch: &mut [u64],
-    arena: &mut [u8],
-) -> Step
-    ensures { answered_by result (areas index.new filter.new starts.new lengths.new scratch.new arena.new) ≡ line_step stage line.now (length key.old) (length value.old) (areas index.old filter.old starts.old lengths.old scratch.old arena.old) }
+    bytes: &mut KeyAndValue,
+    areas: &mut Areas,
+) -> Answer
+    ensures { answered_by stage.new result areas.new ≡ line_step stage.old line.now (length bytes.old.key) (length bytes.old.value) areas.old }
 {
     match parse_line(line) {
-        Command::Open { records, config } => open_set(
-            stage,
-            records,
-            config,
-            index,
-            filter,
-            &starts[..],
-            &lengths[..],
-            &arena[..],
-        ),
+        Command::Open { records, config } => stage.open(records, config, areas),
         Command::Put {
             hash,
-            key: key_text,
-            value: value_text,
+            key,
+            value,
             ttl,
         } => put_line(
             stage,
             hash,
-            value_slice(line, key_text),
-            value_slice(line, value_text),
+            value_slice(line, key),
+            value_slice(line, value),
             ttl,
-            key,
-            value,
-            index,
-            filter,
-            arena,
-        ),
-        Command::Close { target } => {
-            close_set(stage, target, index, starts, lengths, scratch, &arena[..])
+            bytes,
+            areas,
+        )
+        .unwrap_or(BAD),
+        Command::Close { target } => stage.close(target, areas),
+        Command::Get { hash, key, tick } => {
+            get_line(*stage, hash, value_slice(line, key), tick, bytes, areas).unwrap_or(BAD)
         }
-        Command::Get {
-            hash,
-            key: key_text,
-            tick,
-        } => Step {
-            stage,
-            answer: get_line(
-                stage,
-                hash,
-                value_slice(line, key_text),
-                tick,
-                key,
-                index,
-                &filter[..],
-                &starts[..],
-                &lengths[..],
-                &arena[..],
-            ),
-        },
-        Command::Bad => Step {
-            stage,
-            answer: Answer::Line(Reply::Bad),
-        },
+        Command::Bad => BAD,
     }
 }
 
+// None where key or value has no room, which is bad.
 fn put_line(
-    stage: Stage,
+    stage: &mut Stage,
     hash: u64,
     key_text: &[u8],
     value_text: &[u8],
-    ttl: Lifetime,
-    key: &mut [u8],
-    value: &mut [u8],
-    index: &mut [u64],
-    filter: &mut [u64],
-    arena: &mut [u8],
-) -> Step
-    ensures { put result index.new filter.new arena.new ≡ put_bytes stage hash ttl index.old filter.old arena.old (within (length key.old) (bytes_of_hex key_text.now)) (within (length value.old) (bytes_of_hex value_text.now)) }
+    ttl: Option<Duration>,
+    bytes: &mut KeyAndValue,
+    areas: &mut Areas,
+) -> Option<Answer>
+    ensures { answered_by stage.new (unwrap_or result BAD) areas.new ≡ after_putting areas.old (put_bytes stage.old hash ttl areas.old.index areas.old.filter areas.old.arena (within (length bytes.old.key) (bytes_of_hex key_text.now)) (within (length bytes.old.value) (bytes_of_hex value_text.now))) }
 {
-    let DecodeAnswer::Bytes(key_len) = decode_hex(key_text, key) else {
-        return Step {
-            stage,
-            answer: Answer::Line(Reply::Bad),
-        };
-    };
-    let DecodeAnswer::Bytes(value_len) = decode_hex(value_text, value) else {
-        return Step {
-            stage,
-            answer: Answer::Line(Reply::Bad),
-        };
-    };
-    put_record(
-        stage,
-        hash,
-        &key[0..key_len],
-        &value[0..value_len],
-        ttl,
-        index,
-        filter,
-        arena,
-    )
+    let key_len = decode_hex(key_text, &mut bytes.key)?;
+    let value_len = decode_hex(value_text, &mut bytes.value)?;
+    let key = &bytes.key[..key_len];
+    let value = &bytes.value[..value_len];
+    Some(stage.put(hash, key, value, ttl, areas))
 }
 
 fn get_line(
@@ -128,29 +72,13 @@ fn get_line(
     hash: u64,
     key_text: &[u8],
     tick: u64,
-    key: &mut [u8],
-    index: &mut [u64],
-    filter: &[u64],
-    starts: &[u64],
-    lengths: &[u64],
-    arena: &[u8],
-) -> Answer
-    ensures { got arena.now result index.new ≡ get_bytes stage hash tick index.old filter.now starts.now lengths.now arena.now (within (length key.old) (bytes_of_hex key_text.now)) }
+    bytes: &mut KeyAndValue,
+    areas: &mut Areas,
+) -> Option<Answer>
+    ensures { answered_by stage (unwrap_or result BAD) areas.new ≡ after_getting stage areas.old (get_bytes stage hash tick areas.old.index areas.old.filter areas.old.starts areas.old.lengths areas.old.arena (within (length bytes.old.key) (bytes_of_hex key_text.now))) }
 {
-    let DecodeAnswer::Bytes(key_len) = decode_hex(key_text, key) else {
-        return Answer::Line(Reply::Bad);
-    };
-    get_value(
-        stage,
-        hash,
-        &key[0..key_len],
-        tick,
-        index,
-        filter,
-        starts,
-        lengths,
-        arena,
-    )
+    let key_len = decode_hex(key_text, &mut bytes.key)?;
+    Some(stage.get(hash, &bytes.key[..key_len], tick, areas))
 }
 
 // Writes the line of an answer from a position on, and gives the position after it; where the line

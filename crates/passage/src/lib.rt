@@ -2,5 +2,8 @@
 #![tactic(auto)]
 
 mod answer;
+mod areas;
+mod output;
 pub mod program;
+mod source;
 mod stage;

@@ -1,23 +1,17 @@
 // What each command does to the set that the program builds and asks, and what it prints.
 ghost use Rattle.std.specs.Prelude.{◌≡◌};
-ghost use Rattle.passage.specs.Stage.{close_step, closed, get_step, got, open_step, opened, put, put_step};
+ghost use Rattle.passage.specs.Stage.{answered_by, after_closing, after_getting, after_opening, after_putting, close_step, get_step, open_step, put_step};
 
-use hash_parts::duration::Lifetime;
+use crate::areas::Areas;
+use hash_parts::duration::Duration;
+use hash_parts::error::SegmentCacheBuildError;
 use hash_parts::setting::SegmentCacheConfig;
+use index::view::SegmentAreas;
 use index::word::BUCKET_SLOTS;
 use passage_lines::reply::{Reply, Word};
 use records::record::Span;
-use sets::builder::{FinishAnswer, OpenAnswer, PushAnswer, SegmentCacheBuilder};
-use sets::cache::{FrozenSegmentCache, GetAnswer};
-
-// An open is in turn until one was good, put and close while a builder is open, get once the set is
-// finished.
-#[derive(Clone, Copy)]
-pub(crate) enum Stage {
-    Fresh,
-    Building(SegmentCacheBuilder),
-    Finished(FrozenSegmentCache),
-}
+use sets::builder::SegmentCacheBuilder;
+use sets::cache::FrozenSegmentCache;
 
 // What a command prints: a line, or the line of a value that stands in the arena.
 #[derive(Clone, Copy)]
@@ -26,155 +20,131 @@ pub(crate) enum Answer {
     Value(Span),
 }
 
+// To a line of another form, or out of turn.
+pub(crate) const BAD: Answer = Answer::Line(Reply::Bad);
+
+// An open is in turn until one was good, put and close while a builder is open, get once the set is
+// finished. Each command is bad and changes nothing where it is out of turn.
 #[derive(Clone, Copy)]
-pub(crate) struct Step {
-    pub stage: Stage,
-    pub answer: Answer,
+pub(crate) enum Stage {
+    Fresh,
+    Building(SegmentCacheBuilder),
+    Finished(FrozenSegmentCache),
 }
 
-// Each call below is bad and changes nothing where it is out of turn.
-pub(crate) fn open_set(
-    stage: Stage,
-    records: usize,
-    config: SegmentCacheConfig,
-    index: &mut [u64],
-    filter: &mut [u64],
-    starts: &[u64],
-    lengths: &[u64],
-    arena: &[u8],
-) -> Step
-    ensures { opened arena.now result index.new filter.new ≡ open_step stage records config index.old filter.old starts.now lengths.now arena.now }
-{
-    let Stage::Fresh = stage else {
-        return Step {
-            stage,
-            answer: Answer::Line(Reply::Bad),
+impl Stage {
+    pub(crate) fn open(
+        &mut self,
+        records: usize,
+        config: SegmentCacheConfig,
+        areas: &mut Areas,
+    ) -> Answer
+        ensures { answered_by self.new result areas.new ≡ after_opening areas.old (open_step self.old records config areas.old.index areas.old.filter areas.old.starts areas.old.lengths areas.old.arena) }
+    {
+        let Stage::Fresh = self else {
+            return BAD;
         };
-    };
-    match SegmentCacheBuilder::try_new(config, records, index, filter, starts, lengths, arena) {
-        OpenAnswer::Refused(error) => Step {
-            stage: Stage::Fresh,
-            answer: Answer::Line(Reply::Refused {
-                word: Word::Open,
-                error,
-            }),
-        },
-        OpenAnswer::Opened(builder) => Step {
-            stage: Stage::Building(builder),
-            answer: Answer::Line(Reply::Accepted {
-                word: Word::Open,
-                first: builder.bucket_count,
-                second: builder.bucket_count * BUCKET_SLOTS,
-            }),
-        },
-    }
-}
-
-pub(crate) fn put_record(
-    stage: Stage,
-    hash: u64,
-    key: &[u8],
-    value: &[u8],
-    ttl: Lifetime,
-    index: &mut [u64],
-    filter: &mut [u64],
-    arena: &mut [u8],
-) -> Step
-    ensures { put result index.new filter.new arena.new ≡ put_step stage hash key.now value.now ttl index.old filter.old arena.old }
-{
-    let Stage::Building(builder) = stage else {
-        return Step {
-            stage,
-            answer: Answer::Line(Reply::Bad),
+        let segments = SegmentAreas {
+            starts: &areas.starts,
+            lengths: &areas.lengths,
+            arena: &areas.arena,
         };
-    };
-    match builder.push(hash, key, value, ttl, index, filter, arena) {
-        PushAnswer::Refused {
-            refusal,
-            builder: kept,
-        } => Step {
-            stage: Stage::Building(kept),
-            answer: Answer::Line(Reply::Refused {
-                word: Word::Put,
-                error: refusal,
-            }),
-        },
-        PushAnswer::Pushed {
-            builder: grown,
-            slot,
-            location,
-        } => Step {
-            stage: Stage::Building(grown),
-            answer: Answer::Line(Reply::Accepted {
-                word: Word::Put,
-                first: slot,
-                second: location,
-            }),
-        },
+        match SegmentCacheBuilder::try_new(
+            config,
+            records,
+            &mut areas.index,
+            &mut areas.filter,
+            segments,
+        ) {
+            Err(error) => refused(Word::Open, error),
+            Ok(builder) => {
+                *self = Stage::Building(builder);
+                let buckets = builder.bucket_count;
+                accepted(Word::Open, buckets, buckets * BUCKET_SLOTS)
+            }
+        }
     }
-}
 
-pub(crate) fn close_set(
-    stage: Stage,
-    target: usize,
-    index: &mut [u64],
-    starts: &mut [u64],
-    lengths: &mut [u64],
-    scratch: &mut [u64],
-    arena: &[u8],
-) -> Step
-    ensures { closed arena.now result index.new starts.new lengths.new scratch.new ≡ close_step stage target index.old starts.old lengths.old scratch.old arena.now }
-{
-    let Stage::Building(builder) = stage else {
-        return Step {
-            stage,
-            answer: Answer::Line(Reply::Bad),
+    pub(crate) fn put(
+        &mut self,
+        hash: u64,
+        key: &[u8],
+        value: &[u8],
+        ttl: Option<Duration>,
+        areas: &mut Areas,
+    ) -> Answer
+        ensures { answered_by self.new result areas.new ≡ after_putting areas.old (put_step self.old hash key.now value.now ttl areas.old.index areas.old.filter areas.old.arena) }
+    {
+        let Stage::Building(builder) = self else {
+            return BAD;
         };
-    };
-    match builder.finish(target, index, starts, lengths, scratch, arena) {
-        FinishAnswer::Refused {
-            refusal,
-            builder: kept,
-        } => Step {
-            stage: Stage::Building(kept),
-            answer: Answer::Line(Reply::Refused {
-                word: Word::Close,
-                error: refusal,
-            }),
-        },
-        FinishAnswer::Finished(set) => Step {
-            stage: Stage::Finished(set),
-            answer: Answer::Line(Reply::Accepted {
-                word: Word::Close,
-                first: set.segments,
-                second: set.record_bytes,
-            }),
-        },
+        match builder.push(
+            hash,
+            key,
+            value,
+            ttl,
+            &mut areas.index,
+            &mut areas.filter,
+            &mut areas.arena,
+        ) {
+            Err(error) => refused(Word::Put, error),
+            Ok(pushed) => accepted(Word::Put, pushed.slot, pushed.location),
+        }
+    }
+
+    pub(crate) fn close(&mut self, target: usize, areas: &mut Areas) -> Answer
+        ensures { answered_by self.new result areas.new ≡ after_closing areas.old (close_step self.old target areas.old.index areas.old.starts areas.old.lengths areas.old.scratch areas.old.arena) }
+    {
+        let Stage::Building(builder) = *self else {
+            return BAD;
+        };
+        match builder.finish(
+            target,
+            &mut areas.index,
+            &mut areas.starts,
+            &mut areas.lengths,
+            &mut areas.scratch,
+            &areas.arena,
+        ) {
+            Err(error) => refused(Word::Close, error),
+            Ok(set) => {
+                *self = Stage::Finished(set);
+                accepted(Word::Close, set.segments, set.record_bytes)
+            }
+        }
+    }
+
+    pub(crate) fn get(self, hash: u64, key: &[u8], tick: u64, areas: &mut Areas) -> Answer
+        ensures { answered_by self result areas.new ≡ after_getting self areas.old (get_step self hash key.now tick areas.old.index areas.old.filter areas.old.starts areas.old.lengths areas.old.arena) }
+    {
+        let Stage::Finished(set) = self else {
+            return BAD;
+        };
+        let segments = SegmentAreas {
+            starts: &areas.starts,
+            lengths: &areas.lengths,
+            arena: &areas.arena,
+        };
+        match set.get_at_tick(hash, key, tick, &mut areas.index, &areas.filter, segments) {
+            Err(error) => refused(Word::Get, error),
+            Ok(None) => Answer::Line(Reply::Missing),
+            Ok(Some(value)) => Answer::Value(value),
+        }
     }
 }
 
-pub(crate) fn get_value(
-    stage: Stage,
-    hash: u64,
-    key: &[u8],
-    tick: u64,
-    index: &mut [u64],
-    filter: &[u64],
-    starts: &[u64],
-    lengths: &[u64],
-    arena: &[u8],
-) -> Answer
-    ensures { got arena.now result index.new ≡ get_step stage hash key.now tick index.old filter.now starts.now lengths.now arena.now }
+fn accepted(word: Word, first: usize, second: usize) -> Answer
+    ensures { result ≡ Answer.Line (Reply.Accepted word first second) }
 {
-    let Stage::Finished(set) = stage else {
-        return Answer::Line(Reply::Bad);
-    };
-    match set.get_at_tick(hash, key, tick, index, filter, starts, lengths, arena) {
-        GetAnswer::Value(span) => Answer::Value(span),
-        GetAnswer::Nothing => Answer::Line(Reply::Missing),
-        GetAnswer::Refused(error) => Answer::Line(Reply::Refused {
-            word: Word::Get,
-            error,
-        }),
-    }
+    Answer::Line(Reply::Accepted {
+        word,
+        first,
+        second,
+    })
+}
+
+fn refused(word: Word, error: SegmentCacheBuildError) -> Answer
+    ensures { result ≡ Answer.Line (Reply.Refused word error) }
+{
+    Answer::Line(Reply::Refused { word, error })
 }

@@ -1,20 +1,42 @@
 -- Laws of hexadecimal text: two digits at a time. Assumes nothing.
-use mathlib.Core.Path.{◌≡◌, refl, sym, ap, ◌∙◌}
-use mathlib.Core.Bool.{Bool, true, false, cond}
-use mathlib.Core.List.{List, [], ◌∷◌}
-use mathlib.Core.Option.{Option, none, some}
-use Prim.Native.Nat.{ℕ, suc, ◌+◌, ◌*◌, ◌-◌, ◌/◌, ◌≤◌, ◌<◌}
-use native.Mathlib.Numerals.{add-one, add-two}
-use native.Mathlib.Omega.{arith}
-use native.Mathlib.Decide.{dec_le, dec_lt}
-use borrow.Author.Tests.{lt-ltb, le-ltb, le-leb, lt-leb, eq-eqb, ne_eqb, eqb-true}
-use lib.Dec.{eqb, ltb}
-use lib.ListN.{length, get_or, drop, length-drop, drop_of_length-le}
-use lib.Seq.{drop-cons}
+use Rattle.std.proofs.Common.{◌≡◌, ℕ, suc, ◌+◌, ◌*◌, ◌/◌, ◌%◌, ◌≤◌, ◌<◌, Bool, true, false, ◌&&◌, cond, eqb, ltb}
+use Rattle.std.proofs.Common.{Option, Some, None, List, [], ◌∷◌, length, get_or, drop, refl, sym, ap, ◌∙◌, arith, drop-cons, add-one}
+use Rattle.std.specs.List.{list_all}
+use Rattle.std.specs.Option.{is_some}
+use native.Mathlib.Numerals.{add-two}
+use borrow.Author.Tests.{le-leb, lt-leb}
+use lib.ListN.{drop_of_length-le}
 use Rattle.records.specs.Area.{over}
-use Rattle.passage_lines.specs.Text.{digit_of}
-use Rattle.passage_lines.specs.declared.hex.DecodeAnswer.TheVariants.{Bytes, Refused}
-use Rattle.passage_lines.specs.Hex.{in_front, bytes_of_hex, spells, is_hex, bytes_in, hex_bytes, decode_result, decoded_to, decoded}
+use Rattle.passage_lines.specs.Text.{digit_in, digit_of}
+use Rattle.passage_lines.specs.Hex.{byte_of_hex, in_front, bytes_of_hex, spells, is_hex, bytes_in, hex_bytes, decode_result, decoded_to, decoded}
+
+-- ---- a text spells bytes where it is an even number of digits
+
+abbrev pub is_digit : ℕ → Bool
+is_digit c = is_some (digit_in 16 c)
+
+hex_more : (b : ℕ) (o : Option (List ℕ)) → spells (in_front b o) ≡ spells o
+hex_more b None = refl
+hex_more b (Some s) = refl
+
+pub is_hex_law : (text : List ℕ) → is_hex text ≡ (eqb (length text % 2) 0 && list_all is_digit text)
+unfolding is_hex bytes_of_hex digit_in
+is_hex_law [] = refl
+is_hex_law (h ∷ []) = refl
+is_hex_law (h ∷ l ∷ s) =
+    let e : suc (suc (length s)) % 2 ≡ length s % 2 = omega arith in
+    rw e (go (ltb (digit_of h) 16) (ltb (digit_of l) 16) (eqb (length s % 2) 0) (is_hex_law s))
+  where
+    go : (a b t : Bool) → spells (bytes_of_hex s) ≡ (t && list_all is_digit s)
+        → spells (cond a (cond b (in_front (digit_of h * 16 + digit_of l) (bytes_of_hex s)) None) None)
+        ≡ (t && (is_some (cond a (Some (digit_of h)) None) && (is_some (cond b (Some (digit_of l)) None) && list_all is_digit s)))
+    go true true t q = hex_more (digit_of h * 16 + digit_of l) (bytes_of_hex s) ∙ q
+    go true false true q = refl
+    go true false false q = refl
+    go false b true q = refl
+    go false b false q = refl
+
+-- ---- the bytes of a text of digits
 
 -- the text at a position where there are two characters more
 two_more : (text : List ℕ) (i : ℕ) → i + 2 ≤ length text → drop i text ≡ get_or text i 0 ∷ get_or text (i + 1) 0 ∷ drop (i + 2) text
@@ -23,106 +45,66 @@ two_more text i h =
     let b : suc i < length text = omega arith in
     rw (drop-cons text i 0 a, drop-cons text (suc i) 0 b, add-one i, add-two i)
 
-hex_more : (b : ℕ) (o : Option (List ℕ)) → spells (in_front b o) ≡ spells o
-hex_more b none = refl
-hex_more b (some s) = refl
+abbrev joined : Option ℕ → Option (List ℕ) → Option (List ℕ)
+joined None o = None
+joined (Some b) o = in_front b o
 
-module _ (text : List ℕ) (i h : ℕ) (r : i + 2 ≤ length text) (e : h ≡ digit_of (get_or text i 0)) where
-  pub high_bad : 16 ≤ h → bytes_of_hex (drop i text) ≡ none
-  unfolding bytes_of_hex
-  high_bad p = rw (two_more text i r, ← e, le-ltb h 16 p)
-
-  module _ (l : ℕ) (f : l ≡ digit_of (get_or text (i + 1) 0)) (p : h < 16) where
-    pub low_bad : 16 ≤ l → bytes_of_hex (drop i text) ≡ none
-    unfolding bytes_of_hex
-    low_bad q = rw (two_more text i r, ← e, ← f, lt-ltb h 16 p, le-ltb l 16 q)
-
-    pair_next : l < 16 → bytes_of_hex (drop i text) ≡ in_front (h * 16 + l) (bytes_of_hex (drop (i + 2) text))
-    unfolding bytes_of_hex
-    pair_next q = rw (two_more text i r, ← e, ← f, lt-ltb h 16 p, lt-ltb l 16 q)
-
-    -- two digits are taken off the front
-    pub is_hex_next : l < 16 → is_hex (drop i text) ≡ is_hex (drop (i + 2) text)
-    unfolding is_hex
-    is_hex_next q = ap spells (pair_next q) ∙ hex_more (h * 16 + l) (bytes_of_hex (drop (i + 2) text))
-
--- fewer than two characters left
-pub hex_end : (text : List ℕ) (i : ℕ) → i ≤ length text → length text - i < 2 → is_hex (drop i text) ≡ eqb i (length text)
-unfolding is_hex bytes_of_hex
-hex_end text i h k = go (drop i text) refl
+joined_is : (h l : ℕ) (s : List ℕ) → bytes_of_hex (h ∷ l ∷ s) ≡ joined (byte_of_hex h l) (bytes_of_hex s)
+unfolding bytes_of_hex byte_of_hex
+joined_is h l s = go (ltb (digit_of h) 16) (ltb (digit_of l) 16)
   where
-    go : (s : List ℕ) → drop i text ≡ s → spells (bytes_of_hex s) ≡ eqb i (length text)
-    go [] e = sym (eq-eqb i (length text) (omega (arith, length-drop i text, ap length e)))
-    go (a ∷ []) e = sym (ne_eqb i (length text) (omega (arith, length-drop i text, ap length e)))
-    go (a ∷ b ∷ s) e = absurd (omega (arith, length-drop i text, ap length e))
+    go : (a b : Bool)
+        → cond a (cond b (in_front (digit_of h * 16 + digit_of l) (bytes_of_hex s)) None) None
+        ≡ joined (cond a (cond b (Some (digit_of h * 16 + digit_of l)) None) None) (bytes_of_hex s)
+    go true true = refl
+    go true false = refl
+    go false b = refl
 
--- ---- the bytes of a text of digits
+-- the byte that the two digits at a position spell, and the bytes after it
+pub record Pair (text : List ℕ) (i : ℕ) : Type 0 where
+  pub byte : ℕ
+  pub is : byte_of_hex (get_or text i 0) (get_or text (i + 1) 0) ≡ Some byte
+  pub bytes : hex_bytes (drop i text) ≡ byte ∷ hex_bytes (drop (i + 2) text)
+  pub rest : is_hex (drop (i + 2) text) ≡ true
 
-false_true : {P : Type 0} → false ≡ true → P
-false_true e = absurd (let z : ◌≡◌ {A = ℕ} 0 1 = cc in omega arith)
-
--- a character more is two more
-pub two_left : (text : List ℕ) (i : ℕ) → is_hex (drop i text) ≡ true → i < length text → i + 2 ≤ length text
-two_left text i e h = go (dec_le (i + 2) (length text))
+pub pair : (text : List ℕ) (i : ℕ) → i + 2 ≤ length text → is_hex (drop i text) ≡ true → Pair text i
+unfolding is_hex hex_bytes
+pair text i r q = go (byte_of_hex (get_or text i 0) (get_or text (i + 1) 0)) refl (bytes_of_hex (drop (i + 2) text)) refl (sym (ap spells e) ∙ q)
   where
-    go : Dec (i + 2 ≤ length text) → i + 2 ≤ length text
-    go (yes p) = p
-    go (no n) = absurd (let q : eqb i (length text) ≡ true = sym (hex_end text i (omega arith) (omega arith)) ∙ e in omega (arith, eqb-true i (length text) q))
+    e : bytes_of_hex (drop i text) ≡ joined (byte_of_hex (get_or text i 0) (get_or text (i + 1) 0)) (bytes_of_hex (drop (i + 2) text))
+    e = ap bytes_of_hex (two_more text i r) ∙ joined_is (get_or text i 0) (get_or text (i + 1) 0) (drop (i + 2) text)
 
-module _ (text : List ℕ) (i h l : ℕ) (r : i + 2 ≤ length text) (e : h ≡ digit_of (get_or text i 0)) (f : l ≡ digit_of (get_or text (i + 1) 0)) (q : is_hex (drop i text) ≡ true) where
-  pub high_digit : h < 16
-  unfolding is_hex
-  high_digit = go (dec_lt h 16)
-    where
-      go : Dec (h < 16) → h < 16
-      go (yes p) = p
-      go (no n) = false_true (sym (ap spells (high_bad text i h r e (omega arith))) ∙ q)
-
-  pub low_digit : l < 16
-  unfolding is_hex
-  low_digit = go (dec_lt l 16)
-    where
-      go : Dec (l < 16) → l < 16
-      go (yes p) = p
-      go (no n) = false_true (sym (ap spells (low_bad text i h r e l f high_digit (omega arith))) ∙ q)
-
-  pub rest_hex : is_hex (drop (i + 2) text) ≡ true
-  rest_hex = sym (is_hex_next text i h r e l f high_digit low_digit) ∙ q
-
-  -- the byte that two digits spell, and the bytes after it
-  pub bytes_next : hex_bytes (drop i text) ≡ (h * 16 + l) ∷ hex_bytes (drop (i + 2) text)
-  unfolding hex_bytes is_hex
-  bytes_next = ap bytes_in (pair_next text i h r e l f high_digit low_digit) ∙ go (bytes_of_hex (drop (i + 2) text)) rest_hex
-    where
-      go : (o : Option (List ℕ)) → spells o ≡ true → bytes_in (in_front (h * 16 + l) o) ≡ (h * 16 + l) ∷ bytes_in o
-      go none p = false_true p
-      go (some s) p = refl
+    go : (o : Option ℕ) → byte_of_hex (get_or text i 0) (get_or text (i + 1) 0) ≡ o → (p : Option (List ℕ)) → bytes_of_hex (drop (i + 2) text) ≡ p
+        → spells (joined o p) ≡ true → Pair text i
+    go None a p b x = cc
+    go (Some n) a None b x = cc
+    go (Some n) a (Some s) b x = record { byte = n; is = a; bytes = ap bytes_in e ∙ rw (a, b); rest = rw b }
 
 pub bytes_end : (text : List ℕ) (i : ℕ) → length text ≤ i → hex_bytes (drop i text) ≡ []
 unfolding hex_bytes bytes_of_hex
 bytes_end text i h = rw (drop_of_length-le text h)
 
 -- two digits to a byte
-spelled_length : (text s : List ℕ) → bytes_of_hex text ≡ some s → length text ≡ 2 * length s
+spelled_length : (text s : List ℕ) → bytes_of_hex text ≡ Some s → length text ≡ 2 * length s
 unfolding bytes_of_hex
 spelled_length [] s e = let z : [] ≡ s = cc in omega (arith, ap length z)
-spelled_length (h ∷ []) s e = absurd (let z : ◌≡◌ {A = ℕ} 0 1 = cc in omega arith)
+spelled_length (h ∷ []) s e = cc
 spelled_length (h ∷ l ∷ t) s e = high (ltb (digit_of h) 16) (spelled_length t) e
   where
     Rest : Type 0
-    Rest = (u : List ℕ) → bytes_of_hex t ≡ some u → length t ≡ 2 * length u
+    Rest = (u : List ℕ) → bytes_of_hex t ≡ Some u → length t ≡ 2 * length u
 
-    after : (o : Option (List ℕ)) → bytes_of_hex t ≡ o → Rest → in_front (digit_of h * 16 + digit_of l) o ≡ some s → suc (suc (length t)) ≡ 2 * length s
-    after none q f r = absurd (let z : ◌≡◌ {A = ℕ} 0 1 = cc in omega arith)
-    after (some u) q f r = let z : (digit_of h * 16 + digit_of l) ∷ u ≡ s = cc in omega (arith, ap length z, f u q)
+    after : (o : Option (List ℕ)) → bytes_of_hex t ≡ o → Rest → in_front (digit_of h * 16 + digit_of l) o ≡ Some s → suc (suc (length t)) ≡ 2 * length s
+    after None q f r = cc
+    after (Some u) q f r = let z : (digit_of h * 16 + digit_of l) ∷ u ≡ s = cc in omega (arith, ap length z, f u q)
 
-    low : (b : Bool) → Rest → cond b (in_front (digit_of h * 16 + digit_of l) (bytes_of_hex t)) none ≡ some s → suc (suc (length t)) ≡ 2 * length s
+    low : (b : Bool) → Rest → cond b (in_front (digit_of h * 16 + digit_of l) (bytes_of_hex t)) None ≡ Some s → suc (suc (length t)) ≡ 2 * length s
     low true f r = after (bytes_of_hex t) refl f r
-    low false f r = absurd (let z : ◌≡◌ {A = ℕ} 0 1 = cc in omega arith)
+    low false f r = cc
 
-    high : (b : Bool) → Rest → cond b (cond (ltb (digit_of l) 16) (in_front (digit_of h * 16 + digit_of l) (bytes_of_hex t)) none) none ≡ some s → suc (suc (length t)) ≡ 2 * length s
+    high : (b : Bool) → Rest → cond b (cond (ltb (digit_of l) 16) (in_front (digit_of h * 16 + digit_of l) (bytes_of_hex t)) None) None ≡ Some s → suc (suc (length t)) ≡ 2 * length s
     high true f r = low (ltb (digit_of l) 16) f r
-    high false f r = absurd (let z : ◌≡◌ {A = ℕ} 0 1 = cc in omega arith)
+    high false f r = cc
 
 module _ (text : List ℕ) (q : is_hex text ≡ true) where
   pub bytes_length : length text ≡ 2 * length (hex_bytes text)
@@ -130,31 +112,31 @@ module _ (text : List ℕ) (q : is_hex text ≡ true) where
   bytes_length = go (bytes_of_hex text) refl q
     where
       go : (o : Option (List ℕ)) → bytes_of_hex text ≡ o → spells o ≡ true → length text ≡ 2 * length (bytes_in o)
-      go none e p = false_true p
-      go (some s) e p = spelled_length text s e
+      go None e p = cc
+      go (Some s) e p = spelled_length text s e
 
   -- ---- decoding into an area
 
-  decoded_by : (area : List ℕ) → decoded text area ≡ decoded_to area (some (hex_bytes text))
+  decoded_by : (area : List ℕ) → decoded text area ≡ decoded_to area (Some (hex_bytes text))
   unfolding is_hex hex_bytes decoded
   decoded_by area = go (bytes_of_hex text) q
     where
-      go : (o : Option (List ℕ)) → spells o ≡ true → decoded_to area o ≡ decoded_to area (some (bytes_in o))
-      go none p = false_true p
-      go (some s) p = refl
+      go : (o : Option (List ℕ)) → spells o ≡ true → decoded_to area o ≡ decoded_to area (Some (bytes_in o))
+      go None p = cc
+      go (Some s) p = refl
 
-  pub decoded_in : (area out : List ℕ) (n : ℕ) → n ≡ length text / 2 → n ≤ length area → out ≡ over (hex_bytes text) area → decode_result (Bytes n) out ≡ decoded text area
+  pub decoded_in : (area out : List ℕ) (n : ℕ) → n ≡ length text / 2 → n ≤ length area → out ≡ over (hex_bytes text) area → decode_result (Some n) out ≡ decoded text area
   decoded_in area out n e h o =
       let l : n ≡ length (hex_bytes text) = omega (arith, bytes_length) in
       rw (decoded_by area, o, l, le-leb (length (hex_bytes text)) (length area) (omega arith))
 
-  pub decoded_short : (area : List ℕ) → length area < length text / 2 → decode_result Refused area ≡ decoded text area
+  pub decoded_short : (area : List ℕ) → length area < length text / 2 → decode_result None area ≡ decoded text area
   decoded_short area h = rw (decoded_by area, lt-leb (length (hex_bytes text)) (length area) (omega (arith, bytes_length)))
 
-pub decoded_bad : (text area : List ℕ) → is_hex text ≡ false → decode_result Refused area ≡ decoded text area
+pub decoded_bad : (text area : List ℕ) → is_hex text ≡ false → decode_result None area ≡ decoded text area
 unfolding is_hex decoded
 decoded_bad text area q = go (bytes_of_hex text) q
   where
-    go : (o : Option (List ℕ)) → spells o ≡ false → decode_result Refused area ≡ decoded_to area o
-    go none p = refl
-    go (some s) p = false_true (sym p)
+    go : (o : Option (List ℕ)) → spells o ≡ false → decode_result None area ≡ decoded_to area o
+    go None p = refl
+    go (Some s) p = cc

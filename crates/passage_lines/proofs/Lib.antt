@@ -1,9 +1,7 @@
 pub mod Digits
 pub mod Example
-pub mod Forms
 pub mod Lines
 pub mod Numbers
 pub mod Replies
 pub mod Search
-pub mod Spelling
 pub mod Splitting

@@ -2,19 +2,17 @@
 use mathlib.Core.Path.{◌≡◌, refl, sym, ap, subst, ◌∙◌}
 use mathlib.Core.Bool.{Bool, true, false, cond}
 use mathlib.Core.List.{List, [], ◌∷◌, ◌++◌, map, append_assoc, append-nil}
-use mathlib.Core.Option.{Option, none, some}
+use Rattle.std.proofs.Common.{Option, Some, None}
 use Prim.Native.Nat.{ℕ, suc, ◌+◌, ◌-◌, ◌≤◌, ◌<◌}
 use native.Mathlib.Decide.{dec_lt}
-use native.Mathlib.Numerals.{add-one}
 use native.Mathlib.Omega.{arith}
 use borrow.Author.Tests.{lt-ltb, le-ltb, ne_eqb}
 use lib.Dec.{eqb, ltb}
-use lib.ListN.{length, get_or, take, drop, length-append, length-drop, drop_of_length-le}
-use lib.Seq.{drop_at, drop-cons, drop-drop, get_or-append-add, get_or-drop, get_or-take, length-take-le, take-add, take_at, take-take}
-use Rattle.records.specs.Area.{over, part}
-use Rattle.records.proofs.Area.{Writing}
+use lib.ListN.{length, take, drop, length-append, length-drop, drop_of_length-le}
+use lib.Seq.{drop_at, drop-drop, length-take-le, take-add, take_at, take-take}
+use Rattle.records.specs.Area.{part}
 use Rattle.passage_lines.specs.Bytes.{before, first_from}
-use Rattle.passage_lines.specs.Input.{input, unread, next_before, next_line, kept_unread}
+use Rattle.passage_lines.specs.Input.{input, unread, Next, next, next_before, next_line, kept_unread}
 use Rattle.passage_lines.specs.declared.input.Input.{Input}
 use Rattle.passage_lines.specs.declared.input.NextLine.{NextLine}
 use Rattle.passage_lines.specs.declared.input.NextLine.TheVariants.{Line, TooLong, Skipped, More}
@@ -32,7 +30,7 @@ lines_from seen (c ∷ s) =
 
 -- "A line [..] over 8,192 bytes [..] prints `bad`": only that it is there counts
 abbrev pub limited : List ℕ → Option (List ℕ)
-limited line = cond (ltb 8192 (length line)) none (some line)
+limited line = cond (ltb 8192 (length line)) None (Some line)
 
 -- the lines of an input
 unfoldable pub lines_of : List ℕ → List (Option (List ℕ))
@@ -50,42 +48,24 @@ abbrev pub lines_left : Bool → List ℕ → List (Option (List ℕ))
 lines_left false s = lines_of s
 lines_left true s = lines_of (after_feed s)
 
+-- what stands next in a block, before the lines of the rest
+abbrev pub stood : List ℕ → NextLine → List (Option (List ℕ)) → List (Option (List ℕ))
+stood block (Line from to) rest = limited (part from (to - from) block) ∷ rest
+stood block TooLong rest = None ∷ rest
+stood block Skipped rest = rest
+stood block More rest = rest
+
 -- the lines that a block and the input after it have, by what stands next in the block
-abbrev pub lines_by : List ℕ → List ℕ → NextLine → List (Option (List ℕ))
-lines_by block later (Line from to i) = limited (part from (to - from) block) ∷ lines_left i.skipping (unread block i ++ later)
-lines_by block later (TooLong i) = none ∷ lines_left i.skipping (unread block i ++ later)
-lines_by block later (Skipped i) = lines_left i.skipping (unread block i ++ later)
-lines_by block later (More i) = lines_left i.skipping (unread block i ++ later)
+abbrev pub lines_by : List ℕ → List ℕ → Next → List (Option (List ℕ))
+lines_by block later n = stood block n.line (lines_left n.rest.skipping (unread block n.rest ++ later))
 
 -- the line that is left where the input ends after a state that asked for more
 abbrev pub last_line : Bool → List ℕ → List (Option (List ℕ))
 last_line true s = []
-last_line false s = cond (eqb (length s) 0) [] (some s ∷ [])
-
--- ---- moving a part of an area to its front, a byte at a time
-
--- what was not written over is as it was
-over_later : (s area : List ℕ) (j : ℕ) → length s ≤ j → get_or (over s area) j 0 ≡ get_or area j 0
-over_later s area j h =
-    let e : length s + (j - length s) ≡ j = omega arith in
-    ap (λ (n : ℕ). get_or (over s area) n 0) (sym e)
-    ∙ get_or-append-add s (drop (length s) area) (j - length s) 0
-    ∙ get_or-drop (length s) area (j - length s) 0
-    ∙ ap (λ (n : ℕ). get_or area n 0) e
+last_line false s = cond (eqb (length s) 0) [] (Some s ∷ [])
 
 pub part_length : (at count : ℕ) (area : List ℕ) → at + count ≤ length area → length (part at count area) ≡ count
 part_length at count area h = length-take-le count (drop at area) (omega (arith, length-drop at area))
-
-pub moved : (at count i : ℕ) (area block : List ℕ) → at + count ≤ length area → i < count → Writing (part at count area) (drop i (part at count area)) area block i
-    → drop i (part at count area) ≡ get_or block (at + i) 0 ∷ drop (i + 1) (part at count area)
-moved at count i area block h l w =
-    let p : List ℕ = part at count area in
-    let k : i < length p = omega (arith, part_length at count area h) in
-    let b : get_or block (at + i) 0 ≡ get_or p i 0 =
-    ap (λ (o : List ℕ). get_or o (at + i) 0) w.list
-    ∙ over_later w.done area (at + i) (omega (arith, w.count))
-    ∙ sym (get_or-take count (drop at area) i 0 l ∙ get_or-drop at area i 0) in
-    drop-cons p i 0 k ∙ rw (b, add-one i)
 
 -- ---- the lines of an input, by its next line feed
 
@@ -135,13 +115,13 @@ after_feed_law (c ∷ s) later h = go (eqb c 10) h (after_feed_law s later)
     go false h f = f (omega arith)
 
 -- a line that is over the limit already
-lines_long : (seen later : List ℕ) → 8192 < length seen → map limited (lines_from seen later) ≡ none ∷ lines_of (after_feed later)
+lines_long : (seen later : List ℕ) → 8192 < length seen → map limited (lines_from seen later) ≡ None ∷ lines_of (after_feed later)
 unfolding lines_from lines_of after_feed
 lines_long seen [] h = rw (ne_eqb (length seen) 0 (omega arith), lt-ltb 8192 (length seen) h)
 lines_long seen (c ∷ s) h = go (eqb c 10) (lines_long (seen ++ (c ∷ [])) s)
   where
-    go : (t : Bool) → (8192 < length (seen ++ (c ∷ [])) → map limited (lines_from (seen ++ (c ∷ [])) s) ≡ none ∷ map limited (lines_from [] (after_feed s)))
-        → map limited (cond t (seen ∷ lines_from [] s) (lines_from (seen ++ (c ∷ [])) s)) ≡ none ∷ map limited (lines_from [] (cond t s (after_feed s)))
+    go : (t : Bool) → (8192 < length (seen ++ (c ∷ [])) → map limited (lines_from (seen ++ (c ∷ [])) s) ≡ None ∷ map limited (lines_from [] (after_feed s)))
+        → map limited (cond t (seen ∷ lines_from [] s) (lines_from (seen ++ (c ∷ [])) s)) ≡ None ∷ map limited (lines_from [] (cond t s (after_feed s)))
     go true f = rw (lt-ltb 8192 (length seen) h)
     go false f = f (omega (arith, length-append seen (c ∷ [])))
 
@@ -166,6 +146,11 @@ module _ (block later : List ℕ) (at end : ℕ) (h : at ≤ end) (k : end ≤ l
   feed_is : first_from 10 (take end block) at ≡ feed
   unfolding first_from feed bytes
   feed_is = ap (λ (s : List ℕ). at + length (before 10 s)) (drop_take at end block h k)
+
+  -- where the next line feed stands
+  pub feed_at : first_from 10 (take end block) at ≡ at + length (before 10 (part at (end - at) block))
+  unfolding feed bytes
+  feed_at = feed_is
 
   -- what is unread after some bytes more
   rest_is : (p j : ℕ) → p ≡ at + j → j ≤ end - at → part p (end - p) block ≡ drop j bytes
@@ -205,7 +190,7 @@ module _ (block later : List ℕ) (at end : ℕ) (h : at ≤ end) (k : end ≤ l
   line_next = go (dec_lt (length (before 10 bytes)) (length bytes))
     where
       plain : length bytes ≤ length (before 10 bytes) → Dec (8192 < end - at)
-          → map limited (lines_from [] (bytes ++ later)) ≡ lines_by block later (cond (ltb 8192 (end - at)) (TooLong (input end end true)) (More (input at end false)))
+          → map limited (lines_from [] (bytes ++ later)) ≡ lines_by block later (cond (ltb 8192 (end - at)) (next TooLong (input end end true)) (next More (input at end false)))
       plain p (yes l) = rw (lt-ltb 8192 (end - at) l, none_left) (ap (map limited) (lines_plain [] bytes later p) ∙ lines_long bytes later (omega (arith, bytes_length)))
       plain p (no n) = rw (le-ltb 8192 (end - at) (omega arith))
 
@@ -231,37 +216,33 @@ module _ (block later : List ℕ) (at end : ℕ) (h : at ≤ end) (k : end ≤ l
   line_last p l =
       ap (λ (s : List ℕ). map limited (lines_from [] s)) (sym (append-nil bytes)) ∙ ap (map limited) (lines_plain [] bytes [] p) ∙ go (eqb (length bytes) 0)
     where
-      go : (t : Bool) → map limited (cond t [] (bytes ∷ [])) ≡ cond t [] (some bytes ∷ [])
+      go : (t : Bool) → map limited (cond t [] (bytes ∷ [])) ≡ cond t [] (Some bytes ∷ [])
       go true = refl
       go false = rw (le-ltb 8192 (length bytes) (omega (arith, bytes_length)))
 
-  last_by : (t : Bool) (j : Input) → next_before at end t feed ≡ More j → Last j
+  last_by : (t : Bool) (j : Input) → next_before at end t feed ≡ next More j → Last j
   unfolding feed
   last_by t j e = go t (dec_lt (length (before 10 bytes)) (length bytes)) e
     where
-      plain : length bytes ≤ length (before 10 bytes) → Dec (8192 < end - at) → cond (ltb 8192 (end - at)) (TooLong (input end end true)) (More (input at end false)) ≡ More j → Last j
-      plain p (yes l) e = absurd (let q : TooLong (input end end true) ≡ More j = rw (lt-ltb 8192 (end - at) l) at e in let z : ◌≡◌ {A = ℕ} 0 1 = cc in omega arith)
+      plain : length bytes ≤ length (before 10 bytes) → Dec (8192 < end - at) → cond (ltb 8192 (end - at)) (next TooLong (input end end true)) (next More (input at end false)) ≡ next More j → Last j
+      plain p (yes l) e = let q : next TooLong (input end end true) ≡ next More j = rw (lt-ltb 8192 (end - at) l) at e in let z : TooLong ≡ More = ap (λ (n : Next). n.line) q in cc
       plain p (no n) e =
-          let q : More (input at end false) ≡ More j = rw (le-ltb 8192 (end - at) (omega arith)) at e in
-          let r : input at end false ≡ j = cc in
+          let q : next More (input at end false) ≡ next More j = rw (le-ltb 8192 (end - at) (omega arith)) at e in
+          let r : input at end false ≡ j = ap (λ (n : Next). n.rest) q in
           subst Last r (line_last p (omega arith))
 
-      go : (t : Bool) → Dec (length (before 10 bytes) < length bytes) → next_before at end t (at + length (before 10 bytes)) ≡ More j → Last j
+      go : (t : Bool) → Dec (length (before 10 bytes) < length bytes) → next_before at end t (at + length (before 10 bytes)) ≡ next More j → Last j
       go true (yes l) e =
-          absurd
-          (let q : Skipped (input (at + length (before 10 bytes) + 1) end false) ≡ More j = rw (lt-ltb (at + length (before 10 bytes)) end (omega (arith, bytes_length))) at e in
-          let z : ◌≡◌ {A = ℕ} 0 1 = cc in
-          omega arith)
+          let q : next Skipped (input (at + length (before 10 bytes) + 1) end false) ≡ next More j = rw (lt-ltb (at + length (before 10 bytes)) end (omega (arith, bytes_length))) at e in
+          let z : Skipped ≡ More = ap (λ (n : Next). n.line) q in cc
       go true (no n) e =
-          let q : More (input end end true) ≡ More j = rw (le-ltb (at + length (before 10 bytes)) end (omega (arith, bytes_length))) at e in
-          let r : input end end true ≡ j = cc in
+          let q : next More (input end end true) ≡ next More j = rw (le-ltb (at + length (before 10 bytes)) end (omega (arith, bytes_length))) at e in
+          let r : input end end true ≡ j = ap (λ (n : Next). n.rest) q in
           subst Last r skip_last
       go false (yes l) e =
-          absurd
-          (let q : Line at (at + length (before 10 bytes)) (input (at + length (before 10 bytes) + 1) end false) ≡ More j =
+          let q : next (Line at (at + length (before 10 bytes))) (input (at + length (before 10 bytes) + 1) end false) ≡ next More j =
           rw (lt-ltb (at + length (before 10 bytes)) end (omega (arith, bytes_length))) at e in
-          let z : ◌≡◌ {A = ℕ} 0 1 = cc in
-          omega arith)
+          let z : Line at (at + length (before 10 bytes)) ≡ More = ap (λ (n : Next). n.line) q in cc
       go false (no n) e = plain (omega arith) (dec_lt 8192 (end - at)) (rw (le-ltb (at + length (before 10 bytes)) end (omega (arith, bytes_length))) at e)
 
 -- what stands next in a block is what the input has next, whatever input comes later
@@ -286,7 +267,7 @@ lines_kept block i h k =
     (take_at (unread block i) (drop (length (unread block i)) block) n (part_length i.at n block (omega arith)), refl)
 
 -- where the input ends after a state that asked for more, its unread bytes are the last line
-pub lines_last : (block : List ℕ) (i j : Input) → i.at ≤ i.end → i.end ≤ length block → next_line block i ≡ More j
+pub lines_last : (block : List ℕ) (i j : Input) → i.at ≤ i.end → i.end ≤ length block → next_line block i ≡ next More j
     → lines_left j.skipping (unread block j) ≡ last_line j.skipping (unread block j)
 unfolding next_line
 lines_last block i j h k e =

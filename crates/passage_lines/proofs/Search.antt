@@ -1,34 +1,12 @@
 -- Laws of looking for a byte. Assumes nothing.
-use mathlib.Core.Path.{◌≡◌, refl, ap}
-use mathlib.Core.Bool.{Bool, true, false, cond}
-use mathlib.Core.List.{List, [], ◌∷◌}
-use Prim.Native.Nat.{ℕ, suc, ◌+◌, ◌≤◌, ◌<◌}
-use native.Mathlib.Numerals.{add-one}
-use native.Mathlib.Omega.{arith}
-use borrow.Author.Tests.{eq-eqb, ne_eqb}
-use lib.Dec.{eqb}
-use lib.ListN.{length, get_or, take, drop, length-drop, drop_of_length-le}
-use lib.Seq.{drop-cons}
+use Rattle.std.proofs.Common.{◌≡◌, ℕ, suc, ◌+◌, ◌≤◌, ◌<◌, Bool, true, false, cond, eqb, ltb, Option, Some, None, List, [], ◌∷◌, length, take, drop, unwrap_or, refl, sym, ap, arith, length-drop}
+use Rattle.std.specs.List.{position, position_or_len}
+use Rattle.std.proofs.lemmas.List.Recursion.{is_position_or_len}
+use borrow.Author.Tests.{ltb-true, ltb-false}
 use Rattle.passage_lines.specs.Bytes.{before, first_from}
 
--- ---- a byte at a time
-
-module _ (byte : ℕ) (s : List ℕ) (i : ℕ) where
-  pub first_here : i < length s → get_or s i 0 ≡ byte → i ≡ first_from byte s i
-  unfolding first_from before
-  first_here h e = rw (drop-cons s i 0 h, eq-eqb (get_or s i 0) byte e) (omega arith)
-
-  pub first_later : i < length s → (get_or s i 0 ≡ byte → ⊥) → first_from byte s (i + 1) ≡ first_from byte s i
-  unfolding first_from before
-  first_later h e = rw (drop-cons s i 0 h, ne_eqb (get_or s i 0) byte e, add-one i) (omega arith)
-
-  pub first_none : length s ≤ i → i ≡ first_from byte s i
-  unfolding first_from before
-  first_none h = rw (drop_of_length-le s h) (omega arith)
-
--- ---- what stands before the byte is the front
-
 module _ (byte : ℕ) where
+  -- what stands before the byte is the front
   pub before_front : (s : List ℕ) → before byte s ≡ take (length (before byte s)) s
   unfolding before
   before_front [] = refl
@@ -50,3 +28,40 @@ module _ (byte : ℕ) where
   pub first_within : (s : List ℕ) (at : ℕ) → at ≤ length s → (at ≤ first_from byte s at) × (first_from byte s at ≤ length s)
   unfolding first_from
   first_within s at h = (omega arith, omega (arith, before_within (drop at s), length-drop at s))
+
+  -- ---- what stands before the byte, by where it was found
+
+  length-before : (s : List ℕ) → length (before byte s) ≡ position_or_len (λ c. eqb c byte) s
+  unfolding before
+  length-before = is_position_or_len (λ (t : List ℕ). length (before byte t)) (λ c. eqb c byte) refl step
+    where
+      step : (c : ℕ) (t : List ℕ) → length (cond (eqb c byte) [] (c ∷ before byte t)) ≡ cond (eqb c byte) 0 (1 + length (before byte t))
+      step c t = go (eqb c byte)
+        where
+          go : (b : Bool) → length (cond b [] (c ∷ before byte t)) ≡ cond b 0 (1 + length (before byte t))
+          go true = refl
+          go false = omega arith
+
+  pub before_found : (s : List ℕ) (i : ℕ) → position (λ c. eqb c byte) s ≡ Some i → (length (before byte s) ≡ i) × (i < length s)
+  before_found s i e = go (ltb n (length s)) refl e
+    where
+      n : ℕ
+      n = position_or_len (λ c. eqb c byte) s
+
+      go : (t : Bool) → ltb n (length s) ≡ t → cond t (Some n) None ≡ Some i → (length (before byte s) ≡ i) × (i < length s)
+      go true l q = let z : n ≡ i = cc in (omega (arith, length-before s), omega (arith, ltb-true _ _ l))
+      go false l q = cc
+
+  pub before_none : (s : List ℕ) → position (λ c. eqb c byte) s ≡ None → length (before byte s) ≡ length s
+  before_none s e = go (ltb n (length s)) refl e
+    where
+      n : ℕ
+      n = position_or_len (λ c. eqb c byte) s
+
+      go : (t : Bool) → ltb n (length s) ≡ t → cond t (Some n) None ≡ None → length (before byte s) ≡ length s
+      go true l q = cc
+      go false l q = omega (arith, length-before s, before_within s, ltb-false _ _ l)
+
+  pub before_or_all : (s : List ℕ) (r : Option ℕ) → r ≡ position (λ c. eqb c byte) s → unwrap_or r (length s) ≡ length (before byte s)
+  before_or_all s None e = sym (before_none s (sym e))
+  before_or_all s (Some i) e = sym (before_found s i (sym e)).0

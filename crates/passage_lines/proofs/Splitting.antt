@@ -2,7 +2,7 @@
 use mathlib.Core.Path.{◌≡◌, sym, ap, ap₂, ◌∙◌}
 use mathlib.Core.Bool.{Bool, true, false, cond}
 use mathlib.Core.List.{List, [], ◌∷◌, ◌++◌, append_assoc, append-nil}
-use Prim.Native.Nat.{ℕ, suc, ◌+◌, ◌-◌, ◌≤◌, ◌<◌}
+use Prim.Native.Nat.{ℕ, suc, ◌+◌, ◌≤◌, ◌<◌}
 use native.Mathlib.Decide.{dec_lt}
 use native.Mathlib.Numerals.{add-one}
 use native.Mathlib.Omega.{arith}
@@ -10,7 +10,7 @@ use borrow.Author.Tests.{le-leb, lt-leb}
 use lib.Dec.{eqb, leb, leb-zero}
 use lib.ListN.{length, take, drop, length-append, length-drop, drop_of_length-le}
 use lib.Seq.{drop-cons, drop-drop}
-use Rattle.passage_lines.specs.Bytes.{before, first_from}
+use Rattle.passage_lines.specs.Bytes.{before}
 use Rattle.passage_lines.specs.Fields.{Field, field, split, fields_of, fields_at}
 use Rattle.passage_lines.proofs.Search.{before_front, before_within}
 
@@ -48,19 +48,18 @@ after_is line p h = go (dec_lt p (length line))
         let e : length line ≤ p = omega arith in
         rw (drop_of_length-le line e, lt-leb (p + 1) (length line) (omega arith))
 
-module _ (line : List ℕ) (at : ℕ) (h : at ≤ length line) where
-  -- the field at a position, and the fields after its space
-  pub fields_at_law : fields_at line at ≡ field at (take (first_from 32 line at - at) (drop at line)) ∷ fields_at line (first_from 32 line at + 1)
-  unfolding first_from fields_at
-  fields_at_law =
-      let n : ℕ = length (before 32 (drop at line)) in
-      let e : at + n - at ≡ n = omega arith in
-      let w : n ≤ length (drop at line) = before_within 32 (drop at line) in
-      let z : at + 0 + n ≡ at + n = omega arith in
-      rw (le-leb at (length line) h, e)
-      (split_field at [] (drop at line)
-      ∙ ap₂ (λ (t : List ℕ) (fs : List Field). field at t ∷ fs) (before_front 32 (drop at line))
-      (ap₂ after z (drop-drop n at line) ∙ after_is line (at + n) (omega (arith, length-drop at line))))
+-- the field at a position, up to its end, and the fields after its space
+pub fields_more : (line : List ℕ) (at n : ℕ) → at ≤ length line → n ≡ length (before 32 (drop at line))
+    → fields_at line at ≡ field at (take n (drop at line)) ∷ fields_at line (at + (n + 1))
+unfolding fields_at
+fields_more line at n h e =
+    let w : n ≤ length (drop at line) = omega (arith, before_within 32 (drop at line)) in
+    let z : at + 0 + n ≡ at + n = omega arith in
+    let y : at + n + 1 ≡ at + (n + 1) = omega arith in
+    rw (le-leb at (length line) h)
+    (split_field at [] (drop at line)
+    ∙ rw (← e, z, drop-drop n at line) (ap₂ (λ (t : List ℕ) (fs : List Field). field at t ∷ fs) (before_front 32 (drop at line) ∙ ap (λ (k : ℕ). take k (drop at line)) (sym e))
+    (after_is line (at + n) (omega (arith, length-drop at line)) ∙ ap (fields_at line) y)))
 
 pub fields_none : (line : List ℕ) (at : ℕ) → length line < at → fields_at line at ≡ []
 unfolding fields_at

@@ -1,12 +1,9 @@
--- What a line says. Document 01, Program `passage`: "In: `open` records occupancy layout filter-bits tick-length; `put` hash key value
+-- What a line says: "In: `open` records occupancy layout filter-bits tick-length; `put` hash key value
 -- lifetime; `close` target; `get` hash key tick. [..] A line of another form, over 8,192 bytes, with a number past its width [..] prints `bad`."
 -- Assumes nothing.
-use Rattle.std.specs.Prelude.{ℕ, Bool, cond, List, [], ◌∷◌, ltb, length}
-use Rattle.std.proofs.Math.Option.{Option, none, some}
+use Rattle.std.specs.Prelude.{ℕ, Bool, cond, Option, Some, None, List, [], ◌∷◌, ltb, length, bytes_eq, codes}
 use Rattle.hash_parts.specs.declared.setting.SegmentCacheConfig.{SegmentCacheConfig}
 use Rattle.hash_parts.specs.declared.setting.SegmentExpiry.{SegmentExpiry}
-use Rattle.records.specs.Area.{same_bytes}
-use Rattle.passage_lines.specs.Ascii.{ascii}
 use Rattle.passage_lines.specs.Fields.{Field, fields_of, decimal, hash, bytes, layout, tick_length, lifetime}
 use Rattle.passage_lines.specs.declared.command.Command.{Command}
 use Rattle.passage_lines.specs.declared.command.Command.TheVariants.{Open, Put, Close, Get, Bad}
@@ -14,8 +11,8 @@ use Rattle.passage_lines.specs.declared.command.Command.TheVariants.{Open, Put, 
 -- ---- forms
 
 abbrev pub given : {A : Type 0} → Option A → (A → Command) → Command
-given none f = Bad
-given (some v) f = f v
+given None f = Bad
+given (Some v) f = f v
 
 -- a field of a kind, and then the form that its value asks for
 unfoldable pub next : {A : Type 0} → (Field → Option A) → (A → List Field → Command) → List Field → Command
@@ -55,10 +52,10 @@ get_form = next hash λ h. next bytes λ key. next (decimal 64) λ tick. done (G
 -- the form that a word asks for
 unfoldable pub word_form : List ℕ → List Field → Command
 word_form word fields =
-    cond (same_bytes word (ascii "open")) (open_form fields)
-    (cond (same_bytes word (ascii "put")) (put_form fields)
-    (cond (same_bytes word (ascii "close")) (close_form fields)
-    (cond (same_bytes word (ascii "get")) (get_form fields) Bad)))
+    cond (bytes_eq word (codes "open")) (open_form fields)
+    (cond (bytes_eq word (codes "put")) (put_form fields)
+    (cond (bytes_eq word (codes "close")) (close_form fields)
+    (cond (bytes_eq word (codes "get")) (get_form fields) Bad)))
 
 abbrev pub command_in : List Field → Command
 command_in [] = Bad

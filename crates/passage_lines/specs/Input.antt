@@ -14,18 +14,26 @@ input at end skipping = record { at = at; end = end; skipping = skipping }
 abbrev pub unread : List ℕ → Input → List ℕ
 unread block i = part i.at (i.end - i.at) block
 
+-- what stands next, and what is unread after it
+pub record Next : Type 0 where
+  pub line : NextLine
+  pub rest : Input
+
+abbrev pub next : NextLine → Input → Next
+next line rest = record { line = line; rest = rest }
+
 -- the next line, by where the next line feed stands
-abbrev pub next_before : ℕ → ℕ → Bool → ℕ → NextLine
-next_before at end true feed = cond (ltb feed end) (Skipped (input (feed + 1) end false)) (More (input end end true))
+abbrev pub next_before : ℕ → ℕ → Bool → ℕ → Next
+next_before at end true feed = cond (ltb feed end) (next Skipped (input (feed + 1) end false)) (next More (input end end true))
 next_before at end false feed =
-    cond (ltb feed end) (Line at feed (input (feed + 1) end false))
-    (cond (ltb 8192 (end - at)) (TooLong (input end end true)) (More (input at end false)))
+    cond (ltb feed end) (next (Line at feed) (input (feed + 1) end false))
+    (cond (ltb 8192 (end - at)) (next TooLong (input end end true)) (next More (input at end false)))
 
 -- the next line of a block; a state that points outside the block has nothing unread
-unfoldable pub next_line : List ℕ → Input → NextLine
+unfoldable pub next_line : List ℕ → Input → Next
 next_line block i =
-    cond (ltb (length block) i.end) (More (input 0 0 false))
-    (cond (ltb i.end i.at) (More (input 0 0 false))
+    cond (ltb (length block) i.end) (next More (input 0 0 false))
+    (cond (ltb i.end i.at) (next More (input 0 0 false))
     (next_before i.at i.end i.skipping (first_from 10 (take i.end block) i.at)))
 
 -- what moving the unread bytes to the front leaves

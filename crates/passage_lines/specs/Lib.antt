@@ -1,9 +1,7 @@
-pub mod Ascii
 pub mod Bytes
 pub mod Command
 pub mod Fields
 pub mod Hex
 pub mod Input
-pub mod Output
 pub mod Reply
 pub mod Text

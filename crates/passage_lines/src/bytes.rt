@@ -1,18 +1,8 @@
 // Looking for a byte.
-ghost use Rattle.std.specs.Prelude.{◌≡◌, ◌≤◌, length};
-ghost use Rattle.passage_lines.specs.Bytes.{first_from};
+ghost use Rattle.std.specs.Prelude.{◌≡◌, ◌==◌, position};
 
-// Where a byte stands first from a position on, and the end where it does not.
-pub(crate) fn find_byte(bytes: &[u8], from: usize, byte: u8) -> usize
-    requires { from ≤ length bytes.now }
-    ensures { (result ≡ first_from byte bytes.now from) × (from ≤ result) × (result ≤ length bytes.now) }
+pub(crate) fn find_byte(bytes: &[u8], byte: u8) -> Option<usize>
+    ensures { result ≡ position (λ b. b == byte) bytes.now }
 {
-    let mut i = from;
-    while i < bytes.len() {
-        if bytes[i] == byte {
-            return i;
-        }
-        i += 1;
-    }
-    i
+    bytes.iter().position(|b| *b == byte)
 }

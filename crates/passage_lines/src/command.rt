@@ -1,22 +1,19 @@
 // What a line of the input asks for.
-ghost use Rattle.std.specs.Prelude.{◌≡◌};
-ghost use Rattle.passage_lines.specs.Command.{close_form, command_of, get_form, open_form, put_form, setting_form, word_form};
-ghost use Rattle.passage_lines.specs.Fields.{fields_at};
+ghost use Rattle.std.specs.Prelude.{◌≡◌, unwrap_or};
+ghost use Rattle.passage_lines.specs.Command.{close_form, command_in, command_of, get_form, open_form, put_form, setting_form};
+ghost use Rattle.passage_lines.specs.Fields.{fields_left};
 
-use crate::bytes::find_byte;
-use crate::fields::{
-    BytesField, LayoutField, LifetimeField, NumberField, TickField, bytes_field, layout_field,
-    lifetime_field, number_field, tick_field,
-};
-use hash_parts::duration::Lifetime;
+use crate::fields::{Fields, parse_bytes};
+use crate::text::{parse_layout, parse_lifetime, parse_number, parse_tick_length};
+use hash_parts::duration::Duration;
 use hash_parts::setting::SegmentCacheConfig;
-use records::record::{Span, same_bytes};
+use records::record::Span;
 
 // A longer line is bad.
 pub(crate) const MAX_LINE_BYTES: usize = 8_192;
 
 // The spans are the parts of the line that spell key and value, of length 0 for `-`.
-#[derive(Clone, Copy)]
+#[derive(Clone, Copy, Debug, PartialEq, Eq)]
 pub enum Command {
     Open {
         records: usize,
@@ -26,7 +23,7 @@ pub enum Command {
         hash: u64,
         key: Span,
         value: Span,
-        ttl: Lifetime,
+        ttl: Option<Duration>,
     },
     Close {
         target: usize,
@@ -40,127 +37,97 @@ pub enum Command {
 }
 
 // The command of a line, given without its line feed.
+#[tactic(auto, unfolding(crate::specs::Command::command_of))]
 pub fn parse_line(line: &[u8]) -> Command
     ensures { result ≡ command_of line.now }
 {
     if line.len() > MAX_LINE_BYTES {
         return Command::Bad;
     }
-    let end = find_byte(line, 0, b' ');
-    parse_word(&line[0..end], line, end + 1)
+    parse_fields(Fields::of(line)).unwrap_or(Command::Bad)
 }
 
-// The command of a line that begins with a word and goes on at a position.
-fn parse_word(word: &[u8], line: &[u8], at: usize) -> Command
-    ensures { result ≡ word_form word.now (fields_at line.now at) }
+// What the fields of a line ask for, the first of which is its word.
+#[tactic(auto, unfolding(crate::specs::Command::word_form))]
+fn parse_fields(mut fields: Fields) -> Option<Command>
+    ensures { unwrap_or result Command.Bad ≡ command_in (fields_left fields.entry) }
 {
-    if same_bytes(word, b"open") {
-        return parse_open(line, at);
+    let word = fields.next()?.text;
+    if word == b"open".as_slice() {
+        return parse_open(fields);
     }
-    if same_bytes(word, b"put") {
-        return parse_put(line, at);
+    if word == b"put".as_slice() {
+        return parse_put(fields);
     }
-    if same_bytes(word, b"close") {
-        return parse_close(line, at);
+    if word == b"close".as_slice() {
+        return parse_close(fields);
     }
-    if same_bytes(word, b"get") {
-        return parse_get(line, at);
+    if word == b"get".as_slice() {
+        return parse_get(fields);
     }
-    Command::Bad
+    None
 }
 
-fn parse_open(line: &[u8], at: usize) -> Command
-    ensures { result ≡ open_form (fields_at line.now at) }
+#[tactic(auto, unfolding(crate::specs::Command::next, crate::specs::Command::done, crate::specs::Command::open_form))]
+fn parse_open(mut fields: Fields) -> Option<Command>
+    ensures { unwrap_or result Command.Bad ≡ open_form (fields_left fields.entry) }
 {
-    let NumberField::Value(records, next) = number_field(line, at, 10, u64::MAX) else {
-        return Command::Bad;
-    };
-    parse_setting(line, next, records as usize)
+    let records = parse_number(fields.next()?.text, 10, u64::MAX)?;
+    parse_setting(fields, records as usize)
 }
 
-fn parse_setting(line: &[u8], at: usize, records: usize) -> Command
-    ensures { result ≡ setting_form records (fields_at line.now at) }
+#[tactic(auto, unfolding(crate::specs::Command::next, crate::specs::Command::done, crate::specs::Command::setting_form))]
+fn parse_setting(mut fields: Fields, records: usize) -> Option<Command>
+    ensures { unwrap_or result Command.Bad ≡ setting_form records (fields_left fields.entry) }
 {
-    let NumberField::Value(occupancy, layout_at) = number_field(line, at, 10, 255) else {
-        return Command::Bad;
-    };
-    let LayoutField::Packed(packed, filter_at) = layout_field(line, layout_at) else {
-        return Command::Bad;
-    };
-    let NumberField::Value(filter, tick_at) = number_field(line, filter_at, 10, 255) else {
-        return Command::Bad;
-    };
-    let TickField::Of(expiry, end) = tick_field(line, tick_at) else {
-        return Command::Bad;
-    };
-    if end <= line.len() {
-        return Command::Bad;
-    }
-    Command::Open {
+    let occupancy = parse_number(fields.next()?.text, 10, 255)?;
+    let packed_bucket_index = parse_layout(fields.next()?.text)?;
+    let filter = parse_number(fields.next()?.text, 10, 255)?;
+    let expiry = parse_tick_length(fields.next()?.text)?;
+    fields.next().is_none().then_some(Command::Open {
         records,
         config: SegmentCacheConfig {
             expiry,
             target_occupied_slots: occupancy as u8,
-            packed_bucket_index: packed,
+            packed_bucket_index,
             negative_filter_bits_per_entry: filter as u8,
         },
-    }
+    })
 }
 
-fn parse_put(line: &[u8], at: usize) -> Command
-    ensures { result ≡ put_form (fields_at line.now at) }
+#[tactic(auto, unfolding(crate::specs::Command::next, crate::specs::Command::done, crate::specs::Command::put_form))]
+fn parse_put(mut fields: Fields) -> Option<Command>
+    ensures { unwrap_or result Command.Bad ≡ put_form (fields_left fields.entry) }
 {
-    let NumberField::Value(hash, key_at) = number_field(line, at, 16, u64::MAX) else {
-        return Command::Bad;
-    };
-    let BytesField::Spelled(key, value_at) = bytes_field(line, key_at) else {
-        return Command::Bad;
-    };
-    let BytesField::Spelled(value, ttl_at) = bytes_field(line, value_at) else {
-        return Command::Bad;
-    };
-    let LifetimeField::Of(ttl, end) = lifetime_field(line, ttl_at) else {
-        return Command::Bad;
-    };
-    if end <= line.len() {
-        return Command::Bad;
-    }
-    Command::Put {
+    let hash = parse_number(fields.next()?.text, 16, u64::MAX)?;
+    let key = parse_bytes(fields.next()?)?;
+    let value = parse_bytes(fields.next()?)?;
+    let ttl = parse_lifetime(fields.next()?.text)?;
+    fields.next().is_none().then_some(Command::Put {
         hash,
         key,
         value,
         ttl,
-    }
+    })
 }
 
-fn parse_close(line: &[u8], at: usize) -> Command
-    ensures { result ≡ close_form (fields_at line.now at) }
+#[tactic(auto, unfolding(crate::specs::Command::next, crate::specs::Command::done, crate::specs::Command::close_form))]
+fn parse_close(mut fields: Fields) -> Option<Command>
+    ensures { unwrap_or result Command.Bad ≡ close_form (fields_left fields.entry) }
 {
-    let NumberField::Value(target, end) = number_field(line, at, 10, u64::MAX) else {
-        return Command::Bad;
-    };
-    if end <= line.len() {
-        return Command::Bad;
-    }
-    Command::Close {
-        target: target as usize,
-    }
+    let target = parse_number(fields.next()?.text, 10, u64::MAX)? as usize;
+    fields.next().is_none().then_some(Command::Close { target })
 }
 
-fn parse_get(line: &[u8], at: usize) -> Command
-    ensures { result ≡ get_form (fields_at line.now at) }
+#[tactic(auto, unfolding(crate::specs::Command::next, crate::specs::Command::done, crate::specs::Command::get_form))]
+fn parse_get(mut fields: Fields) -> Option<Command>
+    ensures { unwrap_or result Command.Bad ≡ get_form (fields_left fields.entry) }
 {
-    let NumberField::Value(hash, key_at) = number_field(line, at, 16, u64::MAX) else {
-        return Command::Bad;
-    };
-    let BytesField::Spelled(key, tick_at) = bytes_field(line, key_at) else {
-        return Command::Bad;
-    };
-    let NumberField::Value(tick, end) = number_field(line, tick_at, 10, u64::MAX) else {
-        return Command::Bad;
-    };
-    if end <= line.len() {
-        return Command::Bad;
-    }
-    Command::Get { hash, key, tick }
+    let hash = parse_number(fields.next()?.text, 16, u64::MAX)?;
+    let key = parse_bytes(fields.next()?)?;
+    let tick = parse_number(fields.next()?.text, 10, u64::MAX)?;
+    fields
+        .next()
+        .is_none()
+        .then_some(Command::Get { hash, key, tick })
 }

@@ -1,78 +1,57 @@
 // Bytes in hexadecimal, small letters.
 ghost use Rattle.std.specs.Prelude.{◌≡◌, true, ◌*◌, ◌≤◌, length};
 ghost use Rattle.records.specs.Area.{over};
-ghost use Rattle.passage_lines.specs.Hex.{decode_result, decoded, hex_bytes, hex_length, is_hex};
-ghost use Rattle.passage_lines.specs.Text.{number_given};
+ghost use Rattle.passage_lines.specs.Hex.{byte_of_hex, decode_result, decoded, hex_bytes, hex_length, is_hex};
 
-use crate::text::{Number, digit};
-use records::record::same_bytes;
+use crate::text::digit;
 
-// How many bytes were written.
-#[derive(Clone, Copy)]
-pub enum DecodeAnswer {
-    Bytes(usize),
-    Refused,
+// The byte that two digits spell.
+#[tactic(auto, using(crate::proofs::Numbers::digit_is), unfolding(crate::specs::Hex::byte_of_hex, crate::specs::Text::digit_in))]
+fn byte_of_hex(high: u8, low: u8) -> Option<u8>
+    ensures { result ≡ byte_of_hex high low }
+{
+    let high = digit(high, 16)?;
+    let low = digit(low, 16)?;
+    Some((high * 16 + low) as u8)
 }
 
 // Whether a text is an even number of digits.
 fn is_hex(text: &[u8]) -> bool
     ensures { result ≡ is_hex text.now }
 {
-    let mut i = 0;
-    while text.len() - i >= 2 {
-        if digit(text[i]) >= 16 {
-            return false;
-        }
-        if digit(text[i + 1]) >= 16 {
-            return false;
-        }
-        i += 2;
-    }
-    i == text.len()
+    text.len() % 2 == 0 && text.iter().all(|c| digit(*c, 16).is_some())
 }
 
 // How many characters of a field spell its bytes: none of `-`.
-pub(crate) fn hex_length(text: &[u8]) -> Number
-    ensures { number_given result ≡ hex_length text.now }
+#[tactic(auto, unfolding(crate::specs::Hex::hex_length))]
+pub(crate) fn hex_length(text: &[u8]) -> Option<usize>
+    ensures { result ≡ hex_length text.now }
 {
-    if same_bytes(text, b"-") {
-        return Number::Value(0);
+    if text == b"-".as_slice() {
+        return Some(0);
     }
-    if text.len() == 0 {
-        return Number::Bad;
-    }
-    if is_hex(text) {
-        return Number::Value(text.len() as u64);
-    }
-    Number::Bad
+    (!text.is_empty() && is_hex(text)).then_some(text.len())
 }
 
-// Writes the bytes that a text spells to the front of an area. Where the text spells none, or the
-// area is too short, it is refused and nothing is written.
-pub fn decode_hex(text: &[u8], out: &mut [u8]) -> DecodeAnswer
+// Writes the bytes that a text spells to the front of an area, and gives how many they are. Where the
+// text spells none, or the area is too short, nothing is written.
+pub fn decode_hex(text: &[u8], out: &mut [u8]) -> Option<usize>
     ensures { decode_result result out.new ≡ decoded text.now out.old }
 {
-    if !is_hex(text) {
-        return DecodeAnswer::Refused;
-    }
-    if out.len() < text.len() / 2 {
-        return DecodeAnswer::Refused;
+    let count = text.len() / 2;
+    if !is_hex(text) || out.len() < count {
+        return None;
     }
     write_bytes(out, text);
-    DecodeAnswer::Bytes(text.len() / 2)
+    Some(count)
 }
 
+// By an index: a proof knows nothing of what is written through an adapter of `iter_mut`.
 fn write_bytes(out: &mut [u8], text: &[u8])
     requires { (is_hex text.now ≡ true) × (length text.now ≤ 2 * length out.old) }
     ensures { out.new ≡ over (hex_bytes text.now) out.old }
 {
-    let mut at = 0;
-    let mut i = 0;
-    while i < text.len() {
-        let high = digit(text[i]);
-        let low = digit(text[i + 1]);
-        out[at] = (high * 16 + low) as u8;
-        at += 1;
-        i += 2;
+    for i in 0..text.len() / 2 {
+        out[i] = byte_of_hex(text[2 * i], text[2 * i + 1]).unwrap();
     }
 }

@@ -1,127 +1,100 @@
 // Lines of an input that is read in blocks.
-ghost use Rattle.std.specs.Prelude.{◌≡◌, ◌+◌, ◌<◌, ◌≤◌, ◌^◌, length};
-ghost use Rattle.records.specs.Area.{over, part};
-ghost use Rattle.passage_lines.specs.Input.{kept, kept_unread, next_before, next_line};
+ghost use Rattle.std.specs.Prelude.{◌≡◌, ◌+◌, ◌<◌, ◌≤◌, ◌^◌};
+ghost use Rattle.passage_lines.specs.Input.{kept, kept_unread, next, next_before, next_line};
 
 use crate::bytes::find_byte;
 use crate::command::MAX_LINE_BYTES;
 
 // What of a block is unread: the bytes from at to end. Where skipping, they go on with a line that
 // was too long.
-#[derive(Clone, Copy)]
+#[derive(Clone, Copy, Debug, PartialEq, Eq)]
 pub struct Input {
     pub at: usize,
     pub end: usize,
     pub skipping: bool,
 }
 
-const NOTHING: Input = Input {
-    at: 0,
-    end: 0,
-    skipping: false,
-};
-
-// What stands next in a block, and what is unread after it.
-#[derive(Clone, Copy)]
+// What stands next in a block.
+#[derive(Clone, Copy, Debug, PartialEq, Eq)]
 pub enum NextLine {
     // A whole line, without its line feed.
-    Line {
-        from: usize,
-        to: usize,
-        input: Input,
-    },
+    Line { from: usize, to: usize },
     // The start of a line that is over the limit.
-    TooLong(Input),
+    TooLong,
     // The end of such a line, which counts as nothing.
-    Skipped(Input),
+    Skipped,
     // Less than a line: there may be more input.
-    More(Input),
+    More,
 }
 
-// A line that is over the limit and not whole is dropped, so that at most a line's bytes stay
-// unread where more input is needed.
-pub fn next_line(block: &[u8], input: Input) -> NextLine
-    ensures { result ≡ next_line block.now input }
-{
-    let at = input.at;
-    let end = input.end;
-    let skipping = input.skipping;
-    if end > block.len() {
-        return NextLine::More(NOTHING);
-    }
-    if at > end {
-        return NextLine::More(NOTHING);
-    }
-    let feed = find_byte(&block[0..end], at, b'\n');
-    line_before(at, end, skipping, feed)
-}
-
-// What stands next, where the next line feed stands at a position, or at the end if there is none.
-fn line_before(at: usize, end: usize, skipping: bool, feed: usize) -> NextLine
-    requires { (at ≤ end) × (feed ≤ end) × (end < 2 ^ 63) }
-    ensures { result ≡ next_before at end skipping feed }
-{
-    let rest = Input {
-        at: feed + 1,
-        end,
-        skipping: false,
-    };
-    let none = Input {
-        at: end,
-        end,
-        skipping: true,
-    };
-    if skipping {
-        if feed < end {
-            return NextLine::Skipped(rest);
-        }
-        return NextLine::More(none);
-    }
-    if feed < end {
-        return NextLine::Line {
-            from: at,
-            to: feed,
-            input: rest,
-        };
-    }
-    if end - at > MAX_LINE_BYTES {
-        return NextLine::TooLong(none);
-    }
-    NextLine::More(Input {
-        at,
-        end,
-        skipping: false,
-    })
-}
-
-// Moves the unread bytes to the front of the block, so that more input can be read after them.
-pub fn keep_unread(block: &mut [u8], input: Input) -> Input
-    ensures { kept result block.new ≡ kept_unread block.old input }
-{
-    let at = input.at;
-    let end = input.end;
-    let skipping = input.skipping;
-    if end > block.len() {
-        return NOTHING;
-    }
-    if at > end {
-        return NOTHING;
-    }
-    move_front(block, at, end - at);
-    Input {
+impl Input {
+    pub const EMPTY: Input = Input {
         at: 0,
-        end: end - at,
-        skipping,
-    }
-}
+        end: 0,
+        skipping: false,
+    };
 
-fn move_front(block: &mut [u8], at: usize, count: usize)
-    requires { at + count ≤ length block.old }
-    ensures { block.new ≡ over (part at count block.old) block.old }
-{
-    let mut i = 0;
-    while i < count {
-        block[i] = block[at + i];
-        i += 1;
+    // A line that is over the limit and not whole is dropped, so that at most a line's bytes stay
+    // unread where more input is needed.
+    pub fn next_line(&mut self, block: &[u8]) -> NextLine
+        ensures { next result self.new ≡ next_line block.now self.old }
+    {
+        let Some(unread) = block.get(self.at..self.end) else {
+            *self = Input::EMPTY;
+            return NextLine::More;
+        };
+        match find_byte(unread, b'\n') {
+            Some(count) => self.take_line(count),
+            None => self.take_rest(),
+        }
+    }
+
+    // Takes the line that ends with a line feed after so many bytes.
+    fn take_line(&mut self, count: usize) -> NextLine
+        requires { (self.old.at + count < self.old.end) × (self.old.end < 2 ^ 63) }
+        ensures { next result self.new ≡ next_before self.old.at self.old.end self.old.skipping (self.old.at + count) }
+    {
+        let from = self.at;
+        let to = from + count;
+        self.at = to + 1;
+        if self.skipping {
+            self.skipping = false;
+            return NextLine::Skipped;
+        }
+        NextLine::Line { from, to }
+    }
+
+    // What is unread has no line feed.
+    fn take_rest(&mut self) -> NextLine
+        requires { self.old.at ≤ self.old.end }
+        ensures { next result self.new ≡ next_before self.old.at self.old.end self.old.skipping self.old.end }
+    {
+        let count = self.end - self.at;
+        if self.skipping {
+            self.at = self.end;
+            return NextLine::More;
+        }
+        if count > MAX_LINE_BYTES {
+            *self = Input {
+                at: self.end,
+                end: self.end,
+                skipping: true,
+            };
+            return NextLine::TooLong;
+        }
+        NextLine::More
+    }
+
+    // Moves the unread bytes to the front of the block, so that more input can be read after them.
+    pub fn keep_unread(&mut self, block: &mut [u8])
+        ensures { kept self.new block.new ≡ kept_unread block.old self.old }
+    {
+        if self.end > block.len() || self.at > self.end {
+            *self = Input::EMPTY;
+            return;
+        }
+        block.copy_within(self.at..self.end, 0);
+        self.end -= self.at;
+        self.at = 0;
     }
 }

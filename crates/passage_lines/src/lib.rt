@@ -7,6 +7,5 @@ pub mod command;
 mod fields;
 pub mod hex;
 pub mod input;
-pub mod output;
 pub mod reply;
 mod text;

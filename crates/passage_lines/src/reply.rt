@@ -1,14 +1,14 @@
 // The lines of the output.
-ghost use Rattle.std.specs.Prelude.{◌≡◌, ◌+◌, ◌≤◌, length};
-ghost use Rattle.records.specs.Area.{over, pasted};
-ghost use Rattle.passage_lines.specs.Output.{appended, output};
-ghost use Rattle.passage_lines.specs.Reply.{accepted_text, number_field, refused_text, reply_text, value_text, word_text};
+ghost use Rattle.std.specs.Prelude.{◌≡◌, ◌≤◌, length};
+ghost use Rattle.records.specs.Area.{over};
+ghost use Rattle.texts.specs.Output.{appended, output};
+ghost use Rattle.passage_lines.specs.Reply.{bytes_text, line_of, reply_text, value_text, word_text};
 
-use crate::output::{put_decimal, put_hex, put_text};
 use hash_parts::error::SegmentCacheBuildError;
+use texts::output::{put_decimal, put_hex, put_text};
 
 // The words of the commands.
-#[derive(Clone, Copy)]
+#[derive(Clone, Copy, Debug, PartialEq, Eq)]
 pub enum Word {
     Open,
     Put,
@@ -16,7 +16,22 @@ pub enum Word {
     Get,
 }
 
-#[derive(Clone, Copy)]
+impl Word {
+    fn text(self) -> &'static [u8]
+        ensures { result.now ≡ word_text self }
+    {
+        match self {
+            Word::Open => b"open",
+            Word::Put => b"put",
+            Word::Close => b"close",
+            Word::Get => b"get",
+        }
+    }
+}
+
+// Written by put_reply and not by a `Display`: what a `Display` promises holds only where the writing
+// succeeds, and nothing says that it does.
+#[derive(Clone, Copy, Debug, PartialEq, Eq)]
 pub enum Reply {
     // A line of another form, or out of turn.
     Bad,
@@ -54,65 +69,34 @@ fn write_reply(line: &mut [u8], reply: Reply) -> usize
     match reply {
         Reply::Bad => put_text(line, 0, b"bad\n"),
         Reply::Missing => put_text(line, 0, b"get none\n"),
-        Reply::Refused { word, error } => write_refused(line, word, error.number()),
+        Reply::Refused { word, error } => write_line(line, word, &[error.number() as usize]),
         Reply::Accepted {
             word,
             first,
             second,
-        } => write_accepted(line, word, first, second),
+        } => write_line(line, word, &[0, first, second]),
     }
 }
 
-fn write_refused(line: &mut [u8], word: Word, number: u8) -> usize
-    requires { length line.old ≡ 64 }
-    ensures { (result ≡ length (refused_text word number)) × (result ≤ 64) × (line.new ≡ over (refused_text word number) line.old) }
+// Writes a line of a word and numbers, and gives its length.
+fn write_line(line: &mut [u8], word: Word, numbers: &[usize]) -> usize
+    requires { length (line_of word numbers.now) ≤ length line.old }
+    ensures { (result ≡ length (line_of word numbers.now)) × (line.new ≡ over (line_of word numbers.now) line.old) }
 {
-    let word_end = put_word(line, word);
-    let end = put_number(line, word_end, number as usize);
-    put_text(line, end, b"\n")
-}
-
-fn write_accepted(line: &mut [u8], word: Word, first: usize, second: usize) -> usize
-    requires { length line.old ≡ 64 }
-    ensures { (result ≡ length (accepted_text word first second)) × (result ≤ 64) × (line.new ≡ over (accepted_text word first second) line.old) }
-{
-    let word_end = put_word(line, word);
-    let zero_end = put_number(line, word_end, 0);
-    let first_end = put_number(line, zero_end, first);
-    let end = put_number(line, first_end, second);
-    put_text(line, end, b"\n")
-}
-
-fn put_word(line: &mut [u8], word: Word) -> usize
-    ensures { output result line.new ≡ appended 0 (word_text word) line.old }
-{
-    match word {
-        Word::Open => put_text(line, 0, b"open"),
-        Word::Put => put_text(line, 0, b"put"),
-        Word::Close => put_text(line, 0, b"close"),
-        Word::Get => put_text(line, 0, b"get"),
+    let mut at = put_text(line, 0, word.text());
+    for number in numbers {
+        let digits_at = put_text(line, at, b" ");
+        at = put_decimal(line, digits_at, *number as u64);
     }
-}
-
-fn put_number(line: &mut [u8], at: usize, number: usize) -> usize
-    requires { at + length (number_field number) ≤ length line.old }
-    ensures { (result ≡ at + length (number_field number)) × (line.new ≡ pasted at (number_field number) line.old) }
-{
-    let digits_at = put_text(line, at, b" ");
-    put_decimal(line, digits_at, number as u64)
+    put_text(line, at, b"\n")
 }
 
 // Writes the line of a value that was found, as put_reply does.
 pub fn put_value(out: &mut [u8], at: usize, value: &[u8]) -> usize
     ensures { output result out.new ≡ appended at (value_text value.now) out.old }
 {
-    if out.len() < at {
-        return at;
-    }
-    if out.len() - at < 8 {
-        return at;
-    }
-    if (out.len() - at - 7) / 2 < value.len() {
+    let room = out.len().saturating_sub(at);
+    if room < 8 || (room - 7) / 2 < value.len() {
         return at;
     }
     at + write_value(&mut out[at..], value)
@@ -123,6 +107,17 @@ fn write_value(line: &mut [u8], value: &[u8]) -> usize
     ensures { (result ≡ length (value_text value.now)) × (line.new ≡ over (value_text value.now) line.old) }
 {
     let text_at = put_text(line, 0, b"get 0 ");
-    let text_end = put_hex(line, text_at, value);
+    let text_end = put_bytes(line, text_at, value);
     put_text(line, text_end, b"\n")
+}
+
+// Bytes in hexadecimal, `-` where there are none.
+#[tactic(auto, unfolding(crate::specs::Reply::bytes_text))]
+fn put_bytes(out: &mut [u8], at: usize, bytes: &[u8]) -> usize
+    ensures { output result out.new ≡ appended at (bytes_text bytes.now) out.old }
+{
+    if bytes.is_empty() {
+        return put_text(out, at, b"-");
+    }
+    put_hex(out, at, bytes)
 }

@@ -1,140 +1,88 @@
 // The kinds of a field: numbers, durations, layouts, tick lengths and lifetimes.
 ghost use Rattle.std.specs.Prelude.{◌≡◌, ◌≤◌, ◌<◌};
-ghost use Rattle.passage_lines.specs.Text.{digit_of, duration_given, duration_of, layout_given, layout_of, lifetime_given, lifetime_of, number_given, number_in, tick_length_given, tick_length_of};
+ghost use Rattle.passage_lines.specs.Text.{digit_in, duration_of, layout_of, lifetime_of, number_in, tick_length_of};
 
-use hash_parts::duration::{Duration, Lifetime};
+use hash_parts::duration::Duration;
 use hash_parts::setting::SegmentExpiry;
-use records::record::same_bytes;
 
-#[derive(Clone, Copy)]
-pub(crate) enum Number {
-    Value(u64),
-    Bad,
-}
-
-#[derive(Clone, Copy)]
-pub(crate) enum DurationText {
-    Of(Duration),
-    Bad,
-}
-
-// Whether the layout is packed.
-#[derive(Clone, Copy)]
-pub(crate) enum LayoutText {
-    Packed(bool),
-    Bad,
-}
-
-#[derive(Clone, Copy)]
-pub(crate) enum TickLength {
-    Of(SegmentExpiry),
-    Bad,
-}
-
-#[derive(Clone, Copy)]
-pub(crate) enum LifetimeText {
-    Of(Lifetime),
-    Bad,
-}
-
-// The value of a digit, and 16 for any other character.
-pub(crate) fn digit(character: u8) -> u64
-    ensures { (result ≡ digit_of character) × (result ≤ 16) }
+// A character as a digit of a base, in small letters from ten on: `char::to_digit` takes large ones too.
+#[tactic(auto, using(std::proofs::lemmas::Bool::Decides::nat_tests), unfolding(crate::specs::Text::digit_in, crate::specs::Text::digit_of))]
+pub(crate) fn digit(character: u8, base: u64) -> Option<u64>
+    requires { base ≤ 16 }
+    ensures { result ≡ digit_in base character }
 {
-    if character < b'0' {
-        return 16;
-    }
-    if character <= b'9' {
-        return (character - b'0') as u64;
-    }
-    if character < b'a' {
-        return 16;
-    }
-    if character <= b'f' {
-        return (character - 87) as u64;
-    }
-    16
+    let value = match character {
+        b'0'..=b'9' => character - b'0',
+        b'a'..=b'f' => character - b'a' + 10,
+        _ => return None,
+    };
+    Some(u64::from(value)).filter(|digit| *digit < base)
 }
 
-// A number past max stays past it, whatever digits follow.
-pub(crate) fn parse_number(text: &[u8], base: u64, max: u64) -> Number
-    requires { (0 < base) × (base ≤ 16) × (16 ≤ max) }
-    ensures { number_given result ≡ number_in base max text.now }
+// One digit or more, for a number of at most max. `str::parse` takes a sign too.
+pub(crate) fn parse_number(text: &[u8], base: u64, max: u64) -> Option<u64>
+    requires { (0 < base) × (base ≤ 16) }
+    ensures { result ≡ number_in base max text.now }
 {
-    if text.len() == 0 {
-        return Number::Bad;
+    if text.is_empty() {
+        return None;
     }
-    let mut value: u64 = 0;
-    let mut i = 0;
-    while i < text.len() {
-        let next = digit(text[i]);
-        if next >= base {
-            return Number::Bad;
+    let mut value = 0u64;
+    for character in text {
+        let next = digit(*character, base)?;
+        value = value.checked_mul(base)?.checked_add(next)?;
+        if value > max {
+            return None;
         }
-        if value > (max - next) / base {
-            return Number::Bad;
-        }
-        value = value * base + next;
-        i += 1;
     }
-    Number::Value(value)
+    Some(value)
 }
 
 // Seconds, a point and nine digits.
-pub(crate) fn parse_duration(text: &[u8]) -> DurationText
-    ensures { duration_given result ≡ duration_of text.now }
+pub(crate) fn parse_duration(text: &[u8]) -> Option<Duration>
+    ensures { result ≡ duration_of text.now }
 {
-    if text.len() < 11 {
-        return DurationText::Bad;
-    }
-    let point = text.len() - 10;
+    let point = text.len().checked_sub(10)?;
     if text[point] != b'.' {
-        return DurationText::Bad;
+        return None;
     }
-    let Number::Value(secs) = parse_number(&text[..point], 10, u64::MAX) else {
-        return DurationText::Bad;
-    };
-    let Number::Value(nanos) = parse_number(&text[point + 1..], 10, 999_999_999) else {
-        return DurationText::Bad;
-    };
-    DurationText::Of(Duration {
+    let secs = parse_number(&text[..point], 10, u64::MAX)?;
+    let nanos = parse_number(&text[point + 1..], 10, 999_999_999)?;
+    Some(Duration {
         secs,
         nanos: nanos as u32,
     })
 }
 
-pub(crate) fn parse_layout(text: &[u8]) -> LayoutText
-    ensures { layout_given result ≡ layout_of text.now }
+// Whether the layout is packed.
+#[tactic(auto, unfolding(crate::specs::Text::layout_of))]
+pub(crate) fn parse_layout(text: &[u8]) -> Option<bool>
+    ensures { result ≡ layout_of text.now }
 {
-    if same_bytes(text, b"packed") {
-        return LayoutText::Packed(true);
+    if text == b"packed".as_slice() {
+        return Some(true);
     }
-    if same_bytes(text, b"words") {
-        return LayoutText::Packed(false);
-    }
-    LayoutText::Bad
+    (text == b"words".as_slice()).then_some(false)
 }
 
-pub(crate) fn parse_tick_length(text: &[u8]) -> TickLength
-    ensures { tick_length_given result ≡ tick_length_of text.now }
+#[tactic(auto, unfolding(crate::specs::Text::tick_length_of))]
+pub(crate) fn parse_tick_length(text: &[u8]) -> Option<SegmentExpiry>
+    ensures { result ≡ tick_length_of text.now }
 {
-    if same_bytes(text, b"none") {
-        return TickLength::Of(SegmentExpiry::None);
+    if text == b"none".as_slice() {
+        return Some(SegmentExpiry::None);
     }
-    let DurationText::Of(tick) = parse_duration(text) else {
-        return TickLength::Bad;
-    };
-    TickLength::Of(SegmentExpiry::Relative16 { tick })
+    let tick = parse_duration(text)?;
+    Some(SegmentExpiry::Relative16 { tick })
 }
 
-pub(crate) fn parse_lifetime(text: &[u8]) -> LifetimeText
-    ensures { lifetime_given result ≡ lifetime_of text.now }
+// None is a lifetime without end.
+#[tactic(auto, unfolding(crate::specs::Text::lifetime_of))]
+pub(crate) fn parse_lifetime(text: &[u8]) -> Option<Option<Duration>>
+    ensures { result ≡ lifetime_of text.now }
 {
-    if same_bytes(text, b"never") {
-        return LifetimeText::Of(Lifetime::Never);
+    if text == b"never".as_slice() {
+        return Some(None);
     }
-    let DurationText::Of(lifetime) = parse_duration(text) else {
-        return LifetimeText::Bad;
-    };
-    LifetimeText::Of(Lifetime::For(lifetime))
+    Some(Some(parse_duration(text)?))
 }

@@ -10,7 +10,7 @@ use hash_parts::duration::NEVER_EXPIRES;
 use hash_parts::error::SegmentCacheBuildError;
 use hash_parts::setting::SegmentExpiry;
 
-// A part of a slice of bytes.
+// A part of a slice of bytes. Not the slice itself: a caller in C is given its place.
 #[derive(Clone, Copy, Debug, PartialEq, Eq)]
 pub struct Span {
     pub at: usize,

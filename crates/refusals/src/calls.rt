@@ -1,65 +1,210 @@
-// Which calls a case makes, by the number in its words.
-use crate::build_calls::{finish, open, push};
-use crate::place;
-use crate::place::Words;
-use crate::rebuild_calls::{push_copied, push_reused, rebuild_finish, rebuild_open};
-use crate::set_calls::{look_up, stats};
-use std::io;
+//! The calls of a case. A build announces seven records, in areas that they need. The source of a rebuild has one
+//! record of five bytes at 0: two of header, key "a", value "AB". Only a reused push reads it; the other calls
+//! have an arena of zeros.
+ghost use Rattle.std.specs.Prelude.{◌<◌, ◌↔◌, IsOk};
 
-const OPEN: u64 = 0;
+use crate::case::{Case, Word};
+use anyhow::bail;
+use capi::answers::{RECORD_WORDS, SPAN_WORDS};
+use capi::build_calls::{segment_cache_finish, segment_cache_open};
+use capi::rebuild_calls::{segment_cache_rebuild_finish, segment_cache_rebuild_open};
+use capi::stats_calls::segment_cache_stats;
+use capi_get::segment_cache_get;
+use capi_next_entry::segment_cache_next_entry;
+use capi_peek::segment_cache_peek;
+use capi_probe::segment_cache_probe;
+use capi_push::segment_cache_push;
+use capi_push_copied::segment_cache_push_copied;
+use capi_push_reused::segment_cache_push_reused;
+use capi_take_accessed::segment_cache_take_accessed;
 
-const PUSH: u64 = 1;
+/// The source's record, and bytes of others behind it.
+const ARENA: &[u8; 16] = b"\x01\x02aABACb\0\0\0\0\0\0\0\0";
 
-const FINISH: u64 = 2;
+/// The calls that a case makes.
+#[derive(Clone, Copy)]
+pub(crate) enum Calls {
+    Open,
+    Push,
+    Finish,
+    Set,
+    Stats,
+    RebuildOpen,
+    Rebuild,
+    PushReused,
+    PushCopied,
+    RebuildFinish,
+}
 
-const SET: u64 = 3;
+impl TryFrom<u64> for Calls {
+    type Error = anyhow::Error;
 
-const STATS: u64 = 4;
+    ghost try_from_gives = { λ number result. IsOk result ↔ (number < 10) };
 
-const REBUILD_OPEN: u64 = 5;
-
-const REBUILD: u64 = 6;
-
-const PUSH_REUSED: u64 = 7;
-
-const PUSH_COPIED: u64 = 8;
-
-const REBUILD_FINISH: u64 = 9;
-
-pub(crate) fn ask(rt: &impl Print, name: &[u8], words: Words) -> io::Result<()> {
-    show::text(rt, name)?;
-    match words[place::CALLS] {
-        SET => ask_set(rt, words)?,
-        REBUILD => ask_rebuild(rt, words)?,
-        _ => show::decimal(rt, answer(words))?,
+    fn try_from(number: u64) -> anyhow::Result<Calls> {
+        match number {
+            0 => Ok(Calls::Open),
+            1 => Ok(Calls::Push),
+            2 => Ok(Calls::Finish),
+            3 => Ok(Calls::Set),
+            4 => Ok(Calls::Stats),
+            5 => Ok(Calls::RebuildOpen),
+            6 => Ok(Calls::Rebuild),
+            7 => Ok(Calls::PushReused),
+            8 => Ok(Calls::PushCopied),
+            9 => Ok(Calls::RebuildFinish),
+            _ => bail!("no calls have number {number}"),
+        }
     }
-    show::text(rt, b"\n")
 }
 
-// What the one call of a case answers.
-fn answer(words: Words) -> u64 {
-    match words[place::CALLS] {
-        OPEN => open(words),
-        PUSH => push(words),
-        FINISH => finish(words),
-        STATS => stats(words),
-        REBUILD_OPEN => rebuild_open(words),
-        PUSH_REUSED => push_reused(words),
-        PUSH_COPIED => push_copied(words),
-        REBUILD_FINISH => rebuild_finish(words),
-        // No call has this number, so the table is wrong; no refusal does either.
-        _ => u64::MAX,
+impl Case {
+    pub(crate) fn open(&self) -> u64 {
+        segment_cache_open(
+            &self.words[..6],
+            self.word(Word::Records) as usize,
+            &mut [0; 13],
+            &mut [0; 8],
+            &mut [0],
+            &[0; 256],
+            &[0; 256],
+            &[0; 16],
+        )
     }
-}
 
-fn ask_set(rt: &impl Print, words: Words) -> io::Result<()> {
-    look_up(rt, words)?;
-    show::decimal(rt, stats(words))
-}
+    pub(crate) fn push(&self) -> u64 {
+        let mut builder = self.words;
+        segment_cache_push(
+            &mut builder[..13],
+            1,
+            b"a",
+            b"b",
+            self.lent(Word::Lifetime, &self.lifetime()),
+            self.lent_mut(Word::Index, &mut [0; 8]),
+            self.lent_mut(Word::Filter, &mut [0]),
+            self.lent_mut(Word::Arena, &mut [0; 16]),
+            &mut [0; 2],
+        )
+    }
 
-// Each call has the words of the case, not what the call before made of them.
-fn ask_rebuild(rt: &impl Print, words: Words) -> io::Result<()> {
-    show::decimal(rt, push_reused(words))?;
-    show::decimal(rt, push_copied(words))?;
-    show::decimal(rt, rebuild_finish(words))
+    pub(crate) fn finish(&self) -> u64 {
+        segment_cache_finish(
+            &self.words[..13],
+            4_096,
+            self.lent_mut(Word::Index, &mut [self.word(Word::IndexWord); 8]),
+            self.lent_mut(Word::Starts, &mut [0; 256]),
+            self.lent_mut(Word::Lengths, &mut [0; 256]),
+            self.lent_mut(Word::Scratch, &mut [0]),
+            &[0; 16],
+            &mut [0; 15],
+        )
+    }
+
+    /// A set's index is empty, so none of the calls finds a record. Those that may change a mark come first.
+    pub(crate) fn ask_set(&self) -> [u64; 6] {
+        let set = &self.words[..15];
+        let mut index = [0; 8];
+        let index = self.lent_mut(Word::Index, &mut index);
+        let filter = self.lent(Word::Filter, &[0]);
+        let starts = self.lent(Word::Starts, &[0; 256]);
+        let lengths = self.lent(Word::Lengths, &[0; 256]);
+        let arena = self.lent(Word::Arena, &[0; 10]);
+        let span = &mut [0; SPAN_WORDS];
+        let mark = &mut [0];
+        let record = &mut [0; RECORD_WORDS];
+        [
+            segment_cache_get(set, 1, b"a", 0, index, filter, starts, lengths, arena, span),
+            segment_cache_take_accessed(set, 1, b"a", index, filter, starts, lengths, arena, mark),
+            segment_cache_peek(set, 1, b"a", 0, index, filter, starts, lengths, arena, span),
+            segment_cache_probe(
+                set, 1, b"a", 0, index, filter, starts, lengths, arena, record,
+            ),
+            segment_cache_next_entry(set, 0, 0, index, starts, lengths, arena, record),
+            self.stats(),
+        ]
+    }
+
+    pub(crate) fn stats(&self) -> u64 {
+        segment_cache_stats(&self.words[..15], &mut [0; 8])
+    }
+
+    /// Every segment but one is kept. The flags are one more than any case lends, so that none need be dropped.
+    pub(crate) fn rebuild_open(&self) -> u64 {
+        let mut flags = [1; 258];
+        flags[self.word(Word::Dropped) as usize % 258] = 0;
+        segment_cache_rebuild_open(
+            &self.words[..15],
+            self.lent(Word::Starts, &self.starts()),
+            self.lent(Word::Lengths, &self.lengths()),
+            self.lent(Word::Arena, &[0; 16]),
+            self.word(Word::Records) as usize,
+            self.word(Word::CopiedBytes) as usize,
+            self.lent(Word::Flags, &flags),
+            0,
+            &mut [0; 22],
+            self.lent_mut(Word::Index, &mut [0; 8]),
+            self.lent_mut(Word::Filter, &mut [0]),
+            self.lent_mut(Word::NewStarts, &mut [0; 256]),
+            self.lent_mut(Word::NewLengths, &mut [0; 256]),
+        )
+    }
+
+    /// Each call has the words of the case, not what the call before made of them.
+    pub(crate) fn ask_rebuild(&self) -> [u64; 3] {
+        [
+            self.push_reused(),
+            self.push_copied(),
+            self.rebuild_finish(),
+        ]
+    }
+
+    /// Key and value are parts of the arena.
+    pub(crate) fn push_reused(&self) -> u64 {
+        let mut rebuild = self.words;
+        segment_cache_push_reused(
+            &mut rebuild[..22],
+            1,
+            self.part(Word::KeyFrom, Word::KeyTo, ARENA),
+            self.part(Word::ValueFrom, Word::ValueTo, ARENA),
+            self.word(Word::Location) as usize,
+            self.word(Word::HeaderBytes) as usize,
+            self.lent_mut(Word::Index, &mut self.index()),
+            self.lent_mut(Word::Filter, &mut [0]),
+            self.lent(Word::Starts, &self.starts()),
+            self.lent(Word::Lengths, &self.lengths()),
+            self.lent(Word::Arena, ARENA),
+            &mut [0; 2],
+        )
+    }
+
+    /// The record to copy has four bytes.
+    pub(crate) fn push_copied(&self) -> u64 {
+        let mut rebuild = self.words;
+        segment_cache_push_copied(
+            &mut rebuild[..22],
+            2,
+            b"b",
+            b"C",
+            self.lent(Word::Lifetime, &self.lifetime()),
+            self.lent_mut(Word::Index, &mut self.index()),
+            self.lent_mut(Word::Filter, &mut [0]),
+            self.lent(Word::Starts, &self.starts()),
+            self.lent(Word::Lengths, &self.lengths()),
+            self.lent_mut(Word::Arena, &mut [0; 16]),
+            &mut [0; 2],
+        )
+    }
+
+    pub(crate) fn rebuild_finish(&self) -> u64 {
+        segment_cache_rebuild_finish(
+            &self.words[..22],
+            self.lent_mut(Word::Index, &mut [0; 8]),
+            self.lent_mut(Word::Starts, &mut self.starts()),
+            self.lent_mut(Word::Lengths, &mut self.lengths()),
+            self.lent_mut(Word::Scratch, &mut [0]),
+            self.lent(Word::Arena, &[0; 16]),
+            &mut [0; 15],
+            &mut [0; 4],
+        )
+    }
 }

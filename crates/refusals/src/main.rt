@@ -1,56 +1,67 @@
-// Refusals at the boundaries of each number: 9, 11 and 12, which the program passage cannot reach, and others
-// beside them. The cases are lines of standard input: each names what is changed in words that pass, and how.
-// A line of the output has the name, and the number of each call's answer: 0 where the call is accepted.
+//! Refusals at the boundaries of each number: 9, 11 and 12, which the program passage cannot reach, and others
+//! beside them. The cases are lines of standard input: each names what is changed in words that pass, and how.
+//! A line of the output has the name, and the number of each call's answer: 0 where the call is accepted.
 #![tactic(auto)]
 
-use crate::calls::ask;
-use crate::place::Words;
-use crate::text::{changed, find};
-use std::io;
+use crate::calls::Calls;
+use crate::case::{Case, Word};
+use std::io::Read;
 
-mod build_calls;
 mod calls;
-mod place;
-mod rebuild_calls;
-mod set_calls;
-mod text;
+mod case;
 
-fn main(rt: HostRuntime) -> io::Result<()> {
-    let mut text = [0; 16_384];
-    let length = show::input::read_full(&mut rt.stdin(), &mut text);
-    run(&rt, &text[0..length])
+const TABLE_BYTES: usize = 16_384;
+
+fn main(rt: HostRuntime) -> anyhow::Result<()> {
+    run(&rt, &mut rt.stdin(), &mut [0; TABLE_BYTES])
 }
 
-fn run(rt: &impl Print, text: &[u8]) -> io::Result<()> {
-    let mut passing = [0; place::COUNT];
-    let mut at = 0;
-    while at < text.len() {
-        let end = find(text, at, b'\n');
-        let next = run_line(rt, &text[at..end], passing)?;
-        passing = next;
-        at = end + 1;
+fn run(
+    rt: &impl Print,
+    input: &mut impl Read,
+    table: &mut [u8; TABLE_BYTES],
+) -> anyhow::Result<()> {
+    let length = show::input::read_full(input, table);
+    ask_all(rt, str::from_utf8(&table[..length])?)
+}
+
+/// A line that begins with `#` is a comment. One named `=` has the words that pass for the lines below it.
+fn ask_all(rt: &impl Print, table: &str) -> anyhow::Result<()> {
+    let mut passing = Case::default();
+    for line in table.lines() {
+        if line.is_empty() || line.starts_with('#') {
+            continue;
+        }
+        let (name, changes) = line.split_once(':').unwrap_or((line, ""));
+        if name == "=" {
+            passing = Case::default().changed(changes)?;
+        } else {
+            ask(rt, name, passing.changed(changes)?)?;
+        }
     }
     Ok(())
 }
 
-// The words that pass, for the lines after this one.
-fn run_line(rt: &impl Print, line: &[u8], passing: Words) -> io::Result<Words> {
-    if line.len() == 0 {
-        return Ok(passing);
+fn ask(rt: &impl Print, name: &str, case: Case) -> anyhow::Result<()> {
+    match Calls::try_from(case.word(Word::Calls))? {
+        Calls::Open => show(rt, name, &[case.open()]),
+        Calls::Push => show(rt, name, &[case.push()]),
+        Calls::Finish => show(rt, name, &[case.finish()]),
+        Calls::Set => show(rt, name, &case.ask_set()),
+        Calls::Stats => show(rt, name, &[case.stats()]),
+        Calls::RebuildOpen => show(rt, name, &[case.rebuild_open()]),
+        Calls::Rebuild => show(rt, name, &case.ask_rebuild()),
+        Calls::PushReused => show(rt, name, &[case.push_reused()]),
+        Calls::PushCopied => show(rt, name, &[case.push_copied()]),
+        Calls::RebuildFinish => show(rt, name, &[case.rebuild_finish()]),
     }
-    let first = line[0];
-    if first == b'#' {
-        return Ok(passing);
-    }
-    if first == b'=' {
-        return Ok(changed(line, [0; place::COUNT]));
-    }
-    ask(rt, name_of(line), changed(line, passing))?;
-    Ok(passing)
 }
 
-// What stands before the changes.
-fn name_of(line: &[u8]) -> &[u8] {
-    let end = find(line, 0, b':');
-    &line[0..end]
+fn show(rt: &impl Print, name: &str, answers: &[u64]) -> anyhow::Result<()> {
+    print!(rt; "{name}")?;
+    for answer in answers {
+        print!(rt; " {answer}")?;
+    }
+    println!(rt)?;
+    Ok(())
 }

@@ -1,12 +1,10 @@
 -- The find of a finished set, and what the calls make of it. Assumes nothing.
-use Rattle.std.proofs.Common.{◌≡◌, ℕ, ◌+◌, ◌*◌, ◌^◌, ◌<◌, ◌≤◌, Bool, true, List, Option, length, mul-le-mul_left, arith, Some}
+use Rattle.std.proofs.Common.{◌≡◌, ℕ, ◌+◌, ◌*◌, ◌^◌, ◌<◌, ◌≤◌, true, List, length, mul-le-mul_left, arith, Some}
 use Rattle.hash_parts.specs.declared.setting.SegmentCacheConfig.{SegmentCacheConfig}
-use Rattle.records.specs.declared.record.Span.{Span}
 use Rattle.index.specs.declared.find.FoundRecord.{FoundRecord}
 use Rattle.index.proofs.Buckets.{buckets_few}
 use Rattle.index.proofs.FoundSlots.{find_slot}
-use Rattle.sets.specs.Answers.{Reply}
-use Rattle.sets.specs.Lookup.{Got, Taken, areas_hold_lookup, areas_hold_set, find_of, set_fits, view_of}
+use Rattle.sets.specs.Lookup.{areas_hold_lookup, areas_hold_set, find_of, set_fits, view_of}
 use Rattle.sets.specs.Questions.{counts_fit}
 use Rattle.sets.specs.Stats.{stats_of}
 use Rattle.sets.specs.declared.cache.FrozenSegmentCache.{FrozenSegmentCache}

@@ -1,5 +1,5 @@
 -- The steps of a rebuild: its segments one by one, its new segment areas, and what its pushes and its finish leave. Assumes nothing.
-use Rattle.std.proofs.Common.{◌≡◌, ℕ, zero, suc, ◌+◌, ◌-◌, ◌*◌, ◌%◌, ◌^◌, ◌<◌, ◌≤◌, Bool, true, false, cond, eqb, leb, List, [], ◌∷◌, ◌++◌, length, get_or, drop, take, set, subst, sym, replicate, refl, ap, ◌∙◌, append_assoc, arith, length-append, take_all, eqb-true, le-leb, leb-false, leb-true}
+use Rattle.std.proofs.Common.{◌≡◌, ℕ, zero, suc, ◌+◌, ◌-◌, ◌*◌, ◌^◌, ◌<◌, ◌≤◌, Bool, true, false, cond, eqb, leb, List, [], ◌∷◌, ◌++◌, length, get_or, drop, take, set, subst, sym, replicate, refl, ap, ◌∙◌, append_assoc, arith, length-append, take_all, eqb-true, le-leb, leb-false, leb-true}
 use lib.ListN.{length-replicate}
 use Rattle.std.specs.Bool.{MatchBool}
 use Rattle.std.specs.List.{AllWithin, HoldsAt, zip}

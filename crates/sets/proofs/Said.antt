@@ -1,5 +1,5 @@
 -- Questions asked in order: what a call that was asked said, in the terms of its contract, and what is left after some yes. Assumes nothing.
-use Rattle.std.proofs.Common.{◌≡◌, ℕ, Bool, true, false, not, List, drop, sym, ap, ◌∙◌}
+use Rattle.std.proofs.Common.{◌≡◌, Bool, true, false, not, sym, ap, ◌∙◌}
 use borrow.Author.Tests.{not-true, not-false}
 
 -- `!asked` was taken, or it was not

@@ -1,7 +1,8 @@
-// How large the areas must be that are lent for so many records.
-ghost use Rattle.std.specs.Prelude.{◌≡◌, ◌≤◌, if◌then◌else◌};
+// How large the areas must be that are lent for so many records, and sums of their words.
+ghost use Rattle.std.specs.Prelude.{◌≡◌, ◌^◌, ◌<◌, ◌≤◌, length, if◌then◌else◌};
 ghost use Rattle.sets.specs.Questions.{most_records};
 ghost use Rattle.sets.specs.Areas.{area_words_for, area_words_reply, words_needed};
+ghost use Rattle.sets.specs.Rebuild.{sum_of};
 
 use crate::questions::{check_counts, filter_words_for};
 use hash_parts::error::SegmentCacheBuildError;
@@ -52,4 +53,17 @@ fn scratch_words(packed: bool, buckets: usize) -> usize
     ensures { result ≡ (if packed then buckets else 0) }
 {
     if packed { buckets } else { 0 }
+}
+
+// The sum of the first words of an area.
+pub fn sum_of(words: &[u64], count: usize) -> usize
+    requires inside { count ≤ length words.now }
+    requires fits { sum_of count words.now < 2 ^ 64 }
+    ensures { result ≡ sum_of count words.now }
+{
+    let mut sum = 0;
+    for &word in &words[..count] {
+        sum += word as usize;
+    }
+    sum
 }

@@ -2,7 +2,8 @@
 // lent index.
 ghost use Rattle.std.specs.Prelude.{◌≡◌, length};
 ghost use Rattle.sets.specs.Answers.{probe_reply, stats_reply, walk_reply};
-ghost use Rattle.sets.specs.Lookup.{areas_hold_lookup, areas_hold_set, after_get, after_peek, find_of, get_result, probe_answer, set_fits, stats_answer, after_take, take_result, view_of, walk_answer};
+ghost use Rattle.sets.specs.Questions.{check_number, first_no};
+ghost use Rattle.sets.specs.Lookup.{areas_hold_lookup, areas_hold_set, after_get, after_peek, ask_lookup, find_of, get_result, probe_answer, set_fits, stats_answer, after_take, take_result, view_of, walk_answer};
 
 use crate::lookup::{base_record, live_value, mark_live, next_entry};
 use crate::marks::clear_accessed;
@@ -49,7 +50,7 @@ pub struct SegmentBaseRecord {
 
 impl FrozenSegmentCache {
     // The value of a live record, as a part of the arena, and its mark set.
-    #[tactic(auto, using(crate::proofs::Finding::lookup_slot), unfolding(crate::specs::Lookup::after_get, crate::specs::Lookup::ask_lookup))]
+    #[tactic(auto, using(crate::proofs::Finding::lookup_slot, crate::proofs::Decides::decided_refused), unfolding(crate::specs::Lookup::after_get, crate::specs::Lookup::ask_lookup))]
     pub fn get_at_tick(
         self,
         hash: u64,
@@ -61,9 +62,7 @@ impl FrozenSegmentCache {
     ) -> Result<Option<Span>, SegmentCacheBuildError>
         ensures { get_result result index.new ≡ after_get self hash key.now now_tick index.old filter.now areas.entry.starts.now areas.entry.lengths.now areas.entry.arena.now }
     {
-        if !self.lookup_areas_hold(index.len(), filter.len(), areas) {
-            return Err(SegmentCacheBuildError::InvalidState);
-        }
+        self.check_lookup(index.len(), filter.len(), areas)?;
         let Some(found) = self.find(hash, key, index, filter, areas) else {
             return Ok(None);
         };
@@ -72,7 +71,7 @@ impl FrozenSegmentCache {
     }
 
     // The same with no mark set.
-    #[tactic(auto, unfolding(crate::specs::Lookup::after_peek, crate::specs::Lookup::after_get, crate::specs::Lookup::ask_lookup))]
+    #[tactic(auto, using(crate::proofs::Decides::decided_refused), unfolding(crate::specs::Lookup::after_peek, crate::specs::Lookup::after_get, crate::specs::Lookup::ask_lookup))]
     pub fn peek_at_tick(
         self,
         hash: u64,
@@ -84,9 +83,7 @@ impl FrozenSegmentCache {
     ) -> Result<Option<Span>, SegmentCacheBuildError>
         ensures { get_result result index.now ≡ after_peek self hash key.now now_tick index.now filter.now areas.entry.starts.now areas.entry.lengths.now areas.entry.arena.now }
     {
-        if !self.lookup_areas_hold(index.len(), filter.len(), areas) {
-            return Err(SegmentCacheBuildError::InvalidState);
-        }
+        self.check_lookup(index.len(), filter.len(), areas)?;
         let Some(found) = self.find(hash, key, index, filter, areas) else {
             return Ok(None);
         };
@@ -94,7 +91,7 @@ impl FrozenSegmentCache {
     }
 
     // Clears the mark of a record, lapsed or not, and says whether it was set.
-    #[tactic(auto, using(crate::proofs::Finding::lookup_slot), unfolding(crate::specs::Lookup::after_take, crate::specs::Lookup::ask_lookup))]
+    #[tactic(auto, using(crate::proofs::Finding::lookup_slot, crate::proofs::Decides::decided_refused), unfolding(crate::specs::Lookup::after_take, crate::specs::Lookup::ask_lookup))]
     pub fn take_accessed(
         self,
         hash: u64,
@@ -105,9 +102,7 @@ impl FrozenSegmentCache {
     ) -> Result<bool, SegmentCacheBuildError>
         ensures { take_result result index.new ≡ after_take self hash key.now index.old filter.now areas.entry.starts.now areas.entry.lengths.now areas.entry.arena.now }
     {
-        if !self.lookup_areas_hold(index.len(), filter.len(), areas) {
-            return Err(SegmentCacheBuildError::InvalidState);
-        }
+        self.check_lookup(index.len(), filter.len(), areas)?;
         let Some(found) = self.find(hash, key, index, filter, areas) else {
             return Ok(false);
         };
@@ -115,7 +110,7 @@ impl FrozenSegmentCache {
     }
 
     // All that is known of a record, lapsed or not. No mark is set.
-    #[tactic(auto, unfolding(crate::specs::Lookup::probe_answer, crate::specs::Lookup::ask_lookup))]
+    #[tactic(auto, using(crate::proofs::Decides::decided_refused), unfolding(crate::specs::Lookup::probe_answer, crate::specs::Lookup::ask_lookup))]
     pub fn probe_hashed_at_tick(
         self,
         hash: u64,
@@ -127,9 +122,7 @@ impl FrozenSegmentCache {
     ) -> Result<Option<SegmentBaseRecord>, SegmentCacheBuildError>
         ensures { (probe_reply result ≡ probe_answer self hash key.now now_tick index.now filter.now areas.entry.starts.now areas.entry.lengths.now areas.entry.arena.now) × (index.now ≡ index.now) }
     {
-        if !self.lookup_areas_hold(index.len(), filter.len(), areas) {
-            return Err(SegmentCacheBuildError::InvalidState);
-        }
+        self.check_lookup(index.len(), filter.len(), areas)?;
         let Some(found) = self.find(hash, key, index, filter, areas) else {
             return Ok(None);
         };
@@ -148,7 +141,12 @@ impl FrozenSegmentCache {
     ) -> Result<Option<SegmentBaseRecord>, SegmentCacheBuildError>
         ensures { (walk_reply result ≡ walk_answer self from now_tick index.now areas.entry.starts.now areas.entry.lengths.now areas.entry.arena.now) × (index.now ≡ index.now) }
     {
-        if !self.areas_hold(index.len(), areas) {
+        let SegmentAreas {
+            starts,
+            lengths,
+            arena,
+        } = areas;
+        if !self.areas_hold(index.len(), starts.len(), lengths.len(), arena.len()) {
             return Err(SegmentCacheBuildError::InvalidState);
         }
         let found = next_entry(self.view(), self.finished_index(index), from, areas);
@@ -193,7 +191,8 @@ impl FrozenSegmentCache {
         find_record(self.view(), index, filter, areas, key, hash)
     }
 
-    fn finished_index(self, words: &[u64]) -> FinishedIndex<'_>
+    // Its index, whose words are lent.
+    pub fn finished_index(self, words: &[u64]) -> FinishedIndex<'_>
         ensures { (result.words.now ≡ words.now) × (result.packed ≡ self.config.packed_bucket_index) × (result.buckets ≡ self.buckets) }
     {
         FinishedIndex {
@@ -203,17 +202,47 @@ impl FrozenSegmentCache {
         }
     }
 
-    // Question 1 of a lookup: all five areas.
+    // The question of a lookup.
+    #[tactic(auto, unfolding(crate::specs::Lookup::ask_lookup))]
+    fn check_lookup(
+        self,
+        index_len: usize,
+        filter_len: usize,
+        areas: SegmentAreas<'_>,
+    ) -> Result<(), SegmentCacheBuildError>
+        ensures { check_number result ≡ first_no (ask_lookup self index_len filter_len (length areas.entry.starts.now) (length areas.entry.lengths.now) (length areas.entry.arena.now)) }
+    {
+        let SegmentAreas {
+            starts,
+            lengths,
+            arena,
+        } = areas;
+        if !self.lookup_areas_hold(
+            index_len,
+            filter_len,
+            starts.len(),
+            lengths.len(),
+            arena.len(),
+        ) {
+            return Err(SegmentCacheBuildError::InvalidState);
+        }
+        Ok(())
+    }
+
+    // Question 1 of a lookup: all five areas. They go by their lengths: a caller may have no more of them.
     #[tactic(auto, unfolding(crate::specs::Lookup::areas_hold_lookup))]
     pub fn lookup_areas_hold(
         self,
         index_len: usize,
         filter_len: usize,
-        areas: SegmentAreas<'_>,
+        starts_len: usize,
+        lengths_len: usize,
+        arena_len: usize,
     ) -> bool
-        ensures { result ≡ areas_hold_lookup self index_len filter_len (length areas.entry.starts.now) (length areas.entry.lengths.now) (length areas.entry.arena.now) }
+        ensures { result ≡ areas_hold_lookup self index_len filter_len starts_len lengths_len arena_len }
     {
-        self.areas_hold(index_len, areas) && self.filter_words <= filter_len
+        self.areas_hold(index_len, starts_len, lengths_len, arena_len)
+            && self.filter_words <= filter_len
     }
 
     // What a reader must know of the set.
@@ -242,12 +271,18 @@ impl FrozenSegmentCache {
 
     // Question 1: index, segment areas and arena.
     #[tactic(auto, unfolding(crate::specs::Lookup::areas_hold_set))]
-    pub fn areas_hold(self, index_len: usize, areas: SegmentAreas<'_>) -> bool
-        ensures { result ≡ areas_hold_set self index_len (length areas.entry.starts.now) (length areas.entry.lengths.now) (length areas.entry.arena.now) }
+    pub fn areas_hold(
+        self,
+        index_len: usize,
+        starts_len: usize,
+        lengths_len: usize,
+        arena_len: usize,
+    ) -> bool
+        ensures { result ≡ areas_hold_set self index_len starts_len lengths_len arena_len }
     {
         self.fits()
             && self.buckets <= index_len / BUCKET_SLOTS
-            && segment_areas_hold(areas.starts.len(), areas.lengths.len())
-            && arena_holds(self.filled, areas.arena.len())
+            && segment_areas_hold(starts_len, lengths_len)
+            && arena_holds(self.filled, arena_len)
     }
 }

@@ -8,7 +8,7 @@ mod build_questions;
 pub mod builder;
 pub mod cache;
 pub mod kept;
-mod lookup;
+pub mod lookup;
 mod marks;
 mod questions;
 pub mod rebuild;

@@ -78,7 +78,7 @@ pub(crate) fn next_entry(
 
 // The record that a slot names.
 #[tactic(auto, unfolding(crate::specs::Lookup::entry_at))]
-fn entry_at(
+pub fn entry_at(
     view: SegmentView,
     index: FinishedIndex<'_>,
     slot: usize,

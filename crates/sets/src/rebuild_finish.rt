@@ -5,6 +5,7 @@ ghost use Rattle.sets.specs.Kept.{retained};
 ghost use Rattle.sets.specs.Questions.{check_number, counts_fit, first_no, most_arena_bytes};
 ghost use Rattle.sets.specs.Rebuild.{adds_segment, ask_rebuild_finish, build_of, rebuild_filled, rebuilt_set, sum_of, with_last};
 
+use crate::areas::sum_of;
 use crate::cache::FrozenSegmentCache;
 use crate::questions::scratch_holds;
 use crate::rebuild::{SharedSegmentCacheBuild, SharedSegmentCacheBuilder};
@@ -109,17 +110,4 @@ impl SharedSegmentCacheBuilder {
             retained
         }
     }
-}
-
-// The sum of the first words of an area.
-fn sum_of(words: &[u64], count: usize) -> usize
-    requires inside { count ≤ length words.now }
-    requires fits { sum_of count words.now < 2 ^ 64 }
-    ensures { result ≡ sum_of count words.now }
-{
-    let mut sum = 0;
-    for &word in &words[..count] {
-        sum += word as usize;
-    }
-    sum
 }

@@ -230,15 +230,20 @@ fn arena_holds_both(source_filled: usize, copied: usize, arena_len: usize) -> bo
         && arena_holds(source_filled + copied, arena_len)
 }
 
-// Question 1 of a source.
+// Question 1 of a source. A caller may have no more of the arena than its length.
 #[tactic(auto, using(crate::proofs::RebuildSteps::areas_256, crate::proofs::Counts::set_segments), unfolding(crate::specs::Rebuild::areas_hold_source))]
-pub fn source_holds(source: FrozenSegmentCache, areas: SegmentAreas<'_>) -> bool
-    ensures { result ≡ areas_hold_source source areas.entry.starts.now areas.entry.lengths.now (length areas.entry.arena.now) }
+pub fn source_holds(
+    source: FrozenSegmentCache,
+    starts: &[u64],
+    lengths: &[u64],
+    arena_len: usize,
+) -> bool
+    ensures { result ≡ areas_hold_source source starts.now lengths.now arena_len }
 {
     source.fits()
-        && segment_areas_hold(areas.starts.len(), areas.lengths.len())
-        && arena_holds(source.filled, areas.arena.len())
-        && segments_inside(source.segments, source.filled, areas.starts, areas.lengths)
+        && segment_areas_hold(starts.len(), lengths.len())
+        && arena_holds(source.filled, arena_len)
+        && segments_inside(source.segments, source.filled, starts, lengths)
 }
 
 // The questions of rebuild open.
@@ -256,7 +261,12 @@ pub(crate) fn check_rebuild_open(
 ) -> Result<(), SegmentCacheBuildError>
     ensures { check_number result ≡ first_no (ask_rebuild_open source source_areas.entry.starts.now source_areas.entry.lengths.now (length source_areas.entry.arena.now) entry_count copied_record_capacity used_source_segments.now index_len filter_len starts_len lengths_len) }
 {
-    if !source_holds(source, source_areas) {
+    let SegmentAreas {
+        starts,
+        lengths,
+        arena,
+    } = source_areas;
+    if !source_holds(source, starts, lengths, arena.len()) {
         return Err(SegmentCacheBuildError::InvalidState);
     }
     if used_source_segments.len() != source.segments {

@@ -1,11 +1,11 @@
--- What the sheet command leaves of a file: the load, then the sheet of what is loaded. Document 02, Changes 2 and 4.
+-- What the sheet command leaves of a file: the load, then the sheet of what is loaded.
 -- Assumes nothing.
-use Rattle.std.specs.Prelude.{cond, List, ℕ, ◌*◌, ltb, length, take}
+use Rattle.std.specs.Prelude.{cond, List, ℕ, ◌*◌, ltb, length, take, Result}
+use Rattle.hash_parts.specs.declared.error.SegmentCacheBuildError.{SegmentCacheBuildError}
 use Rattle.sets.specs.Answers.{Reply, accept, refuse}
 use Rattle.sets.specs.declared.cache.FrozenSegmentCache.{FrozenSegmentCache}
 use Rattle.files.specs.Load.{Loaded, after_load}
 use Rattle.charts.specs.Sheet.{Printed, after_sheet, sheet_reply}
-use Rattle.charts.specs.declared.sheet.SheetAnswer.{SheetAnswer}
 
 -- nothing is printed of a file that does not load
 abbrev pub refused : ℕ → List ℕ → Printed
@@ -31,5 +31,5 @@ pages_of (accept n) = n
 pages_of (refuse n u) = 0
 
 -- the bytes of the pages that an answer tells
-abbrev pub page_bytes : SheetAnswer → ℕ
+abbrev pub page_bytes : Result ℕ SegmentCacheBuildError → ℕ
 page_bytes r = 3250 * pages_of (sheet_reply r)

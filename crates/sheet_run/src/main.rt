@@ -1,4 +1,4 @@
-// The sheet of document 01's example.
+// The sheet of the paper's example.
 #![tactic(auto)]
 
 use std::io;

@@ -4,7 +4,8 @@ ghost use Rattle.std.specs.Prelude.{◌≤◌, length};
 use std::io::Read;
 
 // Reads until the area is full or the input ends, and tells how many bytes stand at the front of the
-// area. A read that fails is taken for the end.
+// area. A read that fails is taken for the end. The library's read_exact does not tell how many came, and
+// its read_to_end allocates.
 pub fn read_full<R: Read>(reader: &mut R, area: &mut [u8]) -> usize
     ensures { result ≤ length area.new }
 {
@@ -12,7 +13,7 @@ pub fn read_full<R: Read>(reader: &mut R, area: &mut [u8]) -> usize
     while done < area.len() {
         let count = read_some(reader, &mut area[done..]);
         if count == 0 {
-            return done;
+            break;
         }
         done += count;
     }
@@ -24,8 +25,5 @@ pub fn read_full<R: Read>(reader: &mut R, area: &mut [u8]) -> usize
 pub fn read_some<R: Read>(reader: &mut R, area: &mut [u8]) -> usize
     ensures { result ≤ length area.new }
 {
-    match reader.read(area) {
-        Ok(count) => count,
-        Err(_) => 0,
-    }
+    reader.read(area).unwrap_or(0)
 }

@@ -28,24 +28,12 @@ pub fn prefix(rt: &impl Print, value: usize, area: &[u8], count: usize) -> io::R
     front(rt, area, count)
 }
 
-// The first bytes of an area.
+// The first bytes of an area in hexadecimal, each with a space before it; none where it has fewer.
 pub fn front(rt: &impl Print, area: &[u8], count: usize) -> io::Result<()> {
-    if count <= area.len() {
-        bytes(rt, &area[0..count])?;
+    for byte in area.get(..count).unwrap_or(&[]) {
+        print!(rt; " {byte:02x}")?;
     }
     Ok(())
-}
-
-// Bytes in hexadecimal, each with a space before it.
-fn bytes(rt: &impl Print, bytes: &[u8]) -> io::Result<()> {
-    for shown in bytes {
-        byte(rt, *shown)?;
-    }
-    Ok(())
-}
-
-fn byte(rt: &impl Print, byte: u8) -> io::Result<()> {
-    print!(rt; " {byte:02x}")
 }
 
 // Bytes as they are, which need not be text.

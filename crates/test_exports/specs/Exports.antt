@@ -2,7 +2,7 @@
 use Rattle.std.specs.Prelude.{ℕ, ◌+◌, ◌^◌, Bool, true, false, cond, List, [], ◌∷◌, eqb, leb, ltb, length, get_or, None, Option, Some}
 use Rattle.hash_parts.specs.Outcome.{Outcome}
 use Rattle.hash_parts.specs.declared.duration.Duration.{Duration}
-use Rattle.hash_parts.specs.declared.duration.Nanoseconds.{Nanoseconds}
+use Rattle.hash_parts.specs.Duration.{Nanoseconds}
 use Rattle.hash_parts.specs.declared.duration.SegmentRemainingTtl.{SegmentRemainingTtl}
 use Rattle.hash_parts.specs.declared.duration.SegmentRemainingTtl.TheVariants as left
 use Rattle.hash_parts.specs.declared.setting.SegmentExpiry.{SegmentExpiry}
@@ -65,26 +65,29 @@ abbrev pub nanos_told : Nanoseconds → List ℕ
 nanos_told n = n.high ∷ n.low ∷ []
 
 -- 0: nothing is left; 1: it never lapses; 2: seconds and nanoseconds
-abbrev pub left_told : SegmentRemainingTtl → Told ℕ
-left_told left.Nothing = told 0 []
-left_told left.Never = told 1 []
-left_told (left.Finite d) = told 2 (d.secs ∷ d.nanos ∷ [])
+abbrev pub left_told : Option SegmentRemainingTtl → Told ℕ
+left_told None = told 0 []
+left_told (Some left.Never) = told 1 []
+left_told (Some (left.Finite d)) = told 2 (d.secs ∷ d.nanos ∷ [])
 
 -- whether there is a number; the number and the position after it
 abbrev pub varint_told : Option (ℕ × ℕ) → Told Bool
 varint_told None = told false []
 varint_told (Some (v, next)) = told true (v ∷ next ∷ [])
 
--- whether there is a record; location, bytes before the key, key's place and length, value's place and length, deadline, end
+-- location, bytes before the key, key's place and length, value's place and length, deadline, end
+abbrev pub record_words : RecordRef → List ℕ
+record_words r = r.location ∷ r.key_offset ∷ r.key.at ∷ r.key.len ∷ r.value.at ∷ r.value.len ∷ r.expires_at ∷ r.end ∷ []
+
+-- whether there is a record, and its words
 abbrev pub record_told : Option RecordRef → Told Bool
 record_told None = told false []
-record_told (Some r) =
-    told true (r.location ∷ r.key_offset ∷ r.key.at ∷ r.key.len ∷ r.value.at ∷ r.value.len ∷ r.expires_at ∷ r.end ∷ [])
+record_told (Some r) = told true (record_words r)
 
 -- whether there is a record of the key; its slot, and the words of the record
 abbrev pub found_told : Option FoundRecord → Told Bool
 found_told None = told false []
-found_told (Some f) = told true (f.slot ∷ (record_told (Some f.entry)).words)
+found_told (Some f) = told true (f.slot ∷ record_words f.entry)
 
 -- the byte at i, or 256 past the end
 unfoldable pub byte_or256 : List ℕ → ℕ → ℕ

@@ -11,7 +11,11 @@ ghost use Rattle.index.specs.View.{record_in};
 ghost use Rattle.index.specs.Word.{marked, unmarked, word_of, word_stored, word_tag};
 ghost use Rattle.test_exports.specs.Exports.{code_of, expiry_of, found_told, lent, record_told, slot_code, told, view_of};
 
-use index::view::SegmentView;
+use hash_parts::error::SegmentCacheBuildError;
+use index::filter::NegativeFilter;
+use index::find::FinishedIndex;
+use index::view::{SegmentAreas, SegmentView};
+use records::record::Records;
 
 #[unsafe(no_mangle)]
 pub extern "C" fn test_encode_index_word(tag: u64, location: u64) -> u64
@@ -88,11 +92,7 @@ pub extern "C" fn test_clear_words(words: &mut [u64], count: usize)
 fn slot_code(slot: Result<usize, SegmentCacheBuildError>) -> u64
     ensures { result ≡ slot_code (slot_outcome slot) }
 {
-    match slot {
-        Ok(at) => at as u64,
-        Err(SegmentCacheBuildError::DuplicateKey) => 0x8000_0000_0000_0004,
-        Err(SegmentCacheBuildError::CapacityOverflow) => 0x8000_0000_0000_0003,
-    }
+    crate::code_of(0x8000_0000_0000_0000, slot)
 }
 
 #[unsafe(no_mangle)]
@@ -107,7 +107,11 @@ pub extern "C" fn test_find_build_slot(
     ensures { result ≡ slot_code (build_slot index.now buckets records.now (expiry_of on 1 0) key.now hash) }
 {
     let expiry = crate::expiry_of(on, 1, 0);
-    slot_code(index::build::find_build_slot(index, buckets, records, expiry, key, hash))
+    let records = Records {
+        bytes: records,
+        expiry,
+    };
+    slot_code(index::build::find_build_slot(index, buckets, records, key, hash))
 }
 
 #[unsafe(no_mangle)]
@@ -149,7 +153,11 @@ pub extern "C" fn test_mark_negative_filter(filter: &mut [u64], words: usize, ha
 pub extern "C" fn test_negative_filter_may_contain(filter: &[u64], words: usize, hash: u64) -> bool
     ensures { result ≡ filter_has filter.now words hash }
 {
-    index::filter::negative_filter_may_contain(filter, words, hash)
+    let filter = NegativeFilter {
+        words: filter,
+        count: words,
+    };
+    filter.may_contain(hash)
 }
 
 #[unsafe(no_mangle)]
@@ -178,10 +186,10 @@ pub extern "C" fn test_split_record_segments(
 ) -> u64
     ensures { (result ≡ code_of (2 ^ 32) (split index.old buckets filled target starts.old lengths.old).answer) × (index.new ≡ (split index.old buckets filled target starts.old lengths.old).index) × (starts.new ≡ (split index.old buckets filled target starts.old lengths.old).starts) × (lengths.new ≡ (split index.old buckets filled target starts.old lengths.old).lengths) }
 {
-    match index::segments::split_record_segments(index, buckets, filled, target, starts, lengths) {
-        Ok(count) => count as u64,
-        Err(refusal) => 0x1_0000_0000 + (refusal.number() as u64),
-    }
+    let answer = index::segments::split_record_segments(
+        index, buckets, filled, target, starts, lengths,
+    );
+    crate::code_of(0x1_0000_0000, answer)
 }
 
 #[unsafe(no_mangle)]
@@ -214,6 +222,7 @@ pub extern "C" fn test_clear_control(control: u64, slot: usize) -> u64
 
 // The words are those of test_record_at.
 #[unsafe(no_mangle)]
+#[tactic(auto, using(crate::proofs::Answers::placed_none))]
 pub extern "C" fn test_record_at_location(
     arena: &[u8],
     filled: usize,
@@ -232,31 +241,21 @@ pub extern "C" fn test_record_at_location(
         filled,
         segments,
     };
-    let Some(record) = index::view::record_at_location(
-        view, arena, starts, lengths, stored,
-    ) else {
+    let areas = SegmentAreas {
+        starts,
+        lengths,
+        arena,
+    };
+    let Some(record) = view.record_at_location(areas, stored) else {
         return false;
     };
-    let key = record.key;
-    let value = record.value;
-    crate::put_words(
-        out,
-        &[
-            record.location as u64,
-            record.key_offset as u64,
-            key.at as u64,
-            key.len as u64,
-            value.at as u64,
-            value.len as u64,
-            record.expires_at as u64,
-            record.end as u64,
-        ],
-    );
+    crate::put_words(out, &crate::record_words(record));
     true
 }
 
 // The words: the slot, and those of test_record_at.
 #[unsafe(no_mangle)]
+#[tactic(auto, using(crate::proofs::Answers::placed_none))]
 pub extern "C" fn test_find_record(
     arena: &[u8],
     filled: usize,
@@ -281,37 +280,25 @@ pub extern "C" fn test_find_record(
         filled,
         segments,
     };
-    let Some(found) = index::find::find_record(
-        view,
+    let index = FinishedIndex {
+        words: index,
         packed,
-        index,
         buckets,
-        filter,
-        filter_words,
+    };
+    let filter = NegativeFilter {
+        words: filter,
+        count: filter_words,
+    };
+    let areas = SegmentAreas {
         starts,
         lengths,
         arena,
-        key,
-        hash,
-    ) else {
+    };
+    let Some(found) = index::find::find_record(view, index, filter, areas, key, hash) else {
         return false;
     };
-    let record = found.entry;
-    let key_span = record.key;
-    let value = record.value;
-    crate::put_words(
-        out,
-        &[
-            found.slot as u64,
-            record.location as u64,
-            record.key_offset as u64,
-            key_span.at as u64,
-            key_span.len as u64,
-            value.at as u64,
-            value.len as u64,
-            record.expires_at as u64,
-            record.end as u64,
-        ],
-    );
+    let mut words = [found.slot as u64; 9];
+    words[1..].copy_from_slice(&crate::record_words(found.entry));
+    crate::put_words(out, &words);
     true
 }

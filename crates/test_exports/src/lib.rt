@@ -4,20 +4,20 @@
 
 pub mod index_calls;
 
-ghost use Rattle.std.specs.Prelude.{◌≡◌, ◌*◌, ◌%◌, ◌^◌, length};
+ghost use Rattle.std.specs.Prelude.{◌≡◌, ◌*◌, ◌%◌, ◌^◌, ◌≤◌, length};
 ghost use Rattle.hash_parts.specs.Duration.{encoded_expiry, lives_at, nanos_of, nanos_words, remaining};
 ghost use Rattle.hash_parts.specs.Hash.{tag_of, first_bucket, control_tag, secondary_tag, rotated, mixed_hash};
 ghost use Rattle.hash_parts.specs.ZeroBytes.{lowest_set, without_lowest, zero_marks};
-ghost use Rattle.records.specs.Area.{same_bytes, spanned, written};
+ghost use Rattle.records.specs.Area.{same_bytes, spanned, write_outcome, written};
 ghost use Rattle.records.specs.Record.{encoded_size, record_at, record_bytes};
 ghost use Rattle.records.specs.Uleb128.{uleb128};
-ghost use Rattle.records.specs.Option<(usize, usize)>.{read_varint};
-ghost use Rattle.test_exports.specs.Exports.{byte_or256, code_of, duration_of, expiry_of, left_told, lent, lifetime_of, nanos_told, outcome_told, placed, record_told, span_of, told, varint_told};
+ghost use Rattle.records.specs.Varint.{read_varint};
+ghost use Rattle.test_exports.specs.Exports.{byte_or256, code_of, duration_of, expiry_of, left_told, lent, lifetime_of, nanos_told, outcome_told, placed, record_told, record_words, span_of, told, varint_told};
 
 use hash_parts::duration::{Duration, SegmentRemainingTtl};
 use hash_parts::error::SegmentCacheBuildError;
 use hash_parts::setting::SegmentExpiry;
-use records::record::Span;
+use records::record::{RecordRef, Records, Span};
 
 #[unsafe(no_mangle)]
 pub extern "C" fn test_hash_tag(hash: u64) -> u64
@@ -51,14 +51,15 @@ pub extern "C" fn test_packed_secondary_tag(tag: u64) -> u16
 pub extern "C" fn test_wrapping_mul(a: u64, b: u64) -> u64
     ensures { result ≡ a * b % 2 ^ 64 }
 {
-    hash_parts::hash::wrapping_mul(a, b)
+    a.wrapping_mul(b)
 }
 
 #[unsafe(no_mangle)]
+#[tactic(auto, using(hash_parts::proofs::Rotation::rotated_law))]
 pub extern "C" fn test_rotate_left_27(hash: u64) -> u64
     ensures { result ≡ rotated hash }
 {
-    hash_parts::hash::rotate_left_27(hash)
+    hash.rotate_left(27)
 }
 
 #[unsafe(no_mangle)]
@@ -102,10 +103,7 @@ fn expiry_of(on: bool, secs: u64, nanos: u32) -> SegmentExpiry
 fn lifetime_of(finite: bool, secs: u64, nanos: u32) -> Option<Duration>
     ensures { result ≡ lifetime_of finite secs nanos }
 {
-    if finite {
-        return Some(Duration { secs, nanos });
-    }
-    None
+    finite.then_some(Duration { secs, nanos })
 }
 
 // The upper and the lower word.
@@ -113,13 +111,13 @@ fn lifetime_of(finite: bool, secs: u64, nanos: u32) -> Option<Duration>
 pub extern "C" fn test_as_nanos(secs: u64, nanos: u32, out: &mut [u64])
     ensures { out.new ≡ placed (nanos_told (nanos_words (nanos_of (duration_of secs nanos)))) out.old }
 {
-    let duration = Duration { secs, nanos };
-    let words = duration.as_nanos();
-    put_words(out, &[words.high, words.low]);
+    let number = Duration { secs, nanos }.as_nanos();
+    put_words(out, &[(number >> 64) as u64, (number % (1 << 64)) as u64]);
 }
 
 // The deadline, or 65,536 and the refusal's number.
 #[unsafe(no_mangle)]
+#[tactic(auto, using(crate::proofs::Answers::code_refused), unfolding(crate::specs::Exports::code_of))]
 pub extern "C" fn test_encode_expiry(
     on: bool,
     tick_secs: u64,
@@ -141,6 +139,7 @@ pub extern "C" fn test_encode_expiry(
 
 // 0: nothing is left. 1: it never lapses. 2: seconds and nanoseconds stand in the words.
 #[unsafe(no_mangle)]
+#[tactic(auto, using(crate::proofs::Answers::placed_none))]
 pub extern "C" fn test_remaining_ttl(
     on: bool,
     tick_secs: u64,
@@ -153,9 +152,9 @@ pub extern "C" fn test_remaining_ttl(
 {
     let expiry = expiry_of(on, tick_secs, tick_nanos);
     match hash_parts::duration::remaining_ttl(expiry, expires_at, now_tick) {
-        SegmentRemainingTtl::Nothing => 0,
-        SegmentRemainingTtl::Never => 1,
-        SegmentRemainingTtl::Finite(left) => {
+        None => 0,
+        Some(SegmentRemainingTtl::Never) => 1,
+        Some(SegmentRemainingTtl::Finite(left)) => {
             put_words(out, &[left.secs, left.nanos as u64]);
             2
         }
@@ -170,16 +169,24 @@ pub extern "C" fn test_lives_at_tick(expires_at: u16, now_tick: u64) -> bool
 }
 
 // Writes the words to the front where all of them fit.
+#[tactic(auto, unfolding(crate::specs::Exports::placed))]
 fn put_words(out: &mut [u64], words: &[u64])
     ensures { out.new ≡ placed words.now out.old }
 {
-    if out.len() < words.len() {
-        return;
+    if words.len() <= out.len() {
+        out[..words.len()].copy_from_slice(words);
     }
-    let mut i = 0;
-    while i < words.len() {
-        out[i] = words[i];
-        i += 1;
+}
+
+// A number, or a base and the refusal's number.
+#[tactic(auto, using(crate::proofs::Answers::code_refused), unfolding(crate::specs::Exports::code_of))]
+fn code_of(base: u64, answer: Result<usize, SegmentCacheBuildError>) -> u64
+    requires { base ≤ 2 ^ 63 }
+    ensures { result ≡ code_of base (write_outcome answer) }
+{
+    match answer {
+        Ok(value) => value as u64,
+        Err(refusal) => base + refusal.number() as u64,
     }
 }
 
@@ -195,14 +202,12 @@ pub extern "C" fn test_varint_bytes(value: usize) -> usize
 pub extern "C" fn test_write_varint(output: &mut [u8], value: usize) -> u64
     ensures { (result ≡ code_of (2 ^ 32) (written (uleb128 value) output.old).answer) × (output.new ≡ (written (uleb128 value) output.old).area) }
 {
-    match records::varint::write_varint(output, value) {
-        Ok(bytes) => bytes as u64,
-        Err(refusal) => 0x1_0000_0000 + (refusal.number() as u64),
-    }
+    code_of(0x1_0000_0000, records::varint::write_varint(output, value))
 }
 
 // The words: the value and the position after it.
 #[unsafe(no_mangle)]
+#[tactic(auto, using(crate::proofs::Answers::placed_none))]
 pub extern "C" fn test_read_varint(input: &[u8], cursor: usize, out: &mut [u64]) -> bool
     ensures { told result out.new ≡ lent (varint_told (read_varint input.now cursor)) out.old }
 {
@@ -215,6 +220,7 @@ pub extern "C" fn test_read_varint(input: &[u8], cursor: usize, out: &mut [u64])
 
 // 0 and the size in a word, or the refusal's number.
 #[unsafe(no_mangle)]
+#[tactic(auto, using(crate::proofs::Answers::told_refused), unfolding(crate::specs::Exports::outcome_told))]
 pub extern "C" fn test_encoded_record_bytes(
     on: bool,
     key_bytes: usize,
@@ -235,6 +241,7 @@ pub extern "C" fn test_encoded_record_bytes(
 
 // 0 and the number of bytes written in a word, or the refusal's number.
 #[unsafe(no_mangle)]
+#[tactic(auto, using(crate::proofs::Answers::wrote_some), unfolding(crate::specs::Exports::outcome_told))]
 pub extern "C" fn test_append_record(
     rest: &mut [u8],
     on: bool,
@@ -258,29 +265,31 @@ pub extern "C" fn test_append_record(
 // The words: location, bytes before the key, key's place and length, value's place and length,
 // deadline, end.
 #[unsafe(no_mangle)]
+#[tactic(auto, using(crate::proofs::Answers::placed_none))]
 pub extern "C" fn test_record_at(bytes: &[u8], on: bool, location: usize, out: &mut [u64]) -> bool
     ensures { told result out.new ≡ lent (record_told (record_at (expiry_of on 1 0) bytes.now location)) out.old }
 {
     let expiry = expiry_of(on, 1, 0);
-    let Some(record) = records::record::record_at(bytes, expiry, location) else {
+    let Some(record) = Records { bytes, expiry }.record_at(location) else {
         return false;
     };
-    let key = record.key;
-    let value = record.value;
-    put_words(
-        out,
-        &[
-            record.location as u64,
-            record.key_offset as u64,
-            key.at as u64,
-            key.len as u64,
-            value.at as u64,
-            value.len as u64,
-            record.expires_at as u64,
-            record.end as u64,
-        ],
-    );
+    put_words(out, &record_words(record));
     true
+}
+
+fn record_words(read: RecordRef) -> [u64; 8]
+    ensures { result ≡ record_words read }
+{
+    [
+        read.location as u64,
+        read.key_offset as u64,
+        read.key.at as u64,
+        read.key.len as u64,
+        read.value.at as u64,
+        read.value.len as u64,
+        read.expires_at as u64,
+        read.end as u64,
+    ]
 }
 
 #[unsafe(no_mangle)]
@@ -301,18 +310,10 @@ pub extern "C" fn test_value_slice_len(arena: &[u8], at: usize, len: usize) -> u
 // The byte at i of the part, or 256 past its end: the length alone does not show where the part
 // begins.
 #[unsafe(no_mangle)]
+#[tactic(auto, unfolding(crate::specs::Exports::byte_or256))]
 pub extern "C" fn test_value_slice_byte(arena: &[u8], at: usize, len: usize, i: usize) -> u64
     ensures { result ≡ byte_or256 (spanned arena.now (span_of at len)) i }
 {
     let part = records::record::value_slice(arena, Span { at, len });
-    if i < part.len() {
-        return wide(part[i]);
-    }
-    256
-}
-
-fn wide(byte: u8) -> u64
-    ensures { result ≡ byte }
-{
-    byte as u64
+    part.get(i).map_or(256, |&byte| byte as u64)
 }

@@ -12,6 +12,7 @@ use borrow.Rule.Slice.PartMut.{put_mid}
 use lib.Dec.{leb, ltb, lit<}
 use lib.ListN.{length, get_or, take, drop, set, length-append, length-drop, length-set, length-take, drop_of_length-le}
 use lib.Seq.{drop-cons, drop_at, drop-drop, set_split, length-take-le, take_at}
+use Rattle.std.proofs.lemmas.List.{take_rest}
 use Rattle.records.specs.Area.{over, pasted}
 use Rattle.records.proofs.Area.{part_home}
 use Rattle.texts.specs.Output.{digits_in, decimal_text, hex_digit, hex_text, Output, output, appended, ended_before}
@@ -85,16 +86,25 @@ module _ {value rest : ℕ} {digits : List ℕ} {i : ℕ} (s : Spelt value rest 
       let e : i - 1 + 1 ≡ i = omega (arith, spelt_room) in
       set_front digits (i - 1) x spelt_room.1 ∙ ap (λ (n : ℕ). x ∷ drop n digits) e
 
-  pub spelt_next : 10 ≤ rest → Spelt value (rest / 10) (set digits (i - 1) (rest % 10 + 48)) (i - 1)
-  spelt_next h =
+  pub spelt_next : (rest / 10 ≡ 0 → ⊥) → Spelt value (rest / 10) (set digits (i - 1) (48 + rest % 10)) (i - 1)
+  spelt_next some =
+      let h : 10 ≤ rest = omega arith in
+      let d : 48 + rest % 10 ≡ rest % 10 + 48 = omega arith in
       record {
-        parts = s.parts ∙ rw (front (rest % 10 + 48), decimal_large rest h, append_assoc (decimal_text (rest / 10)) ((rest % 10 + 48) ∷ []) (drop i digits));
+        parts = s.parts ∙ rw (front (48 + rest % 10), d, decimal_large rest h, append_assoc (decimal_text (rest / 10)) ((rest % 10 + 48) ∷ []) (drop i digits));
         room = omega (arith, s.room, ap length (decimal_large rest h), length-append (decimal_text (rest / 10)) ((rest % 10 + 48) ∷ []));
-        size = (omega (arith, s.size), length-set digits (i - 1) (rest % 10 + 48) ∙ s.size.1);
+        size = (omega (arith, s.size), length-set digits (i - 1) (48 + rest % 10) ∙ s.size.1);
       }
 
-  pub spelt_last : rest < 10 → drop (i - 1) (set digits (i - 1) (rest + 48)) ≡ decimal_text value
-  spelt_last h = rw (front (rest + 48), s.parts, decimal_small rest h)
+  pub spelt_last : rest / 10 ≡ 0 → drop (i - 1) (set digits (i - 1) (48 + rest % 10)) ≡ decimal_text value
+  spelt_last none =
+      let h : rest < 10 = omega arith in
+      let d : 48 + rest % 10 ≡ rest + 48 = omega arith in
+      rw (front (48 + rest % 10), d, s.parts, decimal_small rest h)
+
+-- the digits as they are read from the array that they end
+pub digits_text : (digits : List ℕ) (from value : ℕ) → length digits ≡ 20 → drop from digits ≡ decimal_text value → take (20 - from) (drop from digits) ≡ decimal_text value
+digits_text digits from value l e = ap (λ (n : ℕ). take (n - from) (drop from digits)) (sym l) ∙ take_rest digits from ∙ e
 
 -- ---- bytes in hexadecimal
 
@@ -110,6 +120,13 @@ pub hex_length_law : (bytes : List ℕ) → length (hex_text bytes) ≡ 2 * leng
 unfolding hex_text
 hex_length_law [] = refl
 hex_length_law (b ∷ s) = omega (arith, hex_length_law s)
+
+-- ---- writing to the whole of an area
+
+pub over_all : (s area : List ℕ) → length area ≡ length s → over s area ≡ s
+over_all s area h =
+    let none : drop (length s) area ≡ [] = let short : length area ≤ length s = omega arith in drop_of_length-le area short in
+    rw none (append-nil s)
 
 -- ---- writing from a position on
 
@@ -137,6 +154,13 @@ module _ (at : ℕ) (s area : List ℕ) where
       → output n (put_mid at (length area - at) area home) ≡ appended at s area
   unfolding appended
   appended_in n home h e o = rw (e, part_home s area home at o, le-leb (at + length s) (length area) h)
+
+  -- in just its part of the area
+  pub appended_at : (n k : ℕ) (home : List ℕ) → at + length s ≤ length area → n ≡ at + length s → k ≡ n - at → home ≡ s → output n (put_mid at k area home) ≡ appended at s area
+  unfolding appended
+  appended_at n k home h e f o =
+      let m : k ≡ length s = omega arith in
+      rw (e, m, o, le-leb (at + length s) (length area) h)
 
   pub appended_out : length area < at + length s → output at area ≡ appended at s area
   unfolding appended

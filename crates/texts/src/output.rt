@@ -1,7 +1,6 @@
 // Writing text into an output area. Each function writes from a position on and gives the position
 // after what it wrote; where the text does not fit it writes nothing.
 ghost use Rattle.std.specs.Prelude.{◌≡◌, ◌*◌, ◌<◌, ◌≤◌, drop, length};
-ghost use Rattle.records.specs.Area.{over};
 ghost use Rattle.texts.specs.Output.{appended, decimal_text, ended_before, hex_digit, hex_text, output};
 
 // The most digits of a 64-bit number.
@@ -10,91 +9,68 @@ const DECIMAL_DIGITS: usize = 20;
 pub fn put_text(out: &mut [u8], at: usize, text: &[u8]) -> usize
     ensures { output result out.new ≡ appended at text.now out.old }
 {
-    if out.len() < at {
+    if out.len() < at || out.len() - at < text.len() {
         return at;
     }
-    if out.len() - at < text.len() {
-        return at;
-    }
-    write_text(&mut out[at..], text);
-    at + text.len()
+    let end = at + text.len();
+    out[at..end].copy_from_slice(text);
+    end
 }
 
 pub fn put_decimal(out: &mut [u8], at: usize, value: u64) -> usize
     ensures { output result out.new ≡ appended at (decimal_text value) out.old }
 {
-    let mut digits = [0u8; DECIMAL_DIGITS];
-    let from = write_digits(&mut digits, value);
-    put_text(out, at, &digits[from..DECIMAL_DIGITS])
+    let (digits, from) = decimal_digits(value);
+    put_text(out, at, &digits[from..])
 }
 
 // A number that ends before a position, so that its last digit is the byte before it.
 pub fn put_decimal_before(out: &mut [u8], end: usize, value: u64)
     ensures { out.new ≡ ended_before end (decimal_text value) out.old }
 {
-    let mut digits = [0u8; DECIMAL_DIGITS];
-    let from = write_digits(&mut digits, value);
-    let len = DECIMAL_DIGITS - from;
-    if end < len {
-        return;
+    let (digits, from) = decimal_digits(value);
+    let text = &digits[from..];
+    if let Some(at) = end.checked_sub(text.len()) {
+        put_text(out, at, text);
     }
-    put_text(out, end - len, &digits[from..DECIMAL_DIGITS]);
 }
 
 // Bytes in hexadecimal, small letters, two digits to a byte.
 pub fn put_hex(out: &mut [u8], at: usize, bytes: &[u8]) -> usize
     ensures { output result out.new ≡ appended at (hex_text bytes.now) out.old }
 {
-    if out.len() < at {
+    if out.len() < at || (out.len() - at) / 2 < bytes.len() {
         return at;
     }
-    if (out.len() - at) / 2 < bytes.len() {
-        return at;
-    }
-    write_hex(&mut out[at..], bytes);
-    at + bytes.len() * 2
+    let end = at + bytes.len() * 2;
+    write_hex(&mut out[at..end], bytes);
+    end
 }
 
-fn write_text(out: &mut [u8], text: &[u8])
-    requires { length text.now ≤ length out.old }
-    ensures { out.new ≡ over text.now out.old }
+// The digits of a number end an array; and where they begin.
+fn decimal_digits(value: u64) -> ([u8; DECIMAL_DIGITS], usize)
+    ensures { (drop result.1 result.0 ≡ decimal_text value) × (result.1 ≤ 20) × (length result.0 ≡ 20) }
 {
-    let mut i = 0;
-    while i < text.len() {
-        out[i] = text[i];
-        i += 1;
-    }
-}
-
-// Writes the digits to the end of an area, and gives where they begin.
-fn write_digits(digits: &mut [u8], value: u64) -> usize
-    requires { length digits.old ≡ 20 }
-    ensures { (drop result digits.new ≡ decimal_text value) × (result ≤ 20) }
-{
-    let mut i = DECIMAL_DIGITS;
+    let mut digits = [0; DECIMAL_DIGITS];
     let mut rest = value;
-    while rest >= 10 {
-        i -= 1;
-        digits[i] = (rest % 10 + 48) as u8;
-        rest = rest / 10;
+    for i in (0..DECIMAL_DIGITS).rev() {
+        digits[i] = b'0' + (rest % 10) as u8;
+        rest /= 10;
+        if rest == 0 {
+            return (digits, i);
+        }
     }
-    i -= 1;
-    digits[i] = (rest + 48) as u8;
-    i
+    (digits, 0)
 }
 
+// Fills an area that has two bytes to each.
 fn write_hex(out: &mut [u8], bytes: &[u8])
-    requires { 2 * length bytes.now ≤ length out.old }
-    ensures { out.new ≡ over (hex_text bytes.now) out.old }
+    requires { length out.old ≡ 2 * length bytes.now }
+    ensures { out.new ≡ hex_text bytes.now }
 {
-    let mut at = 0;
-    let mut i = 0;
-    while i < bytes.len() {
-        let byte = bytes[i];
-        out[at] = hex_digit(byte / 16);
-        out[at + 1] = hex_digit(byte % 16);
-        at += 2;
-        i += 1;
+    for (i, byte) in bytes.iter().enumerate() {
+        out[2 * i] = hex_digit(*byte / 16);
+        out[2 * i + 1] = hex_digit(*byte % 16);
     }
 }
 
@@ -102,8 +78,8 @@ fn hex_digit(value: u8) -> u8
     requires { value < 16 }
     ensures { result ≡ hex_digit value }
 {
-    if value < 10 {
-        return value + 48;
+    match value {
+        0..=9 => b'0' + value,
+        _ => b'a' + (value - 10),
     }
-    value + 87
 }

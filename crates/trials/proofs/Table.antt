@@ -1,4 +1,4 @@
--- Document 01's trials marked P, as one table of tests on the definitions that the contracts cite; worked values of document 02's Change 3.
+-- The paper's trials marked P, as one table of tests on the definitions that the contracts cite; worked values of long durations.
 -- Assumes nothing.
 use Rattle.std.specs.Prelude.{Some}
 use mathlib.Core.Path.{◌≡◌}
@@ -60,7 +60,7 @@ pub p_trials : T
 unfolding uleb128 uleb_in same_bytes first_bucket zero_marks zero_bytes marks bytes_of encoded_expiry deadline_at lives_at filter_word filter_mask bit_past mixed_hash rotated
 p_trials = tt
 
--- Document 02, Change 3: the two words of a duration's nanoseconds
+-- the two words of a duration's nanoseconds, as they go to C
 abbrev in_words : ℕ → ℕ → ℕ → ℕ → Bool
 in_words secs nanos high low =
     let words = nanos_words (nanos_of record { secs = secs; nanos = nanos }) in

@@ -1,29 +1,8 @@
 // The two target trials: no expiry, target 4,096. Records of 4,096 and 2 bytes make two segments; of
 // 4,095 and 3 bytes, one. The first two in the other order make one.
-use crate::calls::push;
+use crate::areas::{TrialAreas, show_number};
 use hash_parts::setting::SegmentCacheConfig;
-use sets::builder::{FinishAnswer, OpenAnswer, SegmentCacheBuilder};
 use std::io;
-
-// Shows the number of segments, or the refusal.
-pub(crate) fn finish(
-    rt: &impl Print,
-    builder: SegmentCacheBuilder,
-    target: usize,
-    index: &mut [u64],
-    starts: &mut [u64],
-    lengths: &mut [u64],
-    scratch: &mut [u64],
-    arena: &[u8],
-) -> io::Result<()> {
-    match builder.finish(target, index, starts, lengths, scratch, arena) {
-        FinishAnswer::Finished(set) => show::number(rt, b"segments", set.segments as u64),
-        FinishAnswer::Refused {
-            refusal,
-            builder: _,
-        } => show::number(rt, b"refusal", refusal.number() as u64),
-    }
-}
 
 // What the first of two records takes, and the number of segments with both.
 fn segments_of(
@@ -33,60 +12,23 @@ fn segments_of(
     second_key: &[u8],
     second_value: &[u8],
 ) -> io::Result<()> {
-    let mut index = [0u64; 8];
-    let mut arena = [0u8; 4_200];
-    let mut starts = [0u64; 256];
-    let mut lengths = [0u64; 256];
-    let OpenAnswer::Opened(builder) = SegmentCacheBuilder::try_new(
-        SegmentCacheConfig::without_expiry(),
-        2,
-        &mut index,
-        &mut [0u64; 0],
-        &starts,
-        &lengths,
-        &arena,
-    ) else {
-        return show::text(rt, b"refused\n");
+    let mut areas: TrialAreas<8, 0, 4_200> = TrialAreas::filled(0);
+    let Ok(mut builder) = areas.open(SegmentCacheConfig::without_expiry(), 2) else {
+        return println!(rt; "refused");
     };
-    let one = push(
-        rt,
-        builder,
-        1,
-        key,
-        value,
-        None,
-        &mut index,
-        &mut arena,
-    )?;
-    show::number(rt, b"first record takes", one.filled as u64)?;
-    let two = push(
-        rt,
-        one,
-        2,
-        second_key,
-        second_value,
-        None,
-        &mut index,
-        &mut arena,
-    )?;
-    finish(
-        rt,
-        two,
-        4_096,
-        &mut index,
-        &mut starts,
-        &mut lengths,
-        &mut [0u64; 1],
-        &arena,
-    )
+    areas.push(rt, &mut builder, 1, key, value, None)?;
+    println!(rt; "first record takes {}", builder.filled)?;
+    areas.push(rt, &mut builder, 2, second_key, second_value, None)?;
+    let set = areas.finish(builder, 4_096);
+    show_number(rt, "segments", set.map(|set| set.segments))
 }
 
 pub(crate) fn run(rt: &impl Print) -> io::Result<()> {
-    let value = [0u8; 4_092];
-    show::text(rt, b"target 4096, records of 4096 and 2 bytes\n")?;
+    let value = [0; 4_092];
+    println!(rt; "target 4096, records of 4096 and 2 bytes")?;
     segments_of(rt, b"a", &value, b"", b"")?;
-    show::text(rt, b"target 4096, records of 4095 and 3 bytes\n")?;
-    segments_of(rt, b"a", &value[0..4_091], b"b", b"")?;
-    show::text(rt, b"target 4096, records of 2 and 4096 bytes\n")?;
+    println!(rt; "target 4096, records of 4095 and 3 bytes")?;
+    segments_of(rt, b"a", &value[..4_091], b"b", b"")?;
+    println!(rt; "target 4096, records of 2 and 4096 bytes")?;
     segments_of(rt, b"", b"", b"a", &value)
 }

@@ -7,6 +7,3 @@ use Rattle.charts.proofs.line.put_blanks.Given as goal
 
 abbrev pub invariant-loop-number : goal.invariant-loop-number
 invariant-loop-number l = Writing (lines l.count []) (lines (l.count - l.number) []) l.initial.area l.area (65 * l.number)
-
-abbrev pub decreases-loop-number : goal.decreases-loop-number
-decreases-loop-number l = l.count - l.number

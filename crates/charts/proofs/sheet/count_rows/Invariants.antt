@@ -1,6 +1,6 @@
 -- What each turn of the loop keeps.
 use mathlib.Core.Path.{◌≡◌}
-use Prim.Native.Nat.{◌-◌, ◌*◌, ◌≤◌}
+use Prim.Native.Nat.{◌*◌, ◌≤◌}
 use Rattle.index.specs.View.{record_in}
 use Rattle.sets.specs.Lookup.{entry_at}
 use Rattle.charts.specs.Sheet.{row_count, rows_in}
@@ -9,9 +9,6 @@ use Rattle.charts.proofs.sheet.count_rows.Given as goal
 
 abbrev pub invariant-loop-slot : goal.invariant-loop-slot
 invariant-loop-slot l =
-    (row_count l.rows (rows_from (entry_at (record_in l.view l.arena l.starts l.lengths) l.packed l.buckets l.index) l.arena (8 * l.buckets) l.slot)
-    ≡ row_count 0 (rows_in (record_in l.view l.arena l.starts l.lengths) l.packed l.buckets l.index l.arena))
+    (row_count l.rows (rows_from (entry_at (record_in l.view l.areas.arena.now l.areas.starts.now l.areas.lengths.now) l.index.packed l.index.buckets l.index.words.now) l.areas.arena.now (8 * l.index.buckets) l.slot)
+    ≡ row_count 0 (rows_in (record_in l.view l.areas.arena.now l.areas.starts.now l.areas.lengths.now) l.index.packed l.index.buckets l.index.words.now l.areas.arena.now))
     × (l.rows ≤ l.slot)
-
-abbrev pub decreases-loop-slot : goal.decreases-loop-slot
-decreases-loop-slot l = l.slots - l.slot

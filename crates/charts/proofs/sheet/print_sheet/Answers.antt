@@ -5,64 +5,60 @@ use mathlib.Core.Path.{◌≡◌, sym, ap, ap₂, ◌∙◌}
 use Prim.Native.Nat.{ℕ, ◌*◌, ◌≤◌}
 use native.Mathlib.Omega.{arith}
 use lib.ListN.{length}
-use Rattle.records.specs.Area.{over}
-use Rattle.index.specs.View.{record_in}
-use Rattle.index.specs.declared.view.SegmentView.{SegmentView}
+use Rattle.std.specs.Prelude.{Ok}
+use Rattle.std.proofs.lemmas.Result.{err_from_is_err_and}
 use Rattle.sets.specs.Answers.{Reply, accept}
 use Rattle.sets.specs.Lookup.{areas_hold_set}
-use Rattle.charts.specs.Line.{Row, pages_for, sheet}
-use Rattle.charts.specs.Sheet.{pages_answer, rows_fit, rows_in, rows_of, sheet_reply, sheet_result}
-use Rattle.charts.specs.declared.sheet.SheetAnswer.{SheetAnswer}
-use Rattle.charts.specs.declared.sheet.SheetAnswer.TheVariants.{Pages}
+use Rattle.charts.specs.Line.{Row, pages_for}
+use Rattle.charts.specs.Sheet.{pages_answer, rows_fit, rows_of, sheet_reply, sheet_result}
 use Rattle.charts.proofs.Asked.{pages_told_law, sheet_fits, sheet_refused, sheet_short, slots_few}
 use Rattle.charts.proofs.sheet.print_sheet.Goals as goal
-use Rattle.charts.proofs.sheet.print_sheet.Goals.{After-sheet_pages-answer}
+use Rattle.charts.proofs.sheet.print_sheet.Goals.{After-sheet_pages}
 
-abbrev rows : (c : After-sheet_pages-answer) → List Row
-rows c = let a = c.args in rows_of a.set a.index.now a.starts.now a.lengths.now a.arena.now
+abbrev rows : (c : After-sheet_pages) → List Row
+rows c = let a = c.args in rows_of a.set a.index.now a.areas.starts.now a.areas.lengths.now a.areas.arena.now
 
 -- what is asked before the page area
-abbrev asked : (c : After-sheet_pages-answer) → Reply ℕ (Unit {0})
-asked c = let a = c.args in pages_answer a.set a.index.now a.starts.now a.lengths.now a.arena.now
+abbrev asked : (c : After-sheet_pages) → Reply ℕ (Unit {0})
+asked c = let a = c.args in pages_answer a.set a.index.now a.areas.starts.now a.areas.lengths.now a.areas.arena.now
 
 -- what is known where pages are told
-told : (c : After-sheet_pages-answer) (n : ℕ) → c.sheet_pages-answer.result ≡ Pages n
+told : (c : After-sheet_pages) (n : ℕ) → c.sheet_pages.result ≡ Ok n
     → let a = c.args in
-    (areas_hold_set a.set (length a.index.now) (length a.starts.now) (length a.lengths.now) (length a.arena.now) ≡ true)
+    (areas_hold_set a.set (length a.index.now) (length a.areas.starts.now) (length a.areas.lengths.now) (length a.areas.arena.now) ≡ true)
     × (rows_fit (rows c) ≡ true)
     × (n ≡ pages_for (length (rows c)))
 told c n e =
     let a = c.args in
-    let said : sheet_reply c.sheet_pages-answer.result ≡ asked c = c.sheet_pages-answer.ensures in
+    let said : sheet_reply c.sheet_pages.result ≡ asked c = c.sheet_pages.ensures in
     let pages : accept n ≡ asked c = sym (ap sheet_reply e) ∙ said in
-    pages_told_law a.set a.index.now a.starts.now a.lengths.now a.arena.now n pages
+    pages_told_law a.set a.index.now a.areas.starts.now a.areas.lengths.now a.areas.arena.now n pages
 
-pub returns-in_default : goal.returns-in_default
-returns-in_default c =
+pub returns-in_err-pages : goal.returns-in_err-pages
+returns-in_err-pages c =
     let a = c.args in
-    let said : sheet_reply c.sheet_pages-answer.result ≡ asked (goal.at.returns-in_default c).After-sheet_pages-answer = c.sheet_pages-answer.ensures in
-    ap (λ (r : SheetAnswer). sheet_result r a.page.now) c.in_default.is
-    ∙ sheet_refused a.set a.index.now a.starts.now a.lengths.now a.arena.now _ a.page.now (sym (ap sheet_reply c.in_default.is) ∙ said)
+    let p = err_from_is_err_and c.from_residual.result c.from_residual.ensures.1 in
+    rw (p.1, p.2) (sheet_refused a.set a.index.now a.areas.starts.now a.areas.lengths.now a.areas.arena.now _ a.page.now c.in_err-pages.ensures)
 
 pub returns-then-page-pages : goal.returns-then-page-pages
 returns-then-page-pages c =
     let a = c.args in
-    let k = told (goal.at.returns-then-page-pages c).After-sheet_pages-answer c.in-Pages.pages c.in-Pages.is in
-    sheet_short a.set a.index.now a.starts.now a.lengths.now a.arena.now k.0 k.1 a.page.now (omega (arith, c.if-page-pages.true, k.2))
+    let k = told (goal.at.returns-then-page-pages c).After-sheet_pages c.in_ok-pages.pages c.in_ok-pages.was in
+    sheet_short a.set a.index.now a.areas.starts.now a.areas.lengths.now a.areas.arena.now k.0 k.1 a.page.now (omega (arith, c.if-page-pages.true, k.2))
 
 pub write_sheet-requires : goal.write_sheet-requires
 write_sheet-requires c =
-    let k = told (goal.at.write_sheet-requires c).After-sheet_pages-answer c.in-Pages.pages c.in-Pages.is in
-    rw c.view.ensures (record { buckets_in_bounds = slots_few _ _ _ _ _ k.0; arena_value = k.1; pages_value = (k.2, omega (arith, c.if-page-pages.false)) })
+    let k = told (goal.at.write_sheet-requires c).After-sheet_pages c.in_ok-pages.pages c.in_ok-pages.was in
+    let i = c.finished_index.ensures in
+    rw (c.view.ensures, i.0, i.1, i.2) (record { buckets_in_bounds = slots_few _ _ _ _ _ k.0; arena_value = k.1; pages_value = (k.2, omega (arith, c.if-page-pages.false)) })
 
 pub returns : goal.returns
 returns c =
     let at = goal.at.returns c in
     let a = c.args in
-    let k = told at.After-sheet_pages-answer c.in-Pages.pages c.in-Pages.is in
-    let short : 3250 * pages_for (length (rows at.After-sheet_pages-answer)) ≤ length a.page.now = omega (arith, c.if-page-pages.false, k.2) in
-    let shown : SegmentView → List ℕ =
-    λ v. over (sheet (rows_in (record_in v a.arena.now a.starts.now a.lengths.now) a.set.config.packed_bucket_index a.set.buckets a.index.now a.arena.now)) a.page.now in
-    let page : _ ≡ shown c.view.result = c.write_sheet.ensures in
-    ap₂ (λ (m : ℕ) (l : List ℕ). sheet_result (Pages m) l) k.2 (page ∙ ap shown c.view.ensures)
-    ∙ sheet_fits a.set a.index.now a.starts.now a.lengths.now a.arena.now k.0 k.1 a.page.now short
+    let k = told at.After-sheet_pages c.in_ok-pages.pages c.in_ok-pages.was in
+    let short : 3250 * pages_for (length (rows at.After-sheet_pages)) ≤ length a.page.now = omega (arith, c.if-page-pages.false, k.2) in
+    let i = c.finished_index.ensures in
+    let page = rw (c.view.ensures, i.0, i.1, i.2) at c.write_sheet.ensures in
+    ap₂ (λ (m : ℕ) (l : List ℕ). sheet_result (Ok m) l) k.2 page
+    ∙ sheet_fits a.set a.index.now a.areas.starts.now a.areas.lengths.now a.areas.arena.now k.0 k.1 a.page.now short

@@ -4,50 +4,46 @@ use mathlib.Core.Path.{◌≡◌, sym, ap, ◌∙◌}
 use Prim.Native.Nat.{ℕ}
 use native.Mathlib.Omega.{arith}
 use lib.ListN.{length}
-use Rattle.index.specs.View.{record_in}
+use Rattle.std.proofs.lemmas.Result.{err_from_is_err_and}
 use Rattle.sets.specs.Answers.{accept}
-use Rattle.sets.specs.Lookup.{areas_hold_set, view_of}
+use Rattle.sets.specs.Lookup.{areas_hold_set}
 use Rattle.sets.proofs.Said.{answered_no, answered_yes}
 use Rattle.charts.specs.Line.{pages_for}
 use Rattle.charts.specs.Sheet.{ask_pages, pages_answer, row_count, rows_of}
 use Rattle.charts.proofs.Asked.{count_passed, count_refused, slots_few}
-use Rattle.charts.proofs.Rows.{rows_few}
 use Rattle.charts.proofs.sheet.sheet_pages.Goals as goal
-use Rattle.charts.proofs.sheet.sheet_pages.Goals.{After-count_rows-count, Else-not-areas_hold}
+use Rattle.charts.proofs.sheet.sheet_pages.Goals.{After-count_rows, Else-not-areas_hold}
 
 held : (c : Else-not-areas_hold) → let a = c.args in
-    areas_hold_set a.set (length a.index.now) (length a.starts.now) (length a.lengths.now) (length a.arena.now) ≡ true
+    areas_hold_set a.set (length a.index.now) (length a.areas.starts.now) (length a.areas.lengths.now) (length a.areas.arena.now) ≡ true
 held c = answered_yes c.areas_hold.ensures c.if-not-areas_hold.false
 
 -- the rows that were counted are the set's
-counted : (c : After-count_rows-count) → let a = c.args in
-    c.count_rows-count.result ≡ row_count 0 (rows_of a.set a.index.now a.starts.now a.lengths.now a.arena.now)
-counted c = c.count_rows-count.ensures ∙ rw c.view.ensures
+counted : (c : After-count_rows) → let a = c.args in
+    c.count_rows.result ≡ row_count 0 (rows_of a.set a.index.now a.areas.starts.now a.areas.lengths.now a.areas.arena.now)
+counted c = let i = c.finished_index.ensures in c.count_rows.ensures ∙ rw (c.view.ensures, i.0, i.1, i.2)
 
 pub returns-then-not-areas_hold : goal.returns-then-not-areas_hold
 unfolding pages_answer ask_pages
 returns-then-not-areas_hold c = rw (answered_no c.areas_hold.ensures c.if-not-areas_hold.true)
 
-pub count_rows-count-requires : goal.count_rows-count-requires
-count_rows-count-requires c = (slots_few _ _ _ _ _ (held (goal.at.count_rows-count-requires c).Else-not-areas_hold)).0
+pub count_rows-requires : goal.count_rows-requires
+count_rows-requires c =
+    let i = c.finished_index.ensures in
+    rw (i.0, i.2) (slots_few _ _ _ _ _ (held (goal.at.count_rows-requires c).Else-not-areas_hold)).0
 
-pub returns-in_default : goal.returns-in_default
+pub returns-in_err-rows : goal.returns-in_err-rows
 unfolding pages_answer ask_pages
-returns-in_default c =
-    let at = goal.at.returns-in_default c in
-    rw ((held at.Else-not-areas_hold), count_refused _ (sym c.in_default.is ∙ (counted at.After-count_rows-count)))
-
-pub overflow_add-result : goal.overflow_add-result
-overflow_add-result c =
-    let at = goal.at.overflow_add-result c in
-    let a = (c.before.before).args in
-    let p = count_passed _ c.in-Rows.rows (sym c.in-Rows.is ∙ (counted at.After-count_rows-count)) in
-    let few = rows_few (record_in (view_of a.set) a.arena.now a.starts.now a.lengths.now) a.set.config.packed_bucket_index a.set.buckets a.index.now a.arena.now in
-    omega (arith, p.1, few, (slots_few _ _ _ _ _ (held at.Else-not-areas_hold)).1)
+returns-in_err-rows c =
+    let at = goal.at.returns-in_err-rows c in
+    let k = count_refused _ _ (sym c.in_err-rows.was ∙ counted at.After-count_rows) in
+    let p = err_from_is_err_and c.from_residual.result c.from_residual.ensures.1 in
+    rw (p.1, p.2, k.1, held at.Else-not-areas_hold, k.0)
 
 pub returns : goal.returns
 unfolding pages_answer ask_pages
 returns c =
     let at = goal.at.returns c in
-    let p = count_passed _ c.in-Rows.rows (sym c.in-Rows.is ∙ (counted at.After-count_rows-count)) in
-    rw ((held at.Else-not-areas_hold), p.0) (ap (λ (rows : ℕ). accept (pages_for rows)) p.1)
+    let p = count_passed _ c.in_ok-rows.rows (sym c.in_ok-rows.was ∙ counted at.After-count_rows) in
+    let pages : c.div_ceil.result ≡ pages_for c.in_ok-rows.rows = omega arith in
+    rw (held at.Else-not-areas_hold, p.0) (ap (λ (n : ℕ). accept n) pages ∙ ap (λ (rows : ℕ). accept (pages_for rows)) p.1)

@@ -1,5 +1,5 @@
 -- What each turn of the loop keeps.
-use Prim.Native.Nat.{◌-◌, ◌*◌}
+use Prim.Native.Nat.{◌*◌}
 use Rattle.index.specs.View.{record_in}
 use Rattle.sets.specs.Lookup.{entry_at}
 use Rattle.charts.specs.Sheet.{rows_in}
@@ -9,8 +9,5 @@ use Rattle.charts.proofs.sheet.write_rows.Given as goal
 
 abbrev pub invariant-loop-slot : goal.invariant-loop-slot
 invariant-loop-slot l =
-    Printing (rows_in (record_in l.view l.arena l.starts l.lengths) l.packed l.buckets l.index l.arena)
-    (rows_from (entry_at (record_in l.view l.arena l.starts l.lengths) l.packed l.buckets l.index) l.arena (8 * l.buckets) l.slot) l.initial.page l.page l.rows
-
-abbrev pub decreases-loop-slot : goal.decreases-loop-slot
-decreases-loop-slot l = l.slots - l.slot
+    Printing (rows_in (record_in l.view l.areas.arena.now l.areas.starts.now l.areas.lengths.now) l.index.packed l.index.buckets l.index.words.now l.areas.arena.now)
+    (rows_from (entry_at (record_in l.view l.areas.arena.now l.areas.starts.now l.areas.lengths.now) l.index.packed l.index.buckets l.index.words.now) l.areas.arena.now (8 * l.index.buckets) l.slot) l.initial.page l.page l.rows

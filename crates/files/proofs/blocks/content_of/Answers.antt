@@ -1,28 +1,25 @@
--- `content_of` meets its contract: the blocks that are left to pass over from the position are those asked for. Assumes nothing.
-use mathlib.Core.Path.{◌≡◌, refl, ap, ◌∙◌}
-use Prim.Native.Nat.{ℕ, suc, ◌-◌}
-use native.Mathlib.Omega.{arith}
-use lib.ListN.{drop}
+-- `content_of` meets its contract: the blocks that are left to pass over are those before the one asked for. Assumes nothing.
+use Rattle.std.proofs.Common.{◌≡◌, ◌∙◌, ◌-◌, ◌+◌, ℕ, suc, ap, refl, arith}
 use Rattle.files.specs.Blocks.{content_of}
+use Rattle.files.specs.Kinds.{kind_number}
 use Rattle.files.proofs.blocks.content_of.Goals as goal
 
-pub loop-left-init : goal.loop-left-init
-loop-left-init c = (omega arith, refl)
+pub loop-init : goal.loop-init
+loop-init c = refl
 
-pub loop-left-preserved : goal.loop-left-preserved
+pub loop-preserved : goal.loop-preserved
 unfolding content_of
-loop-left-preserved c =
-    let l = c.loop-left in
-    let f = c.args.file.now in
-    let e : suc (l.left - 1) ≡ l.left = omega arith in (
-      c.next_block-at.ensures.1,
-      ap (content_of (l.left - 1)) c.next_block-at.ensures.0 ∙ ap (λ (n : ℕ). content_of n (drop l.at f)) e ∙ l.invariant.1,
-    )
+loop-preserved c =
+    let l = c.loop in
+    let n = c.number-end.result in
+    let e : n - l.counter ≡ suc (n - (l.counter + 1)) = omega arith in
+    ap (content_of (n - (l.counter + 1))) c.behind-rest.ensures ∙ rw e at l.invariant
 
 pub returns : goal.returns
 unfolding content_of
 returns c =
-    let l = c.loop-left in
-    let f = c.args.file.now in
-    let z : 0 ≡ l.left = omega arith in
-    c.content_at.ensures ∙ ap (λ (n : ℕ). content_of n (drop l.at f)) z ∙ l.invariant.1
+    let l = c.loop in
+    let n = c.number-end.result in
+    let z : n - l.counter ≡ 0 = omega arith in
+    let k : n - 1 ≡ kind_number c.args.kind - 1 = ap (λ (m : ℕ). m - 1) c.number-end.ensures in
+    c.content_in.ensures ∙ rw (z, k) at l.invariant

@@ -1,8 +1,7 @@
 -- What each turn of the loop keeps.
-use mathlib.Core.Path.{◌≡◌}
-use mathlib.Core.List.{List, ◌++◌, map}
-use Prim.Native.Nat.{ℕ, ◌+◌, ◌-◌, ◌*◌, ◌≤◌}
-use lib.ListN.{length, take, drop}
+use mathlib.Core.List.{List, map}
+use Prim.Native.Nat.{ℕ, ◌*◌}
+use lib.ListN.{drop}
 use Rattle.records.proofs.Area.{Writing}
 use Rattle.index.specs.Packed.{word_bytes}
 use Rattle.files.specs.Copies.{masked_by}
@@ -13,8 +12,4 @@ abbrev pub bytes : ℕ → List ℕ → List ℕ
 bytes mask words = word_bytes (map (masked_by mask) words)
 
 abbrev pub invariant-loop-i : goal.invariant-loop-i
-invariant-loop-i l =
-    (l.i ≤ length l.words) × (l.end ≡ l.at + 8 * l.i) × Writing (take l.at l.initial.out ++ bytes l.mask l.words) (bytes l.mask (drop l.i l.words)) l.initial.out l.out l.end
-
-abbrev pub decreases-loop-i : goal.decreases-loop-i
-decreases-loop-i l = length l.words - l.i
+invariant-loop-i l = Writing (bytes l.mask l.words) (bytes l.mask (drop l.i l.words)) l.initial.out l.out (8 * l.i)

@@ -1,17 +1,18 @@
 -- `take_words` meets its contract: the words read and those that are left to read are the words of the bytes. Assumes nothing.
 use mathlib.Core.Path.{◌≡◌, refl, sym, ap, ap₂, ◌∙◌}
-use mathlib.Core.List.{List, [], ◌∷◌, ◌++◌, map, append-nil}
+use mathlib.Core.List.{List, [], ◌∷◌, map}
 use Prim.Native.Nat.{ℕ, suc, ◌+◌, ◌-◌, ◌*◌, ◌^◌, ◌≤◌, ◌<◌}
-use native.Mathlib.Nat.{le_refl, mod-eq_of_lt}
+use native.Mathlib.Nat.{mod-eq_of_lt}
 use native.Mathlib.Omega.{arith}
 use lib.Bits.{and_mask}
-use lib.ListN.{length, drop, drop_of_length-le, length-map}
-use lib.Seq.{drop-drop}
+use lib.ListN.{length, drop, take, length-drop, length-map}
+use lib.Seq.{drop-drop, length-take-le}
 use Rattle.hash_parts.specs.ZeroBytes.{number_of}
-use Rattle.records.specs.Area.{over, part}
-use Rattle.records.proofs.Area.{begin, complete, next_byte, room}
+use Rattle.records.specs.Area.{part}
+use Rattle.records.proofs.Area.{begin, complete, next_byte}
 use Rattle.index.specs.Packed.{words_of}
 use Rattle.files.specs.Copies.{masked_by}
+use Rattle.files.proofs.Copying.{over_all, part_lent}
 use Rattle.files.proofs.Passes.{words_of_length}
 use Rattle.files.proofs.copies.take_words.Invariants.{Fitting, from}
 use Rattle.files.proofs.copies.take_words.Goals as goal
@@ -34,37 +35,23 @@ loop-i-init c =
     let w = words_of n a.bytes.now in
     let e : n - 0 ≡ n = omega arith in
     let short : length (map (masked_by a.mask) w) ≤ n = omega (arith, length-map w (masked_by a.mask), words_of_length n a.bytes.now) in
-    (omega arith, rw e (begin (map (masked_by a.mask) w) a.words.now short), λ f. rw e at f)
-
-pub bounds-words-i : goal.bounds-words-i
-bounds-words-i c = omega (arith, room c.loop-i.invariant.1)
-
-pub number_at-requires : goal.number_at-requires
-number_at-requires c = (omega (arith, room c.loop-i.invariant.1), omega arith)
-
-pub offset_bounds-words-i : goal.offset_bounds-words-i
-offset_bounds-words-i c = omega (arith, room c.loop-i.invariant.1)
-
-pub loop-i-smaller : goal.loop-i-smaller
-loop-i-smaller c = omega (arith, room c.loop-i.invariant.1)
+    (rw e (begin (map (masked_by a.mask) w) a.words.now short), λ f. rw e at f)
 
 pub loop-i-preserved : goal.loop-i-preserved
 loop-i-preserved c =
     let l = c.loop-i in
     let a = c.args in
     let n = length a.words.now in
-    let read = c.number_at in
-    let w = read.result in
+    let w = c.number_of.result in
     let rest = from a.bytes.now n (l.i + 1) in
+    let lent : take (8 * l.i + 8 - 8 * l.i) (drop (8 * l.i) a.bytes.now) ≡ part (8 * l.i) 8 a.bytes.now = part_lent (8 * l.i) (8 * l.i + 8) 8 a.bytes.now refl in
+    let eight : length (part (8 * l.i) 8 a.bytes.now) ≡ 8 = length-take-le 8 (drop (8 * l.i) a.bytes.now) (omega (arith, length-drop (8 * l.i) a.bytes.now)) in
     let one : from a.bytes.now n l.i ≡ w ∷ rest =
-    one_word a.bytes.now n l.i (omega (arith, room l.invariant.1)) ∙ ap (λ (x : ℕ). x ∷ rest) (sym read.ensures.0) in (
-      omega (arith, room l.invariant.1),
-      next_byte (masked_by a.mask w) (map (masked_by a.mask) rest) l.invariant.1 (ap (map (masked_by a.mask)) one),
-      λ f. l.invariant.2 (rw one (fitting_more w rest (omega (arith, read.ensures.1)) f)),
+    one_word a.bytes.now n l.i (omega arith) ∙ ap (λ (x : ℕ). x ∷ rest) (sym (c.number_of.ensures.0 ∙ ap number_of lent)) in
+    let small : w < 2 ^ 64 = rw (lent, eight) at c.number_of.ensures.1 in (
+      next_byte (masked_by a.mask w) (map (masked_by a.mask) rest) l.invariant.0 (ap (map (masked_by a.mask)) one),
+      λ f. l.invariant.1 (rw one (fitting_more w rest small f)),
     )
-
-pub shape_of-words : goal.shape_of-words
-shape_of-words c = (room c.loop-i.invariant.1).1
 
 pub returns : goal.returns
 unfolding words_of
@@ -73,9 +60,7 @@ returns c =
     let a = c.args in
     let n = length a.words.now in
     let whole = map (masked_by a.mask) (words_of n a.bytes.now) in
-    let z : n - l.i ≡ 0 = omega (arith, room l.invariant.1) in
+    let z : n - l.i ≡ 0 = omega arith in
     let none : from a.bytes.now n l.i ≡ [] = ap (λ (k : ℕ). words_of k (drop (8 * l.i) a.bytes.now)) z in
     let long : length whole ≡ n = length-map (words_of n a.bytes.now) (masked_by a.mask) ∙ words_of_length n a.bytes.now in
-    let none_left : drop (length whole) a.words.now ≡ [] = rw long (drop_of_length-le a.words.now (le_refl n)) in
-    let all : over whole a.words.now ≡ whole = ap (λ (t : List ℕ). whole ++ t) none_left ∙ append-nil whole in
-    ((complete l.invariant.1 (ap (map (masked_by a.mask)) none)).1 ∙ all, l.invariant.2 (rw none refl))
+    ((complete l.invariant.0 (ap (map (masked_by a.mask)) none)).1 ∙ over_all whole a.words.now (sym long), l.invariant.1 (rw none refl))

@@ -1,7 +1,7 @@
 -- What each turn of the loop keeps.
 use mathlib.Core.Path.{◌≡◌}
 use mathlib.Core.List.{List, map}
-use Prim.Native.Nat.{ℕ, ◌-◌, ◌*◌, ◌^◌, ◌≤◌}
+use Prim.Native.Nat.{ℕ, ◌-◌, ◌*◌, ◌^◌}
 use lib.ListN.{length, drop}
 use Rattle.records.proofs.Area.{Writing}
 use Rattle.index.specs.Packed.{words_of}
@@ -18,9 +18,5 @@ Fitting l = map (masked_by (2 ^ 64 - 1)) l ≡ l
 
 abbrev pub invariant-loop-i : goal.invariant-loop-i
 invariant-loop-i l =
-    (l.i ≤ length l.initial.words)
-    × Writing (map (masked_by l.mask) (words_of (length l.initial.words) l.bytes)) (map (masked_by l.mask) (from l.bytes (length l.initial.words) l.i)) l.initial.words l.words l.i
+    Writing (map (masked_by l.mask) (words_of (length l.initial.words) l.bytes)) (map (masked_by l.mask) (from l.bytes (length l.initial.words) l.i)) l.initial.words l.words l.i
     × (Fitting (from l.bytes (length l.initial.words) l.i) → Fitting (words_of (length l.initial.words) l.bytes))
-
-abbrev pub decreases-loop-i : goal.decreases-loop-i
-decreases-loop-i l = length l.initial.words - l.i

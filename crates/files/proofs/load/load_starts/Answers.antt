@@ -1,59 +1,32 @@
--- `load_starts` meets its contract: the words before the one at hand are written, and the next start is the sum of the lengths before it. Assumes nothing.
-use mathlib.Core.Path.{◌∙◌}
-use Prim.Native.Nat.{◌+◌, ◌/◌, ◌≤◌}
-use native.Mathlib.Omega.{arith}
-use lib.ListN.{length, drop, drop_of_length-le}
-use Rattle.records.proofs.Area.{begin, room, next_byte, complete}
-use Rattle.index.specs.Segments.{padded}
+-- `load_starts` meets its contract: the starts that are written and those that are left are all of them. Assumes nothing.
+use Rattle.std.proofs.Common.{rules, ◌≡◌, ◌+◌, [], ap, arith, get_or, drop}
+use Rattle.std.proofs.lemmas.List.{drop_all, drop_more}
+use Rattle.records.proofs.Area.{begin, complete, next_byte}
 use Rattle.files.specs.Contents.{starts_by}
+use Rattle.files.proofs.Copying.{padded_home}
 use Rattle.files.proofs.Moved.{starts_length}
-use Rattle.files.proofs.Passes.{words_of_length}
-use Rattle.files.proofs.Reading.{all_words, padded_length, padded_next, start_here, sum_rest}
+use Rattle.files.proofs.Reading.{sum_rest}
 use Rattle.files.proofs.load.load_starts.Goals as goal
 
 pub loop-i-init : goal.loop-i-init
-loop-i-init c =
-    let a = c.args in
-    let w = padded (starts_by 0 (all_words a.lengths.now)) in
-    (omega arith, omega arith, begin w a.starts.now (omega (arith, padded_length (starts_by 0 (all_words a.lengths.now)), c.requires.1)))
+loop-i-init c = (begin (starts_by 0 c.args.lengths.now) c.args.starts.now (omega (arith, starts_length c.args.lengths.now 0)), omega arith)
 
-pub bounds-starts-i : goal.bounds-starts-i
-bounds-starts-i c = omega (arith, room c.loop-i.invariant.2)
-
-pub overflow_add-start : goal.overflow_add-start
-overflow_add-start c =
-    let l = c.loop-i in
-    let ws = all_words c.args.lengths.now in
-    omega (arith, l.invariant.1, c.length_at-start.ensures, sum_rest ws l.i, c.requires.2)
+pub overflow_add-next : goal.overflow_add-next
+overflow_add-next c = omega (arith, c.loop-i.invariant.1, sum_rest c.args.lengths.now c.loop-i.i, c.requires.2)
 
 pub loop-i-preserved : goal.loop-i-preserved
+unfolding starts_by
 loop-i-preserved c =
     let l = c.loop-i in
-    let bytes = c.args.lengths.now in
-    let n = length bytes / 8 in
-    let ws = all_words bytes in
-    let long = words_of_length n bytes in
-    let x = c.start_at.result in
-    let all = starts_by 0 ws in (
-      omega arith,
-      omega (arith, l.invariant.1, c.length_at-start.ensures, sum_rest ws l.i),
-      next_byte x (drop (l.i + 1) (padded all)) l.invariant.2
-          (padded_next all l.i x (omega (arith, starts_length ws 0, long, c.requires.0)) (omega arith)
-          (c.start_at.ensures ∙ start_here ws n l.start l.i long l.invariant.1)),
-    )
-
-pub shape_of-starts : goal.shape_of-starts
-shape_of-starts c = (room c.loop-i.invariant.2).1
+    let ns = c.args.lengths.now in
+    let one = drop_more ns l.i 0 c.loop-i-test.true in
+    (next_byte l.next (starts_by (l.next + get_or ns l.i 0) (drop (l.i + 1) ns)) l.invariant.0 (ap (starts_by l.next) one), omega (arith, l.invariant.1, sum_rest ns l.i))
 
 pub returns : goal.returns
+unfolding starts_by
 returns c =
     let l = c.loop-i in
-    let all = starts_by 0 (all_words c.args.lengths.now) in
-    let h : length (padded all) ≤ l.i = omega (arith, padded_length all) in
-    (complete l.invariant.2 (drop_of_length-le (padded all) h)).1
-
-pub start_at-requires : goal.start_at-requires
-start_at-requires c = tt
-
-pub length_at-start-requires : goal.length_at-start-requires
-length_at-start-requires c = tt
+    let ns = c.args.lengths.now in
+    let none : starts_by l.next (drop l.i ns) ≡ [] = ap (starts_by l.next) (drop_all l.i ns (omega arith)) in
+    let all = (complete l.invariant.0 none).1 in
+    padded_home (starts_by 0 ns) c.args.starts.now l.starts _ _ all (starts_length ns 0) c.requires.0 c.requires.1 (c.fill.ensures.after (λ y e. search rules))

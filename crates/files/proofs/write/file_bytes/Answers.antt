@@ -27,7 +27,7 @@ sum_of-bytes-requires c =
     let a = c.args in
     let h = (held c) in
     let each = sum_inside a.set.filled a.starts.now a.lengths.now a.set.segments (omega (arith, h.arena_short)) h.inside in
-    (omega (arith, h.few, h.lengths_hold), omega (arith, each, h.few))
+    record { inside = omega (arith, h.few, h.lengths_hold); fits = omega (arith, each, h.few) }
 
 pub returns-then-bytes-gt-MAX_ARENA_BYTES : goal.returns-then-bytes-gt-MAX_ARENA_BYTES
 unfolding size_answer ask_size

@@ -46,7 +46,8 @@ bucket_slot-content-requires c =
 -- what the slot of the lowest mark says
 said : (c : After-find_in_slot-step) → let a = c.args in let x = a.index in
     c.find_in_slot-step.result
-    ≡ says (record_in a.view a.areas.arena.now a.areas.starts.now a.areas.lengths.now) a.areas.arena.now a.key.now x.packed a.tag x.buckets x.words.now a.bucket (lowest_set c.loop-candidates.candidates)
+    ≡ says (record_in a.view a.areas.arena.now a.areas.starts.now a.areas.lengths.now) a.areas.arena.now a.key.now x.packed a.tag x.buckets x.words.now
+    a.bucket (lowest_set c.loop-candidates.candidates)
 said c =
     let a = c.args in
     let at : a.bucket * 8 + c.lowest_marked_byte-offset.result ≡ 8 * a.bucket + c.lowest_marked_byte-offset.result = omega arith in

@@ -13,5 +13,6 @@ invariant-loop-probe l =
     let s = l.areas in
     (l.bucket ≤ x.buckets - 1)
     × (find_in l.view x.packed x.words.now x.buckets f.words.now f.count s.starts.now s.lengths.now s.arena.now l.key l.hash
-    ≡ buckets_found x.packed (filter_has f.words.now f.count l.hash) (Looks l.view x.packed x.words.now x.buckets s.starts.now s.lengths.now s.arena.now l.key l.hash) x.buckets l.probe (x.buckets - l.probe) l.bucket)
+    ≡ buckets_found x.packed (filter_has f.words.now f.count l.hash) (Looks l.view x.packed x.words.now x.buckets s.starts.now s.lengths.now s.arena.now l.key l.hash)
+    x.buckets l.probe (x.buckets - l.probe) l.bucket)
     × (0 < l.probe → l.filter_hash ≡ l.hash)

@@ -12,5 +12,7 @@ returns c =
     let first =
     IsFirst-from_position _ _ _ (λ w. ends a.tag w ≡ true) (λ w. ends a.tag w ≡ false) c.position.ensures.ran (YieldsList-from_slice a.bucket.now c.iter.ensures.rest)
     (λ x q k. search (rules, tests)) (λ x q k. search (rules, tests)) in
-    let index = index_from_first (λ ws. passed_over a.tag (map word_slot ws)) (λ w. ends a.tag w ≡ true) (λ w. ends a.tag w ≡ false) (passed_none a.tag) (passed_hit a.tag) (passed_miss a.tag) a.bucket.now _ first in
+    let index =
+    index_from_first (λ ws. passed_over a.tag (map word_slot ws)) (λ w. ends a.tag w ≡ true) (λ w. ends a.tag w ≡ false)
+    (passed_none a.tag) (passed_hit a.tag) (passed_miss a.tag) a.bucket.now _ first in
     (c.unwrap_or.ensures ∙ sym (rw c.requires at index), omega (arith, c.unwrap_or.ensures, rw c.requires at index, passed_most a.tag a.bucket.now))

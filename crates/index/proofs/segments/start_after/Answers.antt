@@ -9,14 +9,8 @@ returns-then-target-eq0 c =
     let words = take (8 * a.buckets) a.index.now in
     sym (after_untargeted words a.filled a.target a.last c.if-target-eq0.true)
 
-pub returns-then-filled-last : goal.returns-then-filled-last
-returns-then-filled-last c =
-    let a = c.args in
-    let words = take (8 * a.buckets) a.index.now in
-    sym (after_within words a.filled a.target a.last c.if-target-eq0.false (omega arith))
-
-pub returns-then-filled-last-2 : goal.returns-then-filled-last-2
-returns-then-filled-last-2 c =
+pub returns-then-saturating_sub-target : goal.returns-then-saturating_sub-target
+returns-then-saturating_sub-target c =
     let a = c.args in
     let words = take (8 * a.buckets) a.index.now in
     sym (after_within words a.filled a.target a.last c.if-target-eq0.false (omega arith))

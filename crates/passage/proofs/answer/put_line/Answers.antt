@@ -1,30 +1,28 @@
 -- `put_line` meets its contract: key and value are what their texts spell. Assumes nothing.
-use native.Mathlib.Omega.{arith}
+use Rattle.std.proofs.Common.{arith}
 use Rattle.passage_lines.specs.Reply.{reply_text}
 use Rattle.passage.specs.Stage.{answer_text}
 use Rattle.passage.proofs.Decoding.{decode_none, decode_some}
 use Rattle.passage.proofs.answer.put_line.Goals as goal
 
-pub returns-in_default : goal.returns-in_default
+pub returns-in_err-key_len : goal.returns-in_err-key_len
 unfolding answer_text reply_text
-returns-in_default c = rw (decode_none _ _ _ (rw c.in_default.is at c.decode_hex.ensures))
+returns-in_err-key_len c = rw (c.from_residual.ensures, decode_none _ _ _ c.in_err-key_len.ensures)
 
-pub returns-in_default-decode_hex : goal.returns-in_default-decode_hex
+pub returns-in_err-value_len : goal.returns-in_err-value_len
 unfolding answer_text reply_text
-returns-in_default-decode_hex c =
-    let k = decode_some _ _ _ _ (rw c.in-Bytes.is at c.decode_hex.ensures) in
-    rw (k.spelled, decode_none _ _ _ (rw c.in_default-decode_hex.is at c.decode_hex-2.ensures))
+returns-in_err-value_len c =
+    let k = decode_some _ _ _ _ c.in_ok-key_len.ensures in
+    rw (c.from_residual-in_err-value_len.ensures, k.spelled, decode_none _ _ _ c.in_err-value_len.ensures)
 
-pub slice_bounds-put_record-end : goal.slice_bounds-put_record-end
-slice_bounds-put_record-end c =
-    let k = decode_some _ _ _ _ (rw c.in-Bytes.is at c.decode_hex.ensures) in omega (arith, k.room)
+pub shared_ref_as_front-key : goal.shared_ref_as_front-key
+shared_ref_as_front-key c = let k = decode_some _ _ _ _ c.in_ok-key_len.ensures in omega (arith, k.room)
 
-pub slice_bounds-put_record-end-2 : goal.slice_bounds-put_record-end-2
-slice_bounds-put_record-end-2 c =
-    let v = decode_some _ _ _ _ (rw c.in-Bytes-decode_hex.is at c.decode_hex-2.ensures) in omega (arith, v.room)
+pub shared_ref_as_front-value : goal.shared_ref_as_front-value
+shared_ref_as_front-value c = let v = decode_some _ _ _ _ c.in_ok-value_len.ensures in omega (arith, v.room)
 
 pub returns : goal.returns
 returns c =
-    let k = decode_some _ _ _ _ (rw c.in-Bytes.is at c.decode_hex.ensures) in
-    let v = decode_some _ _ _ _ (rw c.in-Bytes-decode_hex.is at c.decode_hex-2.ensures) in
-    rw (k.spelled, v.spelled, ← k.front, ← v.front) c.put_record.ensures
+    let k = decode_some _ _ _ _ c.in_ok-key_len.ensures in
+    let v = decode_some _ _ _ _ c.in_ok-value_len.ensures in
+    rw (k.spelled, v.spelled, ← k.front, ← v.front) c.put.ensures

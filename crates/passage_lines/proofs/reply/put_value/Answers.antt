@@ -1,18 +1,18 @@
 -- `put_value` meets its contract: the rest of the area that it lends comes home. Assumes nothing.
 use native.Mathlib.Omega.{arith}
 use lib.ListN.{length-take, length-drop}
-use Rattle.passage_lines.proofs.Spelling.{appended_in, appended_out}
+use Rattle.texts.proofs.Spelling.{appended_in, appended_out}
 use Rattle.passage_lines.proofs.Replies.{value_length}
 use Rattle.passage_lines.proofs.reply.put_value.Goals as goal
+use Rattle.passage_lines.proofs.reply.put_value.Goals.{then-room-lt8-via-then-room-lt8, then-room-lt8-via-else-room-lt8+then-room-value}
 
-pub returns-then-out-at : goal.returns-then-out-at
-returns-then-out-at c = appended_out _ _ _ (omega arith)
-
-pub returns-then-out-at-lt8 : goal.returns-then-out-at-lt8
-returns-then-out-at-lt8 c = appended_out _ _ _ (omega (arith, value_length c.args.value.now))
-
-pub returns-then-out-at-2 : goal.returns-then-out-at-2
-returns-then-out-at-2 c = appended_out _ _ _ (omega (arith, value_length c.args.value.now))
+pub returns-then-room-lt8 : goal.returns-then-room-lt8
+returns-then-room-lt8 c =
+    let l = value_length c.args.value.now in
+    elim c.then-room-lt8.branch [
+      | then-room-lt8-via-then-room-lt8 w ↦ appended_out _ _ _ (omega arith)
+      | then-room-lt8-via-else-room-lt8+then-room-value w ↦ appended_out _ _ _ (omega arith)
+    ]
 
 pub write_value-requires : goal.write_value-requires
 write_value-requires c = simp (length-take, length-drop) (omega (arith, value_length c.args.value.now))

@@ -1,55 +1,43 @@
 -- `parse_number` meets its contract: the digits left, after the value read so far, spell the number that was asked. Assumes nothing.
-use mathlib.Core.Path.{◌≡◌, sym, ap, ◌∙◌}
-use Prim.Native.Nat.{◌+◌, ◌*◌, ◌≤◌}
-use native.Mathlib.Omega.{arith}
-use lib.ListN.{drop}
-use Rattle.passage_lines.specs.Text.{spelled, at_most, number_in}
-use Rattle.passage_lines.proofs.Numbers.{spelled_next, spelled_bad, spelled_end, past, in_limit, step_in, step_out, number_start, number_none}
+use Rattle.std.proofs.Common.{◌≡◌, ◌+◌, ◌*◌, sym, ap, ◌∙◌, arith}
+use Rattle.std.proofs.lemmas.Bool.Decides.{nat_tests}
+use Rattle.passage_lines.specs.Text.{at_most}
+use Rattle.passage_lines.proofs.Numbers.{number_bad, number_next, number_past, number_start, number_none, spelled_end, in_limit}
 use Rattle.passage_lines.proofs.text.parse_number.Goals as goal
-use Rattle.passage_lines.proofs.text.parse_number.Goals.{Else-next-base, Else-value-max}
 
--- one digit more
-next_of : (c : Else-next-base) → let l = c.loop-i in
-    let a = c.args in
-    number_in a.base a.max a.text.now ≡ at_most a.max (spelled a.base (l.value * a.base + c.digit-next.result) (drop (l.i + 1) a.text.now))
-next_of c =
-    let l = c.loop-i in
-    l.invariant.0 ∙ ap (at_most _) (spelled_next _ l.value _ _ _ c.loop-i-test.true c.digit-next.ensures.0 c.if-next-base.false)
+pub returns-then-is_empty : goal.returns-then-is_empty
+returns-then-is_empty c = sym (number_none _ _ _ (grind (arith, nat_tests)))
 
--- it is at most the limit
-fits_of : (c : Else-value-max) → let l = c.loop-i in
-    let a = c.args in
-    l.value * a.base + c.digit-next.result ≤ a.max
-fits_of c =
-    let l = c.loop-i in
-    step_in c.args.base c.args.max l.value c.digit-next.result c.requires.0 (omega arith) c.if-value-max.false
+pub loop-character-init : goal.loop-character-init
+loop-character-init c = (number_start _ _ _ (grind (arith, nat_tests)), omega arith)
 
-pub returns-then-text-eq0 : goal.returns-then-text-eq0
-returns-then-text-eq0 c = sym (number_none _ _ _ c.if-text-eq0.true)
+pub returns-in_err-next : goal.returns-in_err-next
+returns-in_err-next c = c.from_residual.ensures ∙ number_bad _ _ _ _ _ (omega arith) c.loop-character.invariant.0 c.in_err-next.ensures
 
-pub loop-i-init : goal.loop-i-init
-loop-i-init c = let a = c.args in (number_start a.base a.max a.text.now (omega arith), omega arith)
+pub returns-in_err-checked_mul : goal.returns-in_err-checked_mul
+returns-in_err-checked_mul c =
+    let l = c.loop-character in
+    c.from_residual-in_err-checked_mul.ensures
+    ∙ number_past _ _ _ _ _ (omega arith) l.invariant.0 c.in_ok-next.ensures c.requires.0 (omega (arith, c.in_err-checked_mul.ensures))
 
-pub returns-then-next-base : goal.returns-then-next-base
-returns-then-next-base c = let l = c.loop-i in
-    sym (l.invariant.0 ∙ ap (at_most _) (spelled_bad _ _ _ _ _ c.loop-i-test.true c.digit-next.ensures.0 c.if-next-base.true))
+pub returns-in_err-value : goal.returns-in_err-value
+returns-in_err-value c =
+    let l = c.loop-character in
+    c.from_residual-in_err-value.ensures
+    ∙ number_past _ _ _ _ _ (omega arith) l.invariant.0 c.in_ok-next.ensures c.requires.0 (omega (arith, c.in_ok-checked_mul.ensures, c.in_err-value.ensures))
 
 pub returns-then-value-max : goal.returns-then-value-max
 returns-then-value-max c =
-    let at = goal.at.returns-then-value-max c in
-    sym ((next_of at.Else-next-base) ∙ past _ _ _ _ c.requires.0 (step_out _ _ _ _ c.requires.0 c.if-value-max.true))
+    let l = c.loop-character in
+    number_past _ _ _ _ _ (omega arith) l.invariant.0 c.in_ok-next.ensures c.requires.0 (omega (arith, c.in_ok-checked_mul.ensures, c.in_ok-value.ensures))
 
-pub overflow_mul-value : goal.overflow_mul-value
-overflow_mul-value c = omega (arith, (fits_of c))
-
-pub overflow_add-value : goal.overflow_add-value
-overflow_add-value c = omega (arith, (fits_of c))
-
-pub loop-i-preserved : goal.loop-i-preserved
-loop-i-preserved c = ((next_of (goal.at.loop-i-preserved c).Else-next-base), (fits_of c))
+pub loop-character-preserved : goal.loop-character-preserved
+loop-character-preserved c =
+    let l = c.loop-character in
+    let e : c.in_ok-value.value ≡ l.value * c.args.base + c.in_ok-next.next = omega (arith, c.in_ok-checked_mul.ensures, c.in_ok-value.ensures) in
+    (rw e (number_next _ _ _ _ _ (omega arith) l.invariant.0 c.in_ok-next.ensures), omega arith)
 
 pub returns : goal.returns
-returns c = let l = c.loop-i in sym (l.invariant.0 ∙ ap (at_most _) (spelled_end _ _ _ _ c.loop-i-test.false) ∙ in_limit _ _ l.invariant.1)
-
-pub digit-next-requires : goal.digit-next-requires
-digit-next-requires c = tt
+returns c =
+    let l = c.loop-character in
+    sym (l.invariant.0 ∙ ap (at_most _) (spelled_end _ _ _ _ c.loop-character-test.false) ∙ in_limit _ _ l.invariant.1)

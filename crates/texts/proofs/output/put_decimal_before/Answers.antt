@@ -1,21 +1,19 @@
--- `put_decimal_before` meets its contract: the digits end the array that it writes from. Assumes nothing.
-use mathlib.Core.Path.{◌≡◌, ap, ◌∙◌}
-use Prim.Native.Nat.{◌-◌}
-use native.Mathlib.Omega.{arith}
-use lib.ListN.{length, drop, take, length-drop}
-use lib.Seq.{take_all}
-use Rattle.texts.specs.Output.{Output, decimal_text}
-use Rattle.texts.proofs.Spelling.{ended_in, ended_out}
+-- `put_decimal_before` meets its contract: the digits end the array that they are in. Assumes nothing.
+use Rattle.std.proofs.Common.{◌∙◌, ap, arith}
+use Rattle.texts.specs.Output.{Output}
+use Rattle.texts.proofs.Spelling.{digits_text, ended_in, ended_out}
 use Rattle.texts.proofs.output.put_decimal_before.Goals as goal
 
-pub returns-then-end-len : goal.returns-then-end-len
-returns-then-end-len c = let w = c.write_digits-from in
-    ended_out 0 _ _ _ (omega (arith, ap length w.ensures.0, length-drop w.result w.new.digits))
+pub returns-in-Some : goal.returns-in-Some
+returns-in-Some c =
+    let d = c.decimal_digits-from.ensures in
+    let text = digits_text c.decimal_digits-from.result.0 _ c.args.value d.2 d.0 in
+    let fits = rw text at c.in-Some.ensures in
+    ap (λ (o : Output). o.area) c.put_text.ensures ∙ rw text (ended_in _ _ _ _ fits.0 fits.1)
 
-pub returns : goal.returns
-returns c = let w = c.write_digits-from in
-    let digits = drop w.result w.new.digits in
-    let l = length-drop w.result w.new.digits in
-    let text : take (20 - w.result) digits ≡ decimal_text _ = take_all (20 - w.result) digits (omega arith) ∙ w.ensures.0 in
-    let n = ap length w.ensures.0 in
-    ap (λ (o : Output). o.area) c.put_text.ensures ∙ rw text (ended_in _ _ _ _ (omega arith) (omega arith))
+pub returns-in_default : goal.returns-in_default
+returns-in_default c =
+    let d = c.decimal_digits-from.ensures in
+    let text = digits_text c.decimal_digits-from.result.0 _ c.args.value d.2 d.0 in
+    let short = rw text at c.in_default.ensures in
+    ended_out 0 _ _ _ (omega arith)

@@ -1,14 +1,17 @@
--- `put_text` meets its contract: the rest of the area that it lends comes home. Assumes nothing.
-use mathlib.Core.Path.{refl}
-use native.Mathlib.Omega.{arith}
-use Rattle.texts.proofs.Spelling.{appended_in, appended_out}
+-- `put_text` meets its contract. Assumes nothing.
+use Rattle.std.proofs.Common.{◌+◌, ◌<◌, length, refl, arith}
+use Rattle.texts.proofs.Spelling.{appended_at, appended_out}
 use Rattle.texts.proofs.output.put_text.Goals as goal
+use Rattle.texts.proofs.output.put_text.Goals.{then-out-at-via-then-out-at, then-out-at-via-else-out-at+then-out-at-2}
 
 pub returns-then-out-at : goal.returns-then-out-at
-returns-then-out-at c = appended_out _ _ _ (omega arith)
-
-pub returns-then-out-at-2 : goal.returns-then-out-at-2
-returns-then-out-at-2 c = appended_out _ _ _ (omega arith)
+returns-then-out-at c =
+    let a = c.args in
+    let short : length a.out.now < a.at + length a.text.now =
+    elim c.then-out-at.branch [ then-out-at-via-then-out-at w ↦ omega arith | then-out-at-via-else-out-at+then-out-at-2 w ↦ omega arith ] in
+    appended_out a.at a.text.now a.out.now short
 
 pub returns : goal.returns
-returns c = appended_in _ _ _ _ _ (omega arith) refl c.write_text.ensures
+returns c =
+    let a = c.args in
+    appended_at a.at a.text.now a.out.now _ _ c.copy_from_slice.new.self (omega arith) refl refl c.copy_from_slice.ensures.after

@@ -8,7 +8,7 @@ pub returns-then-self : goal.returns-then-self
 returns-then-self c =
     let a = c.args in
     rw c.if-self.true
-    (c.tagged_bytes.ensures ∙ ap (λ (t : ℕ). marks (tagged t (get_or a.self.words.now a.bucket 0))) c.packed_control_tag.ensures)
+    (c.tagged_bytes.ensures ∙ ap (λ (t : ℕ). marks (tagged t (get_or a.self.words.now a.bucket 0))) (c.from.ensures ∙ c.packed_control_tag.ensures))
 
 pub returns : goal.returns
 returns c =

@@ -1,5 +1,5 @@
 -- `record_at_location` meets its contract, test by test. Assumes nothing.
-use Rattle.std.proofs.Common.{arith, le-ltb, lt-ltb}
+use Rattle.std.proofs.Common.{◌≡◌, ◌/◌, ◌^◌, false, ltb, arith, le-ltb, lt-ltb}
 use Rattle.index.proofs.Views.{location_none, location_outside, location_inside}
 use Rattle.index.proofs.view.SegmentView.record_at_location.Goals as goal
 
@@ -13,8 +13,8 @@ pub returns-then-segment-self : goal.returns-then-segment-self
 returns-then-segment-self c =
     let a = c.args in
     let l = c.in_ok-location in
-    location_outside a.self a.areas.arena.now a.areas.starts.now a.areas.lengths.now a.stored l.location l.ensures.0 l.ensures.1
-    (simp (le-ltb _ _ c.if-segment-self.true))
+    let past : ltb (l.location / 2 ^ 32) a.self.segments ≡ false = le-ltb _ _ c.if-segment-self.true in
+    location_outside a.self a.areas.arena.now a.areas.starts.now a.areas.lengths.now a.stored l.location l.ensures.0 l.ensures.1 (simp past)
 
 pub returns-in_err-start : goal.returns-in_err-start
 returns-in_err-start c =

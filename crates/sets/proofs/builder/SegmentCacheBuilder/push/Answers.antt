@@ -1,5 +1,5 @@
 -- `push` meets its contract. Assumes nothing.
-use Rattle.std.proofs.Common.{ℕ, ◌≤◌, sym, ap, ◌∙◌, arith, Ok}
+use Rattle.std.proofs.Common.{sym, ap, ◌∙◌, arith, Ok}
 use Rattle.sets.specs.BuildPlans.{planned, plan_push}
 use Rattle.sets.proofs.Counts.{counts_records}
 use Rattle.sets.proofs.Asked.{push_asked}

@@ -1,5 +1,5 @@
 -- `push_copied` meets its contract. Assumes nothing.
-use Rattle.std.proofs.Common.{◌≤◌, sym, ap, ◌∙◌, arith, Ok}
+use Rattle.std.proofs.Common.{sym, ap, ◌∙◌, arith, Ok}
 use Rattle.sets.specs.BuildPlans.{planned}
 use Rattle.sets.specs.RebuildPlans.{plan_copied}
 use Rattle.sets.proofs.Counts.{counts_records}

@@ -1,5 +1,5 @@
 -- `push_reused` meets its contract. Assumes nothing.
-use Rattle.std.proofs.Common.{◌+◌, ◌≤◌, sym, ap, ◌∙◌, arith, Ok}
+use Rattle.std.proofs.Common.{◌+◌, sym, ap, ◌∙◌, arith, Ok}
 use Rattle.sets.specs.Rebuild.{kept_view, moved_location}
 use Rattle.sets.specs.RebuildPlans.{plan_reused, slot_planned}
 use Rattle.sets.proofs.Counts.{counts_records}

@@ -1,9 +1,0 @@
--- What each turn of the loop keeps.
-use Rattle.std.proofs.Common.{◌-◌, ◌≤◌, length}
-use Rattle.refusals.proofs.text.changed.Given as goal
-
-abbrev pub invariant-loop-at : goal.invariant-loop-at
-invariant-loop-at l = 0 ≤ l.at
-
-abbrev pub decreases-loop-at : goal.decreases-loop-at
-decreases-loop-at l = length l.line - l.at

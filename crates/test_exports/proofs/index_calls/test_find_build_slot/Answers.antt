@@ -1,5 +1,0 @@
--- `test_find_build_slot` meets its contract: it answers with the code of the slot that the call finds. Assumes nothing.
-use Rattle.test_exports.proofs.index_calls.test_find_build_slot.Goals as goal
-
-pub returns : goal.returns
-returns c = rw (← c.expiry_of-expiry.ensures, ← c.find_build_slot.ensures) c.slot_code.ensures
