@@ -16,6 +16,7 @@ use sets::cache::FrozenSegmentCache;
 // Words of the areas of a file's set, and the bytes of its arena.
 const NEEDS_WORDS: usize = 5;
 
+// A type of this crate, since neither the trait nor FileNeeds is.
 #[derive(Clone, Copy)]
 struct Needed(FileNeeds);
 
