@@ -10,7 +10,8 @@ use Rattle.sets.specs.declared.builder.SegmentCacheBuilder.{SegmentCacheBuilder}
 use Rattle.sets.specs.declared.cache.FrozenSegmentCache.{FrozenSegmentCache}
 use Rattle.sets.specs.declared.rebuild.SharedSegmentCacheBuilder.{SharedSegmentCacheBuilder}
 use Rattle.sets.specs.declared.stats.SegmentCacheStats.{SegmentCacheStats}
-use Rattle.capi.specs.Words.{builder_in, builder_of, builder_words, rebuild_in, rebuild_of, rebuild_words, set_in, set_of, set_words, setting_alone, setting_among, setting_before, setting_form, setting_in, stats_in, stats_words, tick_nanos}
+use Rattle.capi.specs.Words.{builder_in, builder_of, builder_words, rebuild_in, rebuild_of, rebuild_words, set_in, set_of, set_words}
+use Rattle.capi.specs.Words.{setting_alone, setting_among, setting_before, setting_form, setting_in, stats_in, stats_words, tick_nanos}
 
 abbrev made : SegmentExpiry → ℕ → Bool → ℕ → SegmentCacheConfig
 made e occupied packed bits =

@@ -294,3 +294,12 @@ call_told may words None old t = t ≡ told 11 old
 -- the same, where the words for the answer are so many
 abbrev pub asked : {S A : Type 0} → (S → Result A SegmentCacheBuildError → Type 0) → (A → List ℕ) → ℕ → Option S → List ℕ → Told → Type 0
 asked may words count state old t = cond (eqb (length old) count) (call_told may words state old t) (t ≡ told 11 old)
+
+-- the two of a call that writes to an area, by which results it may have with what it may leave there
+abbrev pub call_told_mut : {S A W : Type 0} → (S → Result A SegmentCacheBuildError → List W → Type 0) → (A → List ℕ) → Option S → List W → List ℕ → List W → Told → Type 0
+call_told_mut may words (Some s) area old left t = (r : Result _ SegmentCacheBuildError) × may s r left × (t ≡ told_by words (answered r) old)
+call_told_mut may words None area old left t = (left ≡ area) × (t ≡ told 11 old)
+
+abbrev pub asked_mut : {S A W : Type 0} → (S → Result A SegmentCacheBuildError → List W → Type 0) → (A → List ℕ) → ℕ → Option S → List W → List ℕ → List W → Told → Type 0
+asked_mut may words count state area old left t =
+    cond (eqb (length old) count) (call_told_mut may words state area old left t) ((left ≡ area) × (t ≡ told 11 old))

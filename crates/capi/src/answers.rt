@@ -1,7 +1,7 @@
 // What C is told of a call's answer: a number, and lent words.
 ghost use Rattle.std.specs.Prelude.{◌≡◌};
 ghost use Rattle.std.proofs.Common.{lit<};
-ghost use Rattle.capi.specs.Calls.{flag_words, answered, asked, found_words, left_words, number_words, place_told, placed_words, pushed_told, record_words, span_words, told, told_by};
+ghost use Rattle.capi.specs.Calls.{flag_words, answered, asked, asked_mut, found_words, left_words, number_words, place_told, placed_words, pushed_told, record_words, span_words, told, told_by};
 
 use crate::words::{FromWords, MALFORMED, ToWords, copy_words};
 use hash_parts::duration::SegmentRemainingTtl;
@@ -33,9 +33,29 @@ pub fn tell<const N: usize, T: ToWords<N>>(
     }
 }
 
-// The call on the state in lent words, and what it gives over other words. A call that writes to lent areas says the
-// same line by line, since what a closure writes to what it borrows is lost to the proof of its maker; and so do peek,
-// probe and the step of the walk, which would be left a goal to prove by hand.
+// The call on the state in lent words, with an area that it may write to, and what it gives over other words. What a closure
+// writes to an area that it borrows is lost to the proof of its maker, so the area is an argument; calls that write to
+// several say the same line by line.
+pub fn ask_mut<
+    const N: usize,
+    W,
+    S: FromWords,
+    T: ToWords<N>,
+    F: FnOnce(S, &mut [W]) -> Result<T, SegmentCacheBuildError>,
+>(state: &[u64], area: &mut [W], out: &mut [u64], call: F) -> u64
+    requires { F.IsAlwaysCallable call }
+    ensures { asked_mut (λ s r left. (y z : _) × F.post call s y r z × (y.now ≡ area.old) × (z.now ≡ left)) T.words_of N (S.value_in state.now) area.old out.old area.new (told result out.new) }
+{
+    if out.len() != N {
+        return MALFORMED;
+    }
+    let Some(state) = S::from_words(state) else {
+        return MALFORMED;
+    };
+    tell(call(state, area), out)
+}
+
+// The same of a call that writes to no area.
 pub fn ask<
     const N: usize,
     S: FromWords,
@@ -45,16 +65,11 @@ pub fn ask<
     requires { F.IsAlwaysCallable call }
     ensures { asked (F.post call) T.words_of N (S.value_in state.now) out.old (told result out.new) }
 {
-    if out.len() != N {
-        return MALFORMED;
-    }
-    let Some(state) = S::from_words(state) else {
-        return MALFORMED;
-    };
-    tell(call(state), out)
+    let mut nothing: [u8; 0] = [];
+    ask_mut(state, &mut nothing, out, |state: S, _| call(state))
 }
 
-// The same as tell for a push: the words of the state that it leaves, and of its record's place.
+// What a push gives: the words of the state that it leaves, and of its record's place.
 pub fn tell_push<const N: usize, S: ToWords<N> + Drop>(
     answer: Result<PushedRecord, SegmentCacheBuildError>,
     state: S,

@@ -5,9 +5,9 @@ ghost use Rattle.std.specs.Prelude.{◌≡◌};
 ghost use Rattle.capi.specs.Calls.{told};
 ghost use Rattle.capi_charts.specs.Charts.{exported_print_sheet, exported_sheet_pages, sheet_words};
 
-use capi::answers::{ask, tell};
-use capi::words::{FromWords, MALFORMED};
+use capi::answers::{ask, ask_mut};
 use charts::sheet::{print_sheet, sheet_pages};
+use index::view::SegmentAreas;
 use sets::cache::FrozenSegmentCache;
 
 // How many pages a set's sheet has, to the word.
@@ -24,7 +24,12 @@ pub extern "C" fn segment_cache_sheet_pages(
     ensures { told result pages.new ≡ exported_sheet_pages set.now index.now starts.now lengths.now arena.now pages.old }
 {
     ask(set, pages, |set: FrozenSegmentCache| {
-        sheet_pages(set, index, starts, lengths, arena)
+        let areas = SegmentAreas {
+            starts,
+            lengths,
+            arena,
+        };
+        sheet_pages(set, index, areas)
     })
 }
 
@@ -42,12 +47,12 @@ pub extern "C" fn segment_cache_print_sheet(
 ) -> u64
     ensures { sheet_words result page.new pages.new ≡ exported_print_sheet set.now index.now starts.now lengths.now arena.now page.old pages.old }
 {
-    if pages.len() != 1 {
-        return MALFORMED;
-    }
-    let Some(set) = FrozenSegmentCache::from_words(set) else {
-        return MALFORMED;
-    };
-    let answer = print_sheet(set, index, starts, lengths, arena, page);
-    tell(answer, pages)
+    ask_mut(set, page, pages, |set: FrozenSegmentCache, page| {
+        let areas = SegmentAreas {
+            starts,
+            lengths,
+            arena,
+        };
+        print_sheet(set, index, areas, page)
+    })
 }

@@ -6,15 +6,17 @@ ghost use Rattle.std.proofs.Common.{lit<};
 ghost use Rattle.capi.specs.Calls.{told};
 ghost use Rattle.capi_files.specs.Files.{exported_file_bytes, exported_file_needs, exported_load_file, exported_write_file, load_words, needs_words, write_words};
 
-use capi::answers::{ask, tell};
-use capi::words::{FromWords, MALFORMED, SET_WORDS, ToWords};
+use capi::answers::{ask, ask_mut, tell};
+use capi::words::{MALFORMED, SET_WORDS, ToWords};
 use files::load::{FileNeeds, file_needs, load_file};
 use files::write::{file_bytes, write_file};
+use index::view::SegmentAreas;
 use sets::cache::FrozenSegmentCache;
 
 // Words of the areas of a file's set, and the bytes of its arena.
 const NEEDS_WORDS: usize = 5;
 
+// A type of this crate, since neither the trait nor FileNeeds is.
 #[derive(Clone, Copy)]
 struct Needed(FileNeeds);
 
@@ -64,14 +66,14 @@ pub extern "C" fn segment_cache_write_file(
 ) -> u64
     ensures { write_words result file.new bytes.new ≡ exported_write_file set.now index.now filter.now starts.now lengths.now arena.now file.old bytes.old }
 {
-    if bytes.len() != 1 {
-        return MALFORMED;
-    }
-    let Some(set) = FrozenSegmentCache::from_words(set) else {
-        return MALFORMED;
-    };
-    let answer = write_file(set, index, filter, starts, lengths, arena, file);
-    tell(answer, bytes)
+    ask_mut(set, file, bytes, |set: FrozenSegmentCache, file| {
+        let areas = SegmentAreas {
+            starts,
+            lengths,
+            arena,
+        };
+        write_file(set, index, filter, areas, file)
+    })
 }
 
 // The five words: index, filter, starts, lengths, and the arena's bytes.

@@ -5,8 +5,7 @@
 ghost use Rattle.std.specs.Prelude.{◌≡◌};
 ghost use Rattle.capi.specs.Calls.{exported_get, index_told};
 
-use capi::answers::{SPAN_WORDS, tell};
-use capi::words::{FromWords, MALFORMED};
+use capi::answers::ask_mut;
 use index::view::SegmentAreas;
 use sets::cache::FrozenSegmentCache;
 
@@ -27,16 +26,12 @@ pub extern "C" fn segment_cache_get(
 ) -> u64
     ensures { index_told result index.new span.new ≡ exported_get set.now hash key.now tick index.old filter.now starts.now lengths.now arena.now span.old }
 {
-    if span.len() != SPAN_WORDS {
-        return MALFORMED;
-    }
-    let Some(set) = FrozenSegmentCache::from_words(set) else {
-        return MALFORMED;
-    };
-    let areas = SegmentAreas {
-        starts,
-        lengths,
-        arena,
-    };
-    tell(set.get_at_tick(hash, key, tick, index, filter, areas), span)
+    ask_mut(set, index, span, |set: FrozenSegmentCache, index| {
+        let areas = SegmentAreas {
+            starts,
+            lengths,
+            arena,
+        };
+        set.get_at_tick(hash, key, tick, index, filter, areas)
+    })
 }

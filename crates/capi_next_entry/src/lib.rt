@@ -5,8 +5,7 @@
 ghost use Rattle.std.specs.Prelude.{◌≡◌};
 ghost use Rattle.capi.specs.Calls.{exported_walk, told};
 
-use capi::answers::{RECORD_WORDS, tell};
-use capi::words::{FromWords, MALFORMED};
+use capi::answers::ask;
 use index::view::SegmentAreas;
 use sets::cache::FrozenSegmentCache;
 
@@ -25,19 +24,12 @@ pub extern "C" fn segment_cache_next_entry(
 ) -> u64
     ensures { told result «record».new ≡ exported_walk set.now from tick index.now starts.now lengths.now arena.now «record».old }
 {
-    if record.len() != RECORD_WORDS {
-        return MALFORMED;
-    }
-    let Some(set) = FrozenSegmentCache::from_words(set) else {
-        return MALFORMED;
-    };
-    let areas = SegmentAreas {
-        starts,
-        lengths,
-        arena,
-    };
-    tell(
-        set.next_physical_entry_at_tick(from, tick, index, areas),
-        record,
-    )
+    ask(set, record, |set: FrozenSegmentCache| {
+        let areas = SegmentAreas {
+            starts,
+            lengths,
+            arena,
+        };
+        set.next_physical_entry_at_tick(from, tick, index, areas)
+    })
 }

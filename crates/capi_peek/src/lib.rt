@@ -5,8 +5,7 @@
 ghost use Rattle.std.specs.Prelude.{◌≡◌};
 ghost use Rattle.capi.specs.Calls.{exported_peek, told};
 
-use capi::answers::{SPAN_WORDS, tell};
-use capi::words::{FromWords, MALFORMED};
+use capi::answers::ask;
 use index::view::SegmentAreas;
 use sets::cache::FrozenSegmentCache;
 
@@ -27,19 +26,12 @@ pub extern "C" fn segment_cache_peek(
 ) -> u64
     ensures { told result span.new ≡ exported_peek set.now hash key.now tick index.now filter.now starts.now lengths.now arena.now span.old }
 {
-    if span.len() != SPAN_WORDS {
-        return MALFORMED;
-    }
-    let Some(set) = FrozenSegmentCache::from_words(set) else {
-        return MALFORMED;
-    };
-    let areas = SegmentAreas {
-        starts,
-        lengths,
-        arena,
-    };
-    tell(
-        set.peek_at_tick(hash, key, tick, index, filter, areas),
-        span,
-    )
+    ask(set, span, |set: FrozenSegmentCache| {
+        let areas = SegmentAreas {
+            starts,
+            lengths,
+            arena,
+        };
+        set.peek_at_tick(hash, key, tick, index, filter, areas)
+    })
 }

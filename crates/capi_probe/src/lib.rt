@@ -5,8 +5,7 @@
 ghost use Rattle.std.specs.Prelude.{◌≡◌};
 ghost use Rattle.capi.specs.Calls.{exported_probe, told};
 
-use capi::answers::{RECORD_WORDS, tell};
-use capi::words::{FromWords, MALFORMED};
+use capi::answers::ask;
 use index::view::SegmentAreas;
 use sets::cache::FrozenSegmentCache;
 
@@ -28,19 +27,12 @@ pub extern "C" fn segment_cache_probe(
 ) -> u64
     ensures { told result «record».new ≡ exported_probe set.now hash key.now tick index.now filter.now starts.now lengths.now arena.now «record».old }
 {
-    if record.len() != RECORD_WORDS {
-        return MALFORMED;
-    }
-    let Some(set) = FrozenSegmentCache::from_words(set) else {
-        return MALFORMED;
-    };
-    let areas = SegmentAreas {
-        starts,
-        lengths,
-        arena,
-    };
-    tell(
-        set.probe_hashed_at_tick(hash, key, tick, index, filter, areas),
-        record,
-    )
+    ask(set, record, |set: FrozenSegmentCache| {
+        let areas = SegmentAreas {
+            starts,
+            lengths,
+            arena,
+        };
+        set.probe_hashed_at_tick(hash, key, tick, index, filter, areas)
+    })
 }

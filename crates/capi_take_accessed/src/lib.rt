@@ -5,8 +5,7 @@
 ghost use Rattle.std.specs.Prelude.{◌≡◌};
 ghost use Rattle.capi.specs.Calls.{exported_take, index_told};
 
-use capi::answers::tell;
-use capi::words::{FromWords, MALFORMED};
+use capi::answers::ask_mut;
 use index::view::SegmentAreas;
 use sets::cache::FrozenSegmentCache;
 
@@ -26,16 +25,12 @@ pub extern "C" fn segment_cache_take_accessed(
 ) -> u64
     ensures { index_told result index.new accessed.new ≡ exported_take set.now hash key.now index.old filter.now starts.now lengths.now arena.now accessed.old }
 {
-    if accessed.len() != 1 {
-        return MALFORMED;
-    }
-    let Some(set) = FrozenSegmentCache::from_words(set) else {
-        return MALFORMED;
-    };
-    let areas = SegmentAreas {
-        starts,
-        lengths,
-        arena,
-    };
-    tell(set.take_accessed(hash, key, index, filter, areas), accessed)
+    ask_mut(set, index, accessed, |set: FrozenSegmentCache, index| {
+        let areas = SegmentAreas {
+            starts,
+            lengths,
+            arena,
+        };
+        set.take_accessed(hash, key, index, filter, areas)
+    })
 }
