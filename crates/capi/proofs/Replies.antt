@@ -3,7 +3,7 @@ use Rattle.std.proofs.Common.{◌≡◌, ℕ, List, Result, Ok, Err, refl, ne_eq
 use Rattle.hash_parts.proofs.Refusals.{refusal_pos}
 use Rattle.hash_parts.specs.Error.{error_number}
 use Rattle.hash_parts.specs.declared.error.SegmentCacheBuildError.{SegmentCacheBuildError}
-use Rattle.records.specs.Record.{size_outcome}
+use Rattle.hash_parts.specs.Outcome.{outcome_of}
 use Rattle.sets.specs.Answers.{push_reply, rebuild_push_reply, replied}
 use Rattle.sets.specs.declared.builder.PushedRecord.{PushedRecord}
 use Rattle.sets.specs.declared.builder.SegmentCacheBuilder.{SegmentCacheBuilder}
@@ -20,7 +20,7 @@ told_back words back (Ok a) old = refl
 told_back words back (Err e) old = refl
 
 -- a size is told as one number; a refusal has a number, so the words stay
-pub size_back : (r : Result ℕ SegmentCacheBuildError) (old : List ℕ) → size_told (size_outcome r) old ≡ told_by number_words (answered r) old
+pub size_back : (r : Result ℕ SegmentCacheBuildError) (old : List ℕ) → size_told (outcome_of r) old ≡ told_by number_words (answered r) old
 size_back (Ok n) old = refl
 size_back (Err e) old = rw (ne_eqb (error_number e) 0 (λ z. omega (arith, refusal_pos e)))
 

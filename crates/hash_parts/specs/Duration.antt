@@ -1,10 +1,9 @@
 -- Durations as numbers of nanoseconds, deadlines, and the time that is left.
 -- Assumes nothing.
-use Rattle.std.specs.Prelude.{ℕ, ◌+◌, ◌-◌, ◌*◌, ◌/◌, ◌%◌, ◌^◌, Bool, true, cond, ◌==◌, nat_le, nat_lt, Option, Some, None, Result, Ok, Err, option_map}
+use Rattle.std.specs.Prelude.{ℕ, ◌+◌, ◌-◌, ◌*◌, ◌/◌, ◌%◌, ◌^◌, Bool, true, cond, ◌==◌, nat_le, nat_lt, Option, Some, None, option_map}
 use Rattle.hash_parts.specs.declared.duration.Duration.{Duration}
 use Rattle.hash_parts.specs.declared.duration.SegmentRemainingTtl.{SegmentRemainingTtl}
 use Rattle.hash_parts.specs.declared.duration.SegmentRemainingTtl.TheVariants.{Never, Finite}
-use Rattle.hash_parts.specs.declared.error.SegmentCacheBuildError.{SegmentCacheBuildError}
 use Rattle.hash_parts.specs.declared.error.SegmentCacheBuildError.TheVariants.{ZeroExpiryTick, ExpiryDisabled, ExpiryOutOfRange}
 use Rattle.hash_parts.specs.declared.setting.SegmentExpiry.{SegmentExpiry}
 use Rattle.hash_parts.specs.declared.setting.SegmentExpiry.TheVariants as setting
@@ -45,10 +44,6 @@ encoded_expiry e None base = accepted never_expires
 encoded_expiry setting.None (Some lifetime) base = refused ExpiryDisabled
 encoded_expiry (setting.Relative16 tick) (Some lifetime) base =
     cond (nanos_of tick == 0) (refused ZeroExpiryTick) (deadline_at base (nanos_of lifetime) (nanos_of tick))
-
-abbrev pub expiry_outcome : Result ℕ SegmentCacheBuildError → Outcome
-expiry_outcome (Ok deadline) = accepted deadline
-expiry_outcome (Err e) = refused e
 
 -- a record lives before its deadline, and always where it never expires
 unfoldable pub lives_at : ℕ → ℕ → Bool

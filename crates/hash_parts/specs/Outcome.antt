@@ -1,5 +1,5 @@
 -- What a call answers, as numbers. Assumes nothing.
-use Rattle.std.specs.Prelude.{ℕ}
+use Rattle.std.specs.Prelude.{ℕ, Result, Ok, Err}
 use Rattle.hash_parts.specs.Error.{error_number}
 use Rattle.hash_parts.specs.declared.error.SegmentCacheBuildError.{SegmentCacheBuildError}
 
@@ -13,3 +13,8 @@ accepted v = record { number = 0; value = v }
 
 abbrev pub refused : SegmentCacheBuildError → Outcome
 refused e = record { number = error_number e; value = 0 }
+
+-- of a call whose value is a number
+abbrev pub outcome_of : Result ℕ SegmentCacheBuildError → Outcome
+outcome_of (Ok value) = accepted value
+outcome_of (Err e) = refused e

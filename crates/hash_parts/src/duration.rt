@@ -1,6 +1,7 @@
 // Durations of whole seconds and nanoseconds, deadlines in ticks and the time that is left.
 ghost use Rattle.std.specs.Prelude.{◌≡◌, ◌<◌, ◌==◌, Option};
-ghost use Rattle.hash_parts.specs.Duration.{nanos_of, deadline_at, encoded_expiry, expiry_outcome, lives_at, product, remaining};
+ghost use Rattle.hash_parts.specs.Outcome.{outcome_of};
+ghost use Rattle.hash_parts.specs.Duration.{nanos_of, deadline_at, encoded_expiry, lives_at, product, remaining};
 
 use crate::error::SegmentCacheBuildError;
 use crate::setting::SegmentExpiry;
@@ -63,7 +64,7 @@ pub fn encode_expiry_at_tick(
     ttl: Option<Duration>,
     now_tick: u64,
 ) -> Result<u16, SegmentCacheBuildError>
-    ensures { expiry_outcome result ≡ encoded_expiry expiry ttl now_tick }
+    ensures { outcome_of result ≡ encoded_expiry expiry ttl now_tick }
 {
     let Some(lifetime) = ttl else {
         return Ok(NEVER_EXPIRES);
@@ -81,7 +82,7 @@ pub fn encode_expiry_at_tick(
 #[tactic(auto, using(crate::proofs::Deadlines::rounded_up), unfolding(crate::specs::Duration::deadline_at))]
 fn deadline_at(base: u64, lifetime: Duration, tick: u128) -> Result<u16, SegmentCacheBuildError>
     requires { 0 < tick }
-    ensures { expiry_outcome result ≡ deadline_at base (nanos_of lifetime) tick }
+    ensures { outcome_of result ≡ deadline_at base (nanos_of lifetime) tick }
 {
     let ticks = lifetime.as_nanos().div_ceil(tick);
     let deadline = base as u128 + ticks;

@@ -1,6 +1,6 @@
 // The setting of a set. Each change takes the old setting and hands back the new one.
 ghost use Rattle.std.specs.Prelude.{◌≡◌, ◌≤◌, true, false};
-ghost use Rattle.hash_parts.specs.Setting.{started, without_expiry, with_relative_expiry, with_occupancy, with_packed_index, with_filter_bits, bytes_per_record};
+ghost use Rattle.hash_parts.specs.Setting.{started, without_expiry, with_relative_expiry, with_occupancy, with_packed_index, with_filter_bits, bytes_per_record, expiry_numbers, setting_numbers};
 
 use crate::duration::Duration;
 
@@ -22,6 +22,16 @@ impl SegmentExpiry {
         match self {
             SegmentExpiry::None => 0,
             SegmentExpiry::Relative16 { tick: _ } => 2,
+        }
+    }
+
+    // One, and the tick's seconds and nanoseconds; three zeros where records keep no deadline.
+    fn numbers(self) -> [u64; 3]
+        ensures { result ≡ expiry_numbers self }
+    {
+        match self {
+            SegmentExpiry::None => [0; 3],
+            SegmentExpiry::Relative16 { tick } => [1, tick.secs, u64::from(tick.nanos)],
         }
     }
 }
@@ -107,6 +117,21 @@ impl SegmentCacheConfig {
         ensures { result ≡ self.negative_filter_bits_per_entry }
     {
         self.negative_filter_bits_per_entry
+    }
+
+    // The setting as a file keeps it and C holds it.
+    pub fn numbers(self) -> [u64; 6]
+        ensures { result ≡ setting_numbers self }
+    {
+        let [expiry_on, tick_secs, tick_nanos] = self.expiry.numbers();
+        [
+            expiry_on,
+            tick_secs,
+            tick_nanos,
+            u64::from(self.target_occupied_slots),
+            u64::from(self.packed_bucket_index),
+            u64::from(self.negative_filter_bits_per_entry),
+        ]
     }
 }
 

@@ -11,14 +11,15 @@ use Rattle.records.specs.Record.{record_at, stored_at, contents}
 use Rattle.records.specs.declared.record.RecordRef.{RecordRef}
 use Rattle.records.proofs.Area.{spanned_in}
 use Rattle.records.proofs.Stored.{record_inside}
-use Rattle.index.specs.Build.{PushLook, vacant, same, passed, build_record, has_key, holds_key, looks, searched, searched_all, slot_for, slot_outcome, next_bucket, SlotAnswer}
+use Rattle.index.specs.Build.{PushLook, vacant, same, passed, build_record, has_key, holds_key, looks, searched, searched_all, slot_for, next_bucket, SlotAnswer}
+use Rattle.hash_parts.specs.Outcome.{outcome_of}
 use Rattle.index.specs.Walk.{bucket_walk}
 use Rattle.index.specs.Word.{word_tag, word_stored}
 use Rattle.index.proofs.Around.{around, around_step, around_end, walk_around}
 use Rattle.index.proofs.Walks.{part_cons}
 
 -- a slot that was found
-pub slot_accepted : (s : SlotAnswer) → (slot_outcome s).number ≡ 0 → s ≡ Ok (slot_outcome s).value
+pub slot_accepted : (s : SlotAnswer) → (outcome_of s).number ≡ 0 → s ≡ Ok (outcome_of s).value
 slot_accepted (Ok s) e = refl
 slot_accepted (Err r) e = absurd (omega (arith, e, refusal_pos r))
 

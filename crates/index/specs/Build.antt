@@ -5,7 +5,7 @@
 use Rattle.std.specs.Prelude.{◌≡◌, ℕ, zero, suc, ◌+◌, ◌*◌, ◌^◌, ◌<◌, max, Bool, false, cond, List, [], ◌∷◌, length, take, drop, replicate, ◌==◌, nat_le, Option, Some, None, Result, Ok, Err}
 use Rattle.hash_parts.specs.Duration.{ceil_div}
 use Rattle.hash_parts.specs.Hash.{tag_of}
-use Rattle.hash_parts.specs.Outcome.{Outcome, accepted, refused}
+use Rattle.hash_parts.specs.Outcome.{Outcome, outcome_of}
 use Rattle.hash_parts.specs.declared.error.SegmentCacheBuildError.{SegmentCacheBuildError}
 use Rattle.hash_parts.specs.declared.error.SegmentCacheBuildError.TheVariants.{CapacityOverflow, DuplicateKey}
 use Rattle.hash_parts.specs.declared.setting.SegmentExpiry.{SegmentExpiry}
@@ -73,15 +73,10 @@ unfoldable pub slot_for : (ℕ → Bool) → List ℕ → ℕ → ℕ → SlotAn
 slot_for taken index buckets h =
     cond (nat_le (8 * buckets) (length index)) (searched_all (λ b. looks taken (8 * b) (take 8 (drop (8 * b) index))) (bucket_walk h buckets)) (Err CapacityOverflow)
 
--- its answer by its number: "Key new among the words of its tag on its walk? 4."; "A push that walks all buckets without an empty slot would
--- also give 3, at that walk's end after 4"
-abbrev pub slot_outcome : SlotAnswer → Outcome
-slot_outcome (Ok s) = accepted s
-slot_outcome (Err e) = refused e
-
--- the slot of a push; `bytes` are the filled bytes
+-- the slot of a push, by its number: "Key new among the words of its tag on its walk? 4."; "A push that walks all buckets without an empty
+-- slot would also give 3, at that walk's end after 4"; `bytes` are the filled bytes
 abbrev pub build_slot : List ℕ → ℕ → List ℕ → SegmentExpiry → List ℕ → ℕ → Outcome
-build_slot index buckets bytes e key h = slot_outcome (slot_for (holds_key (build_record e bytes) key (tag_of h)) index buckets h)
+build_slot index buckets bytes e key h = outcome_of (slot_for (holds_key (build_record e bytes) key (tag_of h)) index buckets h)
 
 -- no word holds the key
 abbrev pub never : ℕ → Bool
@@ -89,7 +84,7 @@ never w = false
 
 -- the slot of a push that takes a key again
 abbrev pub empty_slot : List ℕ → ℕ → ℕ → Outcome
-empty_slot index buckets h = slot_outcome (slot_for never index buckets h)
+empty_slot index buckets h = outcome_of (slot_for never index buckets h)
 
 -- what a test answers of each word, by what its calls return
 abbrev pub Answers : (ℕ → Bool → Type 0) → (ℕ → Bool) → Type 0

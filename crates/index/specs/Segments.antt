@@ -2,7 +2,7 @@
 -- none, no more. Location becomes segment × 2^32 + offset. Start and length stand in two 256-word areas, unused words 0."
 -- Assumes nothing.
 use Rattle.std.specs.Prelude.{ℕ, zero, suc, ◌+◌, ◌-◌, ◌*◌, min, Bool, true, false, cond, List, [], ◌∷◌, ◌++◌, map, length, take, drop, replicate, ◌==◌, nat_le, nat_lt, slice_index, Result, Ok, Err}
-use Rattle.hash_parts.specs.Outcome.{Outcome, accepted, refused}
+use Rattle.hash_parts.specs.Outcome.{Outcome, accepted, outcome_of, refused}
 use Rattle.hash_parts.specs.declared.error.SegmentCacheBuildError.{SegmentCacheBuildError}
 use Rattle.hash_parts.specs.declared.error.SegmentCacheBuildError.TheVariants.{ArenaTooLarge, AreaTooShort}
 use Rattle.records.specs.Area.{over}
@@ -84,12 +84,8 @@ pub record Split : Type 0 where
   pub starts : List ℕ
   pub lengths : List ℕ
 
-abbrev pub split_outcome : Result ℕ SegmentCacheBuildError → Outcome
-split_outcome (Ok n) = accepted n
-split_outcome (Err e) = refused e
-
 abbrev pub split_result : Result ℕ SegmentCacheBuildError → List ℕ → List ℕ → List ℕ → Split
-split_result r index starts lengths = record { answer = split_outcome r; index = index; starts = starts; lengths = lengths }
+split_result r index starts lengths = record { answer = outcome_of r; index = index; starts = starts; lengths = lengths }
 
 -- the areas hold the words of so many buckets, and 256 starts and lengths
 abbrev pub splittable : List ℕ → ℕ → List ℕ → List ℕ → Bool

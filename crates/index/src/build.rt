@@ -1,6 +1,7 @@
 // The index of a build: how many buckets, clearing the words, and the slot of a new record.
 ghost use Rattle.std.specs.Prelude.{◌≡◌, ℕ, ◌+◌, ◌*◌, ◌≤◌, Bool, length, take, drop, unwrap_or};
-ghost use Rattle.index.specs.Build.{Answers, SlotAnswer, buckets_for, cleared, next_bucket, build_record, holds_key, looks, searched, build_slot, empty_slot, slot_for, slot_outcome};
+ghost use Rattle.index.specs.Build.{Answers, SlotAnswer, buckets_for, cleared, next_bucket, build_record, holds_key, looks, searched, build_slot, empty_slot, slot_for};
+ghost use Rattle.hash_parts.specs.Outcome.{outcome_of};
 
 use crate::word::{BUCKET_SLOTS, index_location, index_tag};
 use hash_parts::error::SegmentCacheBuildError;
@@ -37,7 +38,7 @@ pub fn find_build_slot(
     key: &[u8],
     hash: u64,
 ) -> Result<usize, SegmentCacheBuildError>
-    ensures { slot_outcome result ≡ build_slot index.now buckets records.entry.bytes.now records.entry.expiry key.now hash }
+    ensures { outcome_of result ≡ build_slot index.now buckets records.entry.bytes.now records.entry.expiry key.now hash }
 {
     let tag = hash_tag(hash);
     let taken = |word| holds_key(word, records, key, tag);
@@ -50,7 +51,7 @@ pub fn find_empty_build_slot(
     buckets: usize,
     hash: u64,
 ) -> Result<usize, SegmentCacheBuildError>
-    ensures { slot_outcome result ≡ empty_slot index.now buckets hash }
+    ensures { outcome_of result ≡ empty_slot index.now buckets hash }
 {
     first_slot(index, buckets, hash, |_| false)
 }

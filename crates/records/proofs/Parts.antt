@@ -8,14 +8,14 @@ use native.Mathlib.Omega.{arith}
 use borrow.Author.Tests.{le-leb, lt-leb, lt-ltb, le-ltb, ltb-false}
 use lib.Dec.{ltb}
 use lib.ListN.{length, get_or, length-append}
-use Rattle.hash_parts.specs.Outcome.{Outcome, accepted, refused}
+use Rattle.hash_parts.specs.Outcome.{accepted, Outcome, outcome_of, refused}
 use Rattle.hash_parts.specs.Setting.{bytes_per_record}
 use Rattle.hash_parts.specs.declared.error.SegmentCacheBuildError.{SegmentCacheBuildError}
 use Rattle.hash_parts.specs.declared.error.SegmentCacheBuildError.TheVariants.{CapacityOverflow}
 use Rattle.hash_parts.proofs.Refusals.{refusal_pos}
 use Rattle.hash_parts.specs.declared.setting.SegmentExpiry.{SegmentExpiry}
 use Rattle.hash_parts.specs.declared.setting.SegmentExpiry.TheVariants as setting
-use Rattle.records.specs.Record.{deadline_bytes, record_bytes, record_size, size_outcome, encoded_size, deadline_in, record_of, after_value, after_key, record_at}
+use Rattle.records.specs.Record.{deadline_bytes, record_bytes, record_size, encoded_size, deadline_in, record_of, after_value, after_key, record_at}
 use Rattle.records.specs.Uleb128.{uleb128}
 use Rattle.records.specs.Varint.{read_varint}
 use Rattle.std.specs.Prelude.{Option, Some, None, Ok, Err, SomeIff, ok_or}
@@ -55,7 +55,7 @@ sum_accepted (Some m) P v n e p q = let same : m ≡ n = cc in (p.0, sym same �
 
 -- the whole size, where all but the value is known to fit
 pub size_answer : (e : SegmentExpiry) (k v a b w at : ℕ) (sum : Option ℕ) → a ≡ length (uleb128 k) → b ≡ length (uleb128 v) → w ≡ bytes_per_record e
-    → at ≡ a + b + w + k → SomeIff sum (at + v < 2 ^ 64) (at + v) → size_outcome (ok_or sum CapacityOverflow) ≡ encoded_size e k v
+    → at ≡ a + b + w + k → SomeIff sum (at + v < 2 ^ 64) (at + v) → outcome_of (ok_or sum CapacityOverflow) ≡ encoded_size e k v
 size_answer e k v a b w at None x y z f n = size_out e k v a b w x y z (omega (arith, n))
 size_answer e k v a b w at (Some s) x y z f p =
     let g : s ≡ a + b + w + k + v = omega (arith, p.1) in

@@ -1,7 +1,7 @@
 -- Writing to the front of a lent area, parts of an area, and comparing bytes.
 -- Assumes nothing.
-use Rattle.std.specs.Prelude.{ℕ, ◌+◌, Bool, true, false, cond, List, [], ◌∷◌, ◌++◌, Result, Ok, Err, eqb, leb, length, take, drop}
-use Rattle.hash_parts.specs.Outcome.{Outcome, accepted, refused}
+use Rattle.std.specs.Prelude.{ℕ, ◌+◌, Bool, true, false, cond, List, [], ◌∷◌, ◌++◌, Result, eqb, leb, length, take, drop}
+use Rattle.hash_parts.specs.Outcome.{Outcome, accepted, outcome_of, refused}
 use Rattle.hash_parts.specs.declared.error.SegmentCacheBuildError.{SegmentCacheBuildError}
 use Rattle.hash_parts.specs.declared.error.SegmentCacheBuildError.TheVariants.{AreaTooShort}
 use Rattle.records.specs.declared.record.Span.{Span}
@@ -19,12 +19,8 @@ pub record Written : Type 0 where
   pub answer : Outcome
   pub area : List ℕ
 
-abbrev pub write_outcome : Result ℕ SegmentCacheBuildError → Outcome
-write_outcome (Ok n) = accepted n
-write_outcome (Err e) = refused e
-
 abbrev pub write_result : Result ℕ SegmentCacheBuildError → List ℕ → Written
-write_result r area = record { answer = write_outcome r; area = area }
+write_result r area = record { answer = outcome_of r; area = area }
 
 -- s is written where it fits; else nothing is, and the value is 0
 unfoldable pub written : List ℕ → List ℕ → Written

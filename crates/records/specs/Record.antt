@@ -1,15 +1,14 @@
 -- Stored records as bytes: "Key length, value length (LEB128), with expiry on the deadline in 2 bytes
 -- little-endian, key, value."
 -- Assumes nothing.
-use Rattle.std.specs.Prelude.{ℕ, ◌+◌, ◌*◌, ◌-◌, ◌/◌, ◌%◌, ◌^◌, cond, List, [], ◌∷◌, ◌++◌, Option, Some, None, Result, leb, ltb, length, get_or}
+use Rattle.std.specs.Prelude.{ℕ, ◌+◌, ◌*◌, ◌-◌, ◌/◌, ◌%◌, ◌^◌, cond, List, [], ◌∷◌, ◌++◌, Option, Some, None, leb, ltb, length, get_or}
 use Rattle.hash_parts.specs.Duration.{never_expires}
 use Rattle.hash_parts.specs.Outcome.{Outcome, accepted, refused}
 use Rattle.hash_parts.specs.Setting.{bytes_per_record}
-use Rattle.hash_parts.specs.declared.error.SegmentCacheBuildError.{SegmentCacheBuildError}
 use Rattle.hash_parts.specs.declared.error.SegmentCacheBuildError.TheVariants.{CapacityOverflow}
 use Rattle.hash_parts.specs.declared.setting.SegmentExpiry.{SegmentExpiry}
 use Rattle.hash_parts.specs.declared.setting.SegmentExpiry.TheVariants as setting
-use Rattle.records.specs.Area.{part, write_outcome}
+use Rattle.records.specs.Area.{part}
 use Rattle.records.specs.Uleb128.{uleb128}
 use Rattle.records.specs.Varint.{read_varint}
 use Rattle.records.specs.declared.record.RecordRef.{RecordRef}
@@ -27,9 +26,6 @@ record_bytes e key value d = uleb128 (length key) ++ (uleb128 (length value) ++ 
 -- how many they are, by the lengths of key and value
 unfoldable pub record_size : SegmentExpiry → ℕ → ℕ → ℕ
 record_size e key value = length (uleb128 key) + length (uleb128 value) + bytes_per_record e + key + value
-
-abbrev pub size_outcome : Result ℕ SegmentCacheBuildError → Outcome
-size_outcome = write_outcome
 
 -- the size where it fits 64 bits
 unfoldable pub encoded_size : SegmentExpiry → ℕ → ℕ → Outcome

@@ -2,7 +2,8 @@
 ghost use Rattle.std.specs.Prelude.{◌≡◌, ◌+◌, ◌≤◌, length};
 ghost use Rattle.hash_parts.specs.Setting.{bytes_per_record};
 ghost use Rattle.records.specs.Area.{over, same_bytes, spanned, written};
-ghost use Rattle.records.specs.Record.{deadline_bytes, deadline_in, encoded_size, record_at, record_bytes, record_of, size_outcome};
+ghost use Rattle.records.specs.Record.{deadline_bytes, deadline_in, encoded_size, record_at, record_bytes, record_of};
+ghost use Rattle.hash_parts.specs.Outcome.{outcome_of};
 ghost use Rattle.records.specs.Uleb128.{uleb128};
 
 use crate::varint::{put_varint, read_varint, varint_bytes};
@@ -43,7 +44,7 @@ pub fn encoded_record_bytes(
     key_bytes: usize,
     value_bytes: usize,
 ) -> Result<usize, SegmentCacheBuildError>
-    ensures { size_outcome result ≡ encoded_size expiry key_bytes value_bytes }
+    ensures { outcome_of result ≡ encoded_size expiry key_bytes value_bytes }
 {
     let header = varint_bytes(key_bytes) + varint_bytes(value_bytes) + expiry.bytes_per_record();
     let overflow = SegmentCacheBuildError::CapacityOverflow;

@@ -2,7 +2,8 @@
 // filter, segment areas and arena are lent to each call.
 ghost use Rattle.std.specs.Prelude.{◌≡◌, ◌+◌, ◌*◌, ◌^◌, ◌<◌, ◌≤◌, length, if◌then◌else◌};
 ghost use Rattle.index.specs.Packed.{packed_index, packed_scratch};
-ghost use Rattle.records.specs.Record.{encoded_size, size_outcome};
+ghost use Rattle.records.specs.Record.{encoded_size};
+ghost use Rattle.hash_parts.specs.Outcome.{outcome_of};
 ghost use Rattle.sets.specs.Questions.{most_arena_bytes, most_records};
 ghost use Rattle.sets.specs.Build.{after_finish, after_open, after_push, builder_grown, builder_opened, finish_result, open_result, push_end, push_made, push_result, set_of};
 
@@ -72,7 +73,7 @@ impl SegmentCacheBuilder {
         key_bytes: usize,
         value_bytes: usize,
     ) -> Result<usize, SegmentCacheBuildError>
-        ensures { size_outcome result ≡ encoded_size config.expiry key_bytes value_bytes }
+        ensures { outcome_of result ≡ encoded_size config.expiry key_bytes value_bytes }
     {
         records::record::encoded_record_bytes(config.expiry, key_bytes, value_bytes)
     }

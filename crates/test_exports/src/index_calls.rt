@@ -2,7 +2,8 @@
 ghost use Rattle.std.specs.Prelude.{◌≡◌, ◌*◌, ◌%◌, ◌^◌, leb};
 ghost use Rattle.hash_parts.specs.Duration.{ceil_div};
 ghost use Rattle.hash_parts.specs.ZeroBytes.{number_of};
-ghost use Rattle.index.specs.Build.{buckets_for, build_slot, cleared, empty_slot, next_bucket, slot_outcome};
+ghost use Rattle.index.specs.Build.{buckets_for, build_slot, cleared, empty_slot, next_bucket};
+ghost use Rattle.hash_parts.specs.Outcome.{outcome_of};
 ghost use Rattle.index.specs.Filter.{displaced, filter_has, filter_marked, filter_mask, filter_word};
 ghost use Rattle.index.specs.Find.{find_in};
 ghost use Rattle.index.specs.Packed.{marked_byte, packed_index, packed_scratch, reference_in, unmarked_byte, with_byte};
@@ -90,7 +91,7 @@ pub extern "C" fn test_clear_words(words: &mut [u64], count: usize)
 // A slot, or 2^63 and the number of the refusal that a build then gives: 4 for a key that stands in
 // the index, 3 for a full one.
 fn slot_code(slot: Result<usize, SegmentCacheBuildError>) -> u64
-    ensures { result ≡ slot_code (slot_outcome slot) }
+    ensures { result ≡ slot_code (outcome_of slot) }
 {
     crate::code_of(0x8000_0000_0000_0000, slot)
 }

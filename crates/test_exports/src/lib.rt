@@ -8,7 +8,8 @@ ghost use Rattle.std.specs.Prelude.{◌≡◌, ◌*◌, ◌%◌, ◌^◌, ◌≤
 ghost use Rattle.hash_parts.specs.Duration.{encoded_expiry, lives_at, nanos_of, nanos_words, remaining};
 ghost use Rattle.hash_parts.specs.Hash.{tag_of, first_bucket, control_tag, secondary_tag, rotated, mixed_hash};
 ghost use Rattle.hash_parts.specs.ZeroBytes.{lowest_set, without_lowest, zero_marks};
-ghost use Rattle.records.specs.Area.{same_bytes, spanned, write_outcome, written};
+ghost use Rattle.records.specs.Area.{same_bytes, spanned, written};
+ghost use Rattle.hash_parts.specs.Outcome.{outcome_of};
 ghost use Rattle.records.specs.Record.{encoded_size, record_at, record_bytes};
 ghost use Rattle.records.specs.Uleb128.{uleb128};
 ghost use Rattle.records.specs.Varint.{read_varint};
@@ -182,7 +183,7 @@ fn put_words(out: &mut [u64], words: &[u64])
 #[tactic(auto, using(crate::proofs::Answers::code_refused), unfolding(crate::specs::Exports::code_of))]
 fn code_of(base: u64, answer: Result<usize, SegmentCacheBuildError>) -> u64
     requires { base ≤ 2 ^ 63 }
-    ensures { result ≡ code_of base (write_outcome answer) }
+    ensures { result ≡ code_of base (outcome_of answer) }
 {
     match answer {
         Ok(value) => value as u64,

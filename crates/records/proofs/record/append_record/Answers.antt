@@ -4,7 +4,8 @@ use mathlib.Core.List.{List}
 use Prim.Native.Nat.{ℕ, ◌^◌, ◌≤◌}
 use native.Mathlib.Omega.{arith}
 use lib.ListN.{length}
-use Rattle.records.specs.Record.{record_bytes, record_size, size_outcome}
+use Rattle.records.specs.Record.{record_bytes, record_size}
+use Rattle.hash_parts.specs.Outcome.{outcome_of}
 use Rattle.records.proofs.Area.{written_in_law, written_out}
 use Rattle.records.proofs.Parts.{size_is, size_accepted, size_refused}
 use Rattle.records.proofs.record.append_record.Goals as goal
@@ -25,7 +26,7 @@ sized : (c : In-Ok) → c.in-Ok.size ≡ length (bytes (from c))
 sized c =
     let a = c.args in
     size_accepted a.expiry (length a.key.now) (length a.value.now) c.in-Ok.size
-    (sym (ap size_outcome c.in-Ok.is) ∙ c.encoded_record_bytes.ensures)
+    (sym (ap outcome_of c.in-Ok.is) ∙ c.encoded_record_bytes.ensures)
     ∙ sym (bytes_size (from c))
 
 pub returns-in_default : goal.returns-in_default
@@ -34,7 +35,7 @@ returns-in_default c =
     let a = c.args in
     let big : 2 ^ 64 ≤ record_size a.expiry (length a.key.now) (length a.value.now) =
     size_refused a.expiry (length a.key.now) (length a.value.now) c.in_default.field-0
-    (sym (ap size_outcome c.in_default.is) ∙ c.encoded_record_bytes.ensures) in
+    (sym (ap outcome_of c.in_default.is) ∙ c.encoded_record_bytes.ensures) in
     rw (written_out (bytes at.Start) a.rest.now (omega (arith, bytes_size at.Start))) (refl, refl)
 
 pub returns-then-rest-size : goal.returns-then-rest-size
