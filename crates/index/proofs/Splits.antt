@@ -1,7 +1,8 @@
 -- Laws of splitting: the segment of a location, split words, the lengths, and what a split leaves. Assumes nothing.
-use Rattle.std.proofs.Common.{◌≡◌, ℕ, zero, suc, ◌+◌, ◌-◌, ◌*◌, ◌/◌, ◌^◌, ◌<◌, ◌≤◌, ◌⊎◌, List, [], ◌∷◌, ◌++◌, map, length, get_or, take, drop, sym, refl, ap, ◌∙◌, ap₂, inl, inr, not-suc-le-zero, add-one, arith, drop_of_length-le, length-take-le, drop-cons, get_or-take, eq-eqb, ne_eqb, le-leb, leb, Bool, true, false, leb-true, cond}
+use Rattle.std.proofs.Common.{◌≡◌, ℕ, zero, suc, ◌+◌, ◌-◌, ◌*◌, ◌/◌, ◌^◌, ◌<◌, ◌≤◌, ◌⊎◌, List, [], ◌∷◌, ◌++◌, map, length, get_or, take, drop, sym, refl, ap, ◌∙◌, ap₂, inl, inr, not-suc-le-zero, add-one, arith, drop_of_length-le, drop-cons, eq-eqb, ne_eqb, le-leb, leb, Bool, true, false, leb-true, cond}
 use Rattle.std.proofs.lemmas.Bool.{leb-false}
 use Rattle.std.specs.Prelude.{Ok, Err, Result}
+use Rattle.std.proofs.Math.Seq.{take-length}
 use Rattle.std.proofs.lemmas.List.Sorted.{IsNonDecreasingBy-from_default, IsPartitionedBy-leb}
 use Rattle.std.specs.List.{AllWithin, between}
 use Rattle.std.specs.List.Sorted.{IsPartitionedBy, IsPartitionPoint}
@@ -12,8 +13,8 @@ use Rattle.hash_parts.specs.declared.error.SegmentCacheBuildError.TheVariants.{A
 use Rattle.records.specs.Area.{over}
 use Rattle.index.specs.Word.{word_of, word_tag, word_stored}
 use Rattle.index.specs.Segments.{counted, starts_of, lengths_of, segment_of, segmented, split_word, padded, split, split_by, split_result}
-use Rattle.index.specs.SegmentStarts.{Ascends, StartsIn}
-use Rattle.index.proofs.Filling.{over_padded_length, filled_back}
+use Rattle.index.specs.SegmentStarts.{Ascends, AreStarts}
+use Rattle.index.proofs.Filling.{filled_back}
 use Rattle.index.proofs.Starts.{starts_ascend, starts_first}
 
 -- ---- the segment of a location
@@ -48,20 +49,19 @@ rises (a ∷ ss) asc zero j le h = first_least a ss asc j h
 rises (a ∷ ss) asc (suc i) zero le h = absurd (omega arith)
 rises (a ∷ ss) asc (suc i) (suc j) le h = rises ss (ascend_rest a ss asc) i j (omega arith) (omega (arith, h))
 
-module _ {area : List ℕ} {count : ℕ} (s : StartsIn area count) where
+module _ {ss : List ℕ} (s : AreStarts ss) where
   abbrev pub later : List ℕ
-  later = between 1 count area
+  later = between 1 (length ss) ss
 
   -- the first start is 0
-  all_are : take count area ≡ 0 ∷ later
-  all_are = go area count s.some s.first s.within
+  all_are : ss ≡ 0 ∷ later
+  all_are = go ss s.some s.first
     where
-      go : (area : List ℕ) (count : ℕ) → 0 < count → get_or area 0 0 ≡ 0 → count ≤ length area → take count area ≡ 0 ∷ between 1 count area
-      go [] count p f h = absurd (omega (arith, h))
-      go (a ∷ area) zero p f h = absurd (omega arith)
-      go (a ∷ area) (suc n) p f h =
-          let e : suc n - 1 ≡ n = omega arith in
-          rw (f, e)
+      go : (ss : List ℕ) → 0 < length ss → get_or ss 0 0 ≡ 0 → ss ≡ 0 ∷ between 1 (length ss) ss
+      go [] p f = absurd (omega arith)
+      go (a ∷ ss) p f =
+          let n : suc (length ss) - 1 ≡ length ss = omega arith in
+          rw (f, n, take-length ss) refl
 
   later_ascend : Ascends later
   later_ascend = ascend_rest 0 later (rw all_are at s.ascend)
@@ -72,14 +72,12 @@ module _ {area : List ℕ} {count : ℕ} (s : StartsIn area count) where
 
   -- and as many as there are is the segment of the location
   pub last_start : (l i : ℕ) → i ≤ length later → IsPartitionPoint (λ s. leb s l ≡ true) (λ s. leb s l ≡ false) later i
-      → (i ≡ segment_of (take count area) l) × (i < count) × (get_or area i 0 ≤ l)
+      → (i ≡ segment_of ss l) × (i < length ss) × (get_or ss i 0 ≤ l)
   last_start l i h p =
-      let long : length (take count area) ≡ count = length-take-le count area s.within in
-      let more : suc (length later) ≡ count = sym (ap length all_are) ∙ long in
+      let more : length ss ≡ suc (length later) = ap length all_are in
       let from : get_or (0 ∷ later) i 0 ≤ l = below i h p.0 in
       let is = segment_is (0 ∷ later) l i (rw all_are at s.ascend) (omega arith) from (go (dec_lt i (length later))) in
-      let here : get_or (0 ∷ later) i 0 ≡ get_or area i 0 = ap (λ (ss : List ℕ). get_or ss i 0) (sym all_are) ∙ get_or-take count area i 0 (omega arith) in
-      (rw all_are (sym is), omega arith, rw here at from)
+      (sym is ∙ ap (λ (r : List ℕ). segment_of r l) (sym all_are), omega arith, rw (← all_are) at from)
     where
       below : (i : ℕ) → i ≤ length later → AllWithin (λ s. leb s l ≡ true) later 0 i → get_or (0 ∷ later) i 0 ≤ l
       below zero h f = omega arith
@@ -101,12 +99,10 @@ module _ (ss : List ℕ) (w : ℕ) (named : word_stored w ≡ 0 → ⊥) where
   split_named = simp (ne_eqb (word_stored w) 0 named)
 
 -- with the segment that a search found
-pub split_found : (area : List ℕ) (count w segment : ℕ) → (word_stored w ≡ 0 → ⊥) → segment ≡ segment_of (take count area) (word_stored w - 1) → segment < count
-    → word_of (word_tag w) (segment * 2 ^ 32 + (word_stored w - 1 - get_or area segment 0)) ≡ split_word (take count area) w
-split_found area count w segment named e h =
-    let ss : List ℕ = take count area in
-    let start : get_or area segment 0 ≡ get_or ss (segment_of ss (word_stored w - 1)) 0 = sym (get_or-take count area segment 0 h) ∙ ap (λ (k : ℕ). get_or ss k 0) e in
-    ap₂ (λ (k start : ℕ). word_of (word_tag w) (k * 2 ^ 32 + (word_stored w - 1 - start))) e start ∙ sym (split_named ss w named)
+pub split_found : (ss : List ℕ) (w segment : ℕ) → (word_stored w ≡ 0 → ⊥) → segment ≡ segment_of ss (word_stored w - 1)
+    → word_of (word_tag w) (segment * 2 ^ 32 + (word_stored w - 1 - get_or ss segment 0)) ≡ split_word ss w
+split_found ss w segment named e =
+    ap (λ (k : ℕ). word_of (word_tag w) (k * 2 ^ 32 + (word_stored w - 1 - get_or ss k 0))) e ∙ sym (split_named ss w named)
 
 -- ---- the lengths
 
@@ -116,33 +112,19 @@ lengths_length filled [] = refl
 lengths_length filled (a ∷ []) = refl
 lengths_length filled (a ∷ b ∷ ss) = ap suc (lengths_length filled (b ∷ ss))
 
-module _ (area : List ℕ) (count i : ℕ) (starts : StartsIn area count) where
-  abbrev ss : List ℕ
-  ss = take count area
+module _ (ss : List ℕ) (i : ℕ) where
+  pub start_above : Ascends ss → i + 1 < length ss → get_or ss i 0 < get_or ss (i + 1) 0
+  start_above ascend h = rw (add-one i) (ascend i (omega arith))
 
-  long : length ss ≡ count
-  long = length-take-le count area starts.within
-
-  pub start_above : i + 1 < count → get_or area i 0 < get_or area (i + 1) 0
-  start_above h =
-      let k : suc i < length ss = omega (arith, long) in
-      let j : suc i < count = omega arith in
-      rw (add-one i) (omega (arith, starts.ascend i k, get_or-take count area i 0 (omega arith), get_or-take count area (suc i) 0 j))
-
-  pub lengths_next : (filled : ℕ) → i + 1 < count
-      → lengths_of filled (drop i ss) ≡ (get_or area (i + 1) 0 - get_or area i 0) ∷ lengths_of filled (drop (i + 1) ss)
+  pub lengths_next : (filled : ℕ) → i + 1 < length ss → lengths_of filled (drop i ss) ≡ (get_or ss (i + 1) 0 - get_or ss i 0) ∷ lengths_of filled (drop (i + 1) ss)
   unfolding lengths_of
-  lengths_next filled h =
-      let k : suc i < length ss = omega (arith, long) in
-      let j : suc i < count = omega arith in
-      rw (add-one i, drop-cons ss i 0 (omega arith), drop-cons ss (suc i) 0 k, get_or-take count area i 0 (omega arith))
-      (ap (λ (x : ℕ). (x - get_or area i 0) ∷ lengths_of filled (get_or ss (suc i) 0 ∷ drop (suc (suc i)) ss)) (get_or-take count area (suc i) 0 j))
+  lengths_next filled h = rw (add-one i, drop-cons ss i 0 (omega arith), drop-cons ss (suc i) 0 (omega arith)) refl
 
-  pub lengths_last : (filled : ℕ) → i + 1 ≡ count → lengths_of filled (drop i ss) ≡ (filled - get_or area i 0) ∷ []
+  pub lengths_last : (filled : ℕ) → i + 1 ≡ length ss → lengths_of filled (drop i ss) ≡ (filled - get_or ss i 0) ∷ []
   unfolding lengths_of
   lengths_last filled e =
-      let k : length ss ≤ suc i = omega (arith, long) in
-      rw (drop-cons ss i 0 (omega (arith, long)), drop_of_length-le ss k, get_or-take count area i 0 (omega arith))
+      let k : length ss ≤ suc i = omega arith in
+      rw (drop-cons ss i 0 (omega arith), drop_of_length-le ss k) refl
 
 -- ---- how many starts there are
 
@@ -210,7 +192,7 @@ module _ (index : List ℕ) (buckets filled target : ℕ) (starts lengths : List
             same_count : count ≡ length all_starts
             same_count = (counts_few all_starts counts given).0
 
-            pub few : count ≤ 256
+            few : count ≤ 256
             few = (counts_few all_starts counts given).1
 
             few_starts : length all_starts ≤ 256
@@ -219,23 +201,21 @@ module _ (index : List ℕ) (buckets filled target : ℕ) (starts lengths : List
             starts_back : take count starts' ≡ all_starts
             starts_back = ap₂ take same_count written ∙ filled_back all_starts starts few_starts
 
-            pub starts_written_law : StartsIn starts' count
-            starts_written_law =
-                let first = starts_first (take (8 * buckets) index) filled target in
-                let some : 0 < count = omega (arith, same_count) in
-                record {
-                  some = some;
-                  within = omega (arith, few, ap length written ∙ over_padded_length all_starts starts in_starts);
-                  first = sym (get_or-take count starts' 0 0 some) ∙ ap (λ (l : List ℕ). get_or l 0 0) starts_back ∙ first.0;
-                  ascend = rw starts_back (starts_ascend (take (8 * buckets) index) filled target);
-                }
+            -- what was written, of its front
+            module _ (ss : List ℕ) (front : ss ≡ take count starts') where
+              are_all : ss ≡ all_starts
+              are_all = front ∙ starts_back
 
-            module _ (lengths' : List ℕ) (measured : lengths' ≡ over (padded (lengths_of filled (take count starts'))) lengths) where
-              pub split_whole : filled ≤ target → split_result (Ok count) index starts' lengths' ≡ split index buckets filled target starts lengths
-              split_whole h =
-                  sym (areas_long ∙ rw (measured, starts_back, written, same_count) (simp (le-leb (length all_starts) 256 few_starts, le-leb filled target h)))
+              pub starts_written_law : AreStarts ss × (length ss ≤ 256)
+              starts_written_law =
+                  let first = starts_first (take (8 * buckets) index) filled target in
+                  rw are_all (record { some = first.1; first = first.0; ascend = starts_ascend (take (8 * buckets) index) filled target }, few_starts)
 
-              pub split_parts : target < filled → (index' : List ℕ) → index' ≡ map (split_word (take count starts')) (take (8 * buckets) index) ++ drop (8 * buckets) index
-                  → split_result (Ok count) index' starts' lengths' ≡ split index buckets filled target starts lengths
-              split_parts h index' e =
-                  sym (areas_long ∙ rw (e, measured, starts_back, written, same_count) (simp (le-leb (length all_starts) 256 few_starts, lt-leb filled target h)))
+              module _ (lengths' : List ℕ) (measured : lengths' ≡ over (padded (lengths_of filled ss)) lengths) where
+                pub split_whole : filled ≤ target → split_result (Ok count) index starts' lengths' ≡ split index buckets filled target starts lengths
+                split_whole h = sym (areas_long ∙ rw (measured, are_all, written, same_count) (simp (le-leb (length all_starts) 256 few_starts, le-leb filled target h)))
+
+                pub split_parts : target < filled → (index' : List ℕ) → index' ≡ map (split_word ss) (take (8 * buckets) index) ++ drop (8 * buckets) index
+                    → split_result (Ok count) index' starts' lengths' ≡ split index buckets filled target starts lengths
+                split_parts h index' e =
+                    sym (areas_long ∙ rw (e, measured, are_all, written, same_count) (simp (le-leb (length all_starts) 256 few_starts, lt-leb filled target h)))

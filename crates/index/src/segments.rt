@@ -2,8 +2,8 @@
 ghost use Rattle.std.specs.Prelude.{◌≡◌, ◌+◌, ◌-◌, ◌*◌, ◌<◌, ◌≤◌, min, [], ◌++◌, map, length, take, drop, if◌then◌else◌, slice_index};
 ghost use Rattle.records.specs.Area.{over};
 ghost use Rattle.index.specs.Word.{word_stored};
-ghost use Rattle.index.specs.Segments.{counted, inside, lengths_of, locations_inside, most_segments, padded, segment_of, split, split_result, split_word, start_after, start_in, starts_at, starts_of};
-ghost use Rattle.index.specs.SegmentStarts.{StartsIn};
+ghost use Rattle.index.specs.Segments.{counted, inside, lengths_of, locations_inside, most_segments, next_start, padded, segment_of, split, split_result, split_word, start_after, start_in, starts_at, starts_of};
+ghost use Rattle.index.specs.SegmentStarts.{AreStarts};
 
 use crate::build::clear_words;
 use crate::word::{
@@ -37,10 +37,12 @@ pub fn split_record_segments(
     if lengths.len() < MAX_RECORD_SEGMENTS {
         return Err(SegmentCacheBuildError::AreaTooShort);
     }
-    let count = write_starts(index, buckets, filled, target, starts)?;
-    write_lengths(starts, count, filled, lengths);
+    let words = &mut index[..BUCKET_SLOTS * buckets];
+    let count = write_starts(words, filled, target, starts)?;
+    let starts = &starts[..count];
+    write_lengths(starts, filled, lengths);
     if filled > target {
-        split_words(index, buckets, starts, count);
+        split_words(words, starts);
     }
     Ok(count)
 }
@@ -52,7 +54,13 @@ pub fn next_start(index: &[u64], buckets: usize, bound: u64) -> u64
     if index.len() / BUCKET_SLOTS < buckets {
         return NO_START;
     }
-    index[..BUCKET_SLOTS * buckets]
+    lowest_start(&index[..BUCKET_SLOTS * buckets], bound)
+}
+
+fn lowest_start(words: &[u64], bound: u64) -> u64
+    ensures { result ≡ next_start words.now bound }
+{
+    words
         .iter()
         .fold(NO_START, |lowest, word| lower_start(*word, bound, lowest))
 }
@@ -83,17 +91,11 @@ pub fn locations_inside(index: &[u64], buckets: usize, filled: usize) -> bool
         .all(|word| location_inside(*word, filled))
 }
 
+// A stored location is one more than the location; of 0 less 1 is above every length.
 fn location_inside(word: u64, filled: usize) -> bool
     ensures { result ≡ inside filled word }
 {
-    if word == 0 {
-        return true;
-    }
-    let stored = index_location(word);
-    if stored == 0 {
-        return false;
-    }
-    stored <= filled as u64
+    word == 0 || index_location(word).wrapping_sub(1) < filled as u64
 }
 
 // Sets the first 256 words to 0.
@@ -104,16 +106,16 @@ fn clear_segments(area: &mut [u64])
     clear_words(area, MAX_RECORD_SEGMENTS);
 }
 
-// Writes the starts, and says how many there are; of 257 the first 256, and that there are too many.
+// Writes the starts, and says how many there are; of 257 the first 256, and that there are too many. It
+// goes from start to start until there is none, so the loop counts them.
 fn write_starts(
-    index: &[u64],
-    buckets: usize,
+    words: &[u64],
     filled: usize,
     target: usize,
     starts: &mut [u64],
 ) -> Result<usize, SegmentCacheBuildError>
-    requires { (8 * buckets ≤ length index.now) × (most_segments ≤ length starts.old) }
-    ensures { (result ≡ counted (starts_of (take (8 * buckets) index.now) filled target)) × (starts.new ≡ over (padded (starts_of (take (8 * buckets) index.now) filled target)) starts.old) }
+    requires { most_segments ≤ length starts.old }
+    ensures { (result ≡ counted (starts_of words.now filled target)) × (starts.new ≡ over (padded (starts_of words.now filled target)) starts.old) }
 {
     clear_segments(starts);
     let mut count = 0;
@@ -124,15 +126,14 @@ fn write_starts(
         }
         starts[count] = next;
         count += 1;
-        next = start_after(index, buckets, filled, target, next as usize);
+        next = start_after(words, filled, target, next as usize);
     }
     Ok(count)
 }
 
 // The start after another: none where what is left is within the target, and none by a target of 0.
-fn start_after(index: &[u64], buckets: usize, filled: usize, target: usize, last: usize) -> u64
-    requires { 8 * buckets ≤ length index.now }
-    ensures { result ≡ start_after (take (8 * buckets) index.now) filled target last }
+fn start_after(words: &[u64], filled: usize, target: usize, last: usize) -> u64
+    ensures { result ≡ start_after words.now filled target last }
 {
     if target == 0 {
         return NO_START;
@@ -140,15 +141,15 @@ fn start_after(index: &[u64], buckets: usize, filled: usize, target: usize, last
     if filled.saturating_sub(last) <= target {
         return NO_START;
     }
-    next_start(index, buckets, (last + target) as u64)
+    lowest_start(words, (last + target) as u64)
 }
 
-fn write_lengths(starts: &[u64], count: usize, filled: usize, lengths: &mut [u64])
-    requires { StartsIn starts.now count × (count ≤ most_segments) × (most_segments ≤ length lengths.old) }
-    ensures { lengths.new ≡ over (padded (lengths_of filled (take count starts.now))) lengths.old }
+fn write_lengths(starts: &[u64], filled: usize, lengths: &mut [u64])
+    requires { AreStarts starts.now × (length starts.now ≤ most_segments) × (most_segments ≤ length lengths.old) }
+    ensures { lengths.new ≡ over (padded (lengths_of filled starts.now)) lengths.old }
 {
     clear_segments(lengths);
-    let last = count - 1;
+    let last = starts.len() - 1;
     for i in 0..last {
         lengths[i] = starts[i + 1] - starts[i];
     }
@@ -156,33 +157,33 @@ fn write_lengths(starts: &[u64], count: usize, filled: usize, lengths: &mut [u64
 }
 
 // Splits the location of every word.
-fn split_words(index: &mut [u64], buckets: usize, starts: &[u64], count: usize)
-    requires { (8 * buckets ≤ length index.old) × StartsIn starts.now count × (count ≤ most_segments) }
-    ensures { index.new ≡ map (split_word (take count starts.now)) (take (8 * buckets) index.old) ++ drop (8 * buckets) index.old }
+fn split_words(words: &mut [u64], starts: &[u64])
+    requires { AreStarts starts.now × (length starts.now ≤ most_segments) }
+    ensures { words.new ≡ map (split_word starts.now) words.old }
 {
-    for word in &mut index[..BUCKET_SLOTS * buckets] {
-        *word = split_word(*word, starts, count);
+    for word in words {
+        *word = split_word(*word, starts);
     }
 }
 
-fn split_word(word: u64, starts: &[u64], count: usize) -> u64
-    requires { StartsIn starts.now count × (count ≤ most_segments) }
-    ensures { result ≡ split_word (take count starts.now) word }
+fn split_word(word: u64, starts: &[u64]) -> u64
+    requires { AreStarts starts.now × (length starts.now ≤ most_segments) }
+    ensures { result ≡ split_word starts.now word }
 {
     let stored = index_location(word);
     if stored == 0 {
         return word;
     }
     let location = stored - 1;
-    let segment = find_segment(starts, count, location);
+    let segment = find_segment(starts, location);
     let offset = location - starts[segment];
     encode_index_word(index_tag(word), (segment as u64) * SEGMENT_BYTES + offset)
 }
 
 // The last start that is not above a location. The first start is not above any.
-fn find_segment(starts: &[u64], count: usize, location: u64) -> usize
-    requires { StartsIn starts.now count }
-    ensures { (result ≡ segment_of (take count starts.now) location) × (result < count) × (slice_index starts.now result ≤ location) }
+fn find_segment(starts: &[u64], location: u64) -> usize
+    requires { AreStarts starts.now }
+    ensures { (result ≡ segment_of starts.now location) × (result < length starts.now) × (slice_index starts.now result ≤ location) }
 {
-    starts[1..count].partition_point(|start| *start <= location)
+    starts[1..].partition_point(|start| *start <= location)
 }

@@ -1,8 +1,6 @@
--- `next_start` meets its contract: the lowest start of the words passed is theirs. Assumes nothing.
-use Rattle.std.proofs.Common.{◌≡◌, refl, sym, ap, ◌∙◌, arith, rules}
-use Rattle.std.proofs.lemmas.Fn.{fold_over, slice_gives, fronts}
-use Rattle.index.specs.Segments.{next_start}
-use Rattle.index.proofs.Starts.{lower_last, start_in_law, start_short}
+-- `next_start` meets its contract: it is the lowest start of the words. Assumes nothing.
+use Rattle.std.proofs.Common.{sym, ◌∙◌, arith}
+use Rattle.index.proofs.Starts.{start_in_law, start_short}
 use Rattle.index.proofs.segments.next_start.Goals as goal
 
 pub returns-then-index-buckets : goal.returns-then-index-buckets
@@ -11,10 +9,6 @@ returns-then-index-buckets c =
     sym (start_short a.index.now a.buckets a.bound c.if-index-buckets.true)
 
 pub returns : goal.returns
-unfolding next_start
 returns c =
     let a = c.args in
-    let lowest =
-    fold_over fronts (λ y. y.now) _ (λ ys n. n ≡ next_start ys a.bound) _ (λ ys n x m q h k. rw (lower_last ys x.now a.bound, ← h) (search rules))
-    _ _ _ _ (slice_gives c.iter.result) refl c.fold.ensures.ran in
-    lowest ∙ ap (λ l. next_start l a.bound) c.iter.ensures.rest ∙ sym (start_in_law a.index.now a.buckets a.bound (omega arith))
+    c.lowest_start.ensures ∙ sym (start_in_law a.index.now a.buckets a.bound (omega arith))

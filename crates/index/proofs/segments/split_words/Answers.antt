@@ -1,5 +1,5 @@
 -- `split_words` meets its contract: each word is split where it stands. Assumes nothing.
-use Rattle.std.proofs.Common.{◌*◌, get_or, take, arith}
+use Rattle.std.proofs.Common.{get_or, arith}
 use Rattle.std.proofs.lemmas.List.{get_or_default}
 use Rattle.std.proofs.lemmas.List.Edits.{map_over_more}
 use Rattle.index.specs.Segments.{split_word}
@@ -9,7 +9,6 @@ pub loop-word-preserved : goal.loop-word-preserved
 loop-word-preserved c =
     let a = c.args in
     let l = c.loop-word in
-    let words = take (8 * a.buckets) a.index.now in
     rw c.split_word.ensures
-    (map_over_more (split_word (take a.count a.starts.now)) words l.word-items l.word-index (get_or l.word-items l.word-index 0) (omega arith) l.invariant
+    (map_over_more (split_word a.starts.now) a.words.now l.word-items l.word-index (get_or l.word-items l.word-index 0) (omega arith) l.invariant
     (get_or_default l.word-items l.word-index 0 _ (omega arith)))

@@ -1,5 +1,5 @@
 -- `write_lengths` meets its contract: the lengths written, and those from the next start on, are the lengths. Assumes nothing.
-use Rattle.std.proofs.Common.{◌≡◌, ℕ, ◌+◌, ◌-◌, [], length, get_or, take, drop, set, refl, ap, ◌∙◌, ap₂, arith, length-set}
+use Rattle.std.proofs.Common.{◌≡◌, ℕ, ◌+◌, ◌-◌, [], length, get_or, drop, set, refl, ap, ◌∙◌, ap₂, arith, length-set}
 use Rattle.index.specs.Segments.{lengths_of}
 use Rattle.index.proofs.Filling.{filling_none, filling_length, filling_next, filling_end, over_padded_cleared, over_padded_length}
 use Rattle.index.proofs.Splits.{start_above, lengths_next, lengths_last}
@@ -9,7 +9,7 @@ pub loop-i-init : goal.loop-i-init
 loop-i-init c =
     let a = c.args in
     let cleared = c.clear_segments in
-    (omega arith, filling_none (lengths_of a.filled (take a.count a.starts.now)) a.lengths.now cleared.new.area (omega arith) cleared.ensures)
+    (omega arith, filling_none (lengths_of a.filled a.starts.now) a.lengths.now cleared.new.area (omega arith) cleared.ensures)
 
 pub overflow_sub-lengths : goal.overflow_sub-lengths
 overflow_sub-lengths c =
@@ -17,7 +17,7 @@ overflow_sub-lengths c =
     let starts = a.starts.now in
     let i = c.loop-i.i in
     let given = c.requires.0 in
-    omega (arith, start_above starts a.count i given (omega arith))
+    omega (arith, start_above starts i given.ascend (omega arith))
 
 pub offset_bounds-lengths-i : goal.offset_bounds-lengths-i
 offset_bounds-lengths-i c = omega (arith, filling_length c.loop-i.invariant.1)
@@ -32,8 +32,8 @@ loop-i-preserved c =
     let i = c.loop-i.i in
     let given = c.requires.0 in
     let bytes = get_or starts (i + 1) 0 - get_or starts i 0 in
-    let left = lengths_next starts a.count i given a.filled (omega arith) in
-    (omega arith, filling_next bytes (lengths_of a.filled (drop (i + 1) (take a.count starts))) c.loop-i.invariant.1 left (omega arith))
+    let left = lengths_next starts i a.filled (omega arith) in
+    (omega arith, filling_next bytes (lengths_of a.filled (drop (i + 1) starts)) c.loop-i.invariant.1 left (omega arith))
 
 pub bounds-lengths-last : goal.bounds-lengths-last
 bounds-lengths-last c = omega (arith, filling_length c.loop-i.invariant.1, c.loop-i.invariant.1.room)
@@ -51,10 +51,10 @@ returns c =
     let i = c.loop-i.i in
     let given = c.requires.0 in
     let cleared = c.clear_segments in
-    let whole = lengths_of a.filled (take a.count starts) in
-    let last : a.count - 1 ≡ i = omega arith in
+    let whole = lengths_of a.filled starts in
+    let last : length starts - 1 ≡ i = omega arith in
     let stored = c.saturating_sub.ensures ∙ ap (λ (k : ℕ). a.filled - get_or starts k 0) last in
-    let left = lengths_last starts a.count i given a.filled (omega arith) in
+    let left = lengths_last starts i a.filled (omega arith) in
     let f = filling_end (filling_next (a.filled - get_or starts i 0) [] c.loop-i.invariant.1 left (omega arith)) refl in
     ap₂ (λ (k x : ℕ). set c.loop-i.lengths k x) last stored
     ∙ f.1

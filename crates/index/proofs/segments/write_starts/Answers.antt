@@ -1,5 +1,5 @@
 -- `write_starts` meets its contract: the starts written, and those from the next on, are the starts. Assumes nothing.
-use Rattle.std.proofs.Common.{◌+◌, ◌-◌, ◌*◌, [], length, take, ap, ◌∙◌, arith}
+use Rattle.std.proofs.Common.{◌+◌, ◌-◌, [], length, ap, ◌∙◌, arith}
 use Rattle.index.specs.Segments.{starts_of}
 use Rattle.index.proofs.Starts.{starts_from, starts_from_law, from_none, from_next, from_last}
 use Rattle.index.proofs.Filling.{filling_none, filling_length, filling_next, filling_end, filling_over, over_padded_cleared, over_padded_length}
@@ -9,7 +9,7 @@ use Rattle.index.proofs.segments.write_starts.Goals as goal
 pub loop-next-init : goal.loop-next-init
 loop-next-init c =
     let a = c.args in
-    let words = take (8 * a.buckets) a.index.now in
+    let words = a.words.now in
     let cleared = c.clear_segments in
     let f = filling_none (starts_of words a.filled a.target) a.starts.now cleared.new.area (omega arith) cleared.ensures in
     (omega arith, rw (← starts_from_law words a.filled a.target) f)
@@ -23,7 +23,7 @@ shape_of-starts-then-count-eq-MAX_RECORD_SEGMENTS c =
 pub returns-then-count-eq-MAX_RECORD_SEGMENTS : goal.returns-then-count-eq-MAX_RECORD_SEGMENTS
 returns-then-count-eq-MAX_RECORD_SEGMENTS c =
     let a = c.args in
-    let words = take (8 * a.buckets) a.index.now in
+    let words = a.words.now in
     let cleared = c.clear_segments in
     let whole = starts_of words a.filled a.target in
     let last = from_last words a.filled a.target (256 - c.loop-next.count) c.loop-next.next c.loop-next-test.true (omega arith) in
@@ -39,7 +39,7 @@ bounds-starts-count c = omega (arith, filling_length c.loop-next.invariant.1, c.
 pub loop-next-preserved : goal.loop-next-preserved
 loop-next-preserved c =
     let a = c.args in
-    let words = take (8 * a.buckets) a.index.now in
+    let words = a.words.now in
     let n = c.loop-next.count in
     let next = c.start_after-next.result in
     let left =
@@ -56,7 +56,7 @@ shape_of-starts c =
 pub returns : goal.returns
 returns c =
     let a = c.args in
-    let words = take (8 * a.buckets) a.index.now in
+    let words = a.words.now in
     let cleared = c.clear_segments in
     let whole = starts_of words a.filled a.target in
     let f = filling_end c.loop-next.invariant.1 (from_none words a.filled a.target (256 - c.loop-next.count) c.loop-next.next c.loop-next-test.false) in
