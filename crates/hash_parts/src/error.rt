@@ -45,7 +45,7 @@ pub enum SegmentCacheBuildError {
 }
 
 impl SegmentCacheBuildError {
-    // The refusal's number.
+    // The refusal's number: const, which a From could not be.
     pub const fn number(self) -> u8
         ensures { result ≡ error_number self }
     {

@@ -24,7 +24,8 @@ const PACKED_CONTROL_TAG_BITS: u64 = 0x7f7f_7f7f_7f7f_7f7f;
 
 const BYTE_LOW_BITS: u64 = 0x0101_0101_0101_0101;
 
-// The index of a finished set: its words, in which layout they are, and how many buckets it has.
+// The index of a finished set: its words, in which layout they are, and how many buckets it has. That the words are
+// enough is no invariant: find_record and slot_at answer for areas of any length, and ask it of their words first.
 #[derive(Clone, Copy)]
 pub struct FinishedIndex<'a> {
     pub words: &'a [u64],
