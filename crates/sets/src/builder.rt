@@ -125,7 +125,7 @@ impl SegmentCacheBuilder {
     }
 
     // Writes the record, then its word and its filter mark.
-    #[tactic(auto, using(crate::proofs::Appends::appended, crate::proofs::Appends::push_left_law, crate::proofs::Appends::size_holds))]
+    #[tactic(auto, using(crate::proofs::Appends::appended, crate::proofs::Appends::push_left_law, crate::proofs::Counts::builder_bytes_few))]
     fn push_at(
         &mut self,
         plan: PushPlan,
