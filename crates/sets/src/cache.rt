@@ -120,7 +120,7 @@ impl FrozenSegmentCache {
         filter: &[u64],
         areas: SegmentAreas<'_>,
     ) -> Result<Option<SegmentBaseRecord>, SegmentCacheBuildError>
-        ensures { (probe_reply result ≡ probe_answer self hash key.now now_tick index.now filter.now areas.entry.starts.now areas.entry.lengths.now areas.entry.arena.now) × (index.now ≡ index.now) }
+        ensures { probe_reply result ≡ probe_answer self hash key.now now_tick index.now filter.now areas.entry.starts.now areas.entry.lengths.now areas.entry.arena.now }
     {
         self.check_lookup(index.len(), filter.len(), areas)?;
         let Some(found) = self.find(hash, key, index, filter, areas) else {
@@ -139,14 +139,14 @@ impl FrozenSegmentCache {
         index: &[u64],
         areas: SegmentAreas<'_>,
     ) -> Result<Option<SegmentBaseRecord>, SegmentCacheBuildError>
-        ensures { (walk_reply result ≡ walk_answer self from now_tick index.now areas.entry.starts.now areas.entry.lengths.now areas.entry.arena.now) × (index.now ≡ index.now) }
+        ensures { walk_reply result ≡ walk_answer self from now_tick index.now areas.entry.starts.now areas.entry.lengths.now areas.entry.arena.now }
     {
-        let SegmentAreas {
-            starts,
-            lengths,
-            arena,
-        } = areas;
-        if !self.areas_hold(index.len(), starts.len(), lengths.len(), arena.len()) {
+        if !self.areas_hold(
+            index.len(),
+            areas.starts.len(),
+            areas.lengths.len(),
+            areas.arena.len(),
+        ) {
             return Err(SegmentCacheBuildError::InvalidState);
         }
         let found = next_entry(self.view(), self.finished_index(index), from, areas);
@@ -212,17 +212,12 @@ impl FrozenSegmentCache {
     ) -> Result<(), SegmentCacheBuildError>
         ensures { check_number result ≡ first_no (ask_lookup self index_len filter_len (length areas.entry.starts.now) (length areas.entry.lengths.now) (length areas.entry.arena.now)) }
     {
-        let SegmentAreas {
-            starts,
-            lengths,
-            arena,
-        } = areas;
         if !self.lookup_areas_hold(
             index_len,
             filter_len,
-            starts.len(),
-            lengths.len(),
-            arena.len(),
+            areas.starts.len(),
+            areas.lengths.len(),
+            areas.arena.len(),
         ) {
             return Err(SegmentCacheBuildError::InvalidState);
         }

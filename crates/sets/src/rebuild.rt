@@ -79,7 +79,9 @@ impl SharedSegmentCacheBuilder {
         starts: &mut [u64],
         lengths: &mut [u64],
     ) -> Result<SharedSegmentCacheBuilder, SegmentCacheBuildError>
-        ensures { rebuild_open_result result source index.new filter.new starts.new lengths.new ≡ after_rebuild_open source source_areas.entry.starts.now source_areas.entry.lengths.now source_areas.entry.arena.now entry_count copied_record_capacity used_source_segments.now source_now_tick index.old filter.old starts.old lengths.old }
+        ensures { rebuild_open_result result source index.new filter.new starts.new lengths.new
+            ≡ after_rebuild_open source source_areas.entry.starts.now source_areas.entry.lengths.now source_areas.entry.arena.now
+            entry_count copied_record_capacity used_source_segments.now source_now_tick index.old filter.old starts.old lengths.old }
     {
         check_rebuild_open(
             source,
@@ -207,7 +209,7 @@ impl SharedSegmentCacheBuilder {
     }
 
     // Writes the record, then its word and its filter mark.
-    #[tactic(auto, using(crate::proofs::Appends::appended, crate::proofs::Appends::size_holds, crate::proofs::RebuildAsked::bytes_few, crate::proofs::RebuildSteps::copied_left_law))]
+    #[tactic(auto, using(crate::proofs::Appends::appended, crate::proofs::RebuildAsked::bytes_few, crate::proofs::RebuildSteps::copied_left_law))]
     fn copied_at(
         &mut self,
         plan: PushPlan,
