@@ -201,8 +201,5 @@ pub(crate) fn record_fits(
 ) -> bool
     ensures { result ≡ nat_le (record_size expiry key_bytes value_bytes) rest }
 {
-    match encoded_record_bytes(expiry, key_bytes, value_bytes) {
-        Ok(size) => size <= rest,
-        Err(_) => false,
-    }
+    encoded_record_bytes(expiry, key_bytes, value_bytes).is_ok_and(|size| size <= rest)
 }
