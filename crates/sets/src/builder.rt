@@ -1,5 +1,5 @@
 // Building a set: opened for an announced number of records, filled by pushes, finished once. Index,
-// filter, segment areas and arena are lent to each call.
+// filter, segment areas and arena are lent to each call, one by one where it writes to some of them.
 ghost use Rattle.std.specs.Prelude.{◌≡◌, ◌+◌, ◌*◌, ◌^◌, ◌<◌, ◌≤◌, true, length, if◌then◌else◌};
 ghost use Rattle.index.specs.Packed.{packed_index, packed_scratch};
 ghost use Rattle.records.specs.Record.{encoded_size};

@@ -202,7 +202,7 @@ impl FrozenSegmentCache {
         }
     }
 
-    // The question of a lookup.
+    // The one question of a lookup.
     #[tactic(auto, unfolding(crate::specs::Lookup::ask_lookup))]
     fn check_lookup(
         self,
@@ -224,7 +224,8 @@ impl FrozenSegmentCache {
         Ok(())
     }
 
-    // Question 1 of a lookup: all five areas. They go by their lengths: a caller may have no more of them.
+    // Whether all five areas hold what a lookup reads. By their lengths: a caller that has them lent to be
+    // written asks as well.
     #[tactic(auto, unfolding(crate::specs::Lookup::areas_hold_lookup))]
     pub fn lookup_areas_hold(
         self,
@@ -251,7 +252,7 @@ impl FrozenSegmentCache {
         }
     }
 
-    // Question 1: the state's own numbers.
+    // Whether the state's own numbers fit.
     #[tactic(auto, using(crate::proofs::Counts::counts_records), unfolding(crate::specs::Lookup::set_fits))]
     pub fn fits(self) -> bool
         ensures { result ≡ set_fits self }
@@ -264,7 +265,7 @@ impl FrozenSegmentCache {
             && bytes_fit(self.entries, self.record_header_bytes)
     }
 
-    // Question 1: index, segment areas and arena.
+    // Whether they fit, and index, segment areas and arena hold what they tell, by their lengths.
     #[tactic(auto, unfolding(crate::specs::Lookup::areas_hold_set))]
     pub fn areas_hold(
         self,

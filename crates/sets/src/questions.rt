@@ -1,5 +1,7 @@
 // The questions that several calls ask of a state and of the lengths of the areas lent to it. Every
-// number of a state is free: sums and products are made only after what bounds them was asked.
+// number of a state is free: sums and products are made only after what bounds them was asked. C hands
+// states in as plain numbers, so no invariant of a struct can say what a question told: the private
+// functions that run after it require that.
 ghost use Rattle.std.specs.Prelude.{◌≡◌, ◌*◌, ◌^◌, ◌≤◌, length, nat_le};
 ghost use Rattle.hash_parts.specs.Duration.{ceil_div};
 ghost use Rattle.records.specs.Record.{record_size};

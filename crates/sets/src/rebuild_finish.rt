@@ -12,7 +12,7 @@ use crate::rebuild::{SharedSegmentCacheBuild, SharedSegmentCacheBuilder};
 use hash_parts::error::SegmentCacheBuildError;
 
 impl SharedSegmentCacheBuilder {
-    // The questions of finish.
+    // The questions of finish. The areas stand one by one: those of the segments are lent to be written.
     #[tactic(auto, unfolding(crate::specs::Rebuild::ask_rebuild_finish))]
     pub(crate) fn check_finish(
         self,
