@@ -34,7 +34,7 @@ pub fn file_bytes(
     if !source_holds(set, starts, lengths, set.filled) {
         return Err(SegmentCacheBuildError::InvalidState);
     }
-    let bytes = sum_of(lengths, set.segments);
+    let bytes = sum_of(&lengths[..set.segments]);
     if bytes > MAX_ARENA_BYTES {
         return Err(SegmentCacheBuildError::InvalidState);
     }

@@ -1,9 +1,10 @@
 -- A push into its slot: room for the record in the arena, its bytes there, and what the push leaves. Assumes nothing.
-use Rattle.std.proofs.Common.{◌≡◌, ℕ, ◌+◌, ◌-◌, ◌^◌, ◌≤◌, Bool, true, false, cond, ltb, leb, List, length, take, drop, set, refl, ap, ◌∙◌, arith, length-drop, length-take, ltb-false, le-leb, leb-false, leb-true}
+use Rattle.std.proofs.Common.{◌≡◌, ℕ, ◌+◌, ◌-◌, ◌^◌, ◌<◌, ◌≤◌, Bool, true, false, cond, ltb, leb, List, length, take, drop, set, refl, sym, ap, ◌∙◌, arith, length-drop, length-take, ltb-false, le-leb, leb-false, leb-true, Result, Ok, Err}
 use borrow.Author.Tests.{lt-leb}
+use Rattle.std.specs.Result.{MatchResult}
 use borrow.Rule.Slice.PartMut.{put_mid}
 use Rattle.hash_parts.specs.Hash.{tag_of}
-use Rattle.hash_parts.specs.Outcome.{Outcome, accepted, refused}
+use Rattle.hash_parts.specs.Outcome.{Outcome, accepted, outcome_of, refused}
 use Rattle.hash_parts.specs.declared.error.SegmentCacheBuildError.{SegmentCacheBuildError}
 use Rattle.hash_parts.specs.declared.error.SegmentCacheBuildError.TheVariants.{CapacityOverflow}
 use Rattle.hash_parts.specs.declared.setting.SegmentExpiry.{SegmentExpiry}
@@ -46,6 +47,12 @@ module _ (e : SegmentExpiry) (key value : ℕ) where
           → 2 ^ 64 ≤ record_size e key value
       go true t g = absurd (omega (arith, refusal_pos f, ap (λ (o : Outcome). o.number) g))
       go false t g = ltb-false _ _ t
+
+  -- whether a size fits, of a test of one that was told
+  pub fits_told : (rest : ℕ) → rest < 2 ^ 64 → (b : Bool) (r : Result ℕ SegmentCacheBuildError) (P : ℕ → Type 0) → ((n : ℕ) → P n → b ≡ leb n rest)
+      → MatchResult r P (λ _. b ≡ false) → outcome_of r ≡ encoded_size e key value → b ≡ leb (record_size e key value) rest
+  fits_told rest small b (Ok n) P test told size = test n told ∙ ap (λ (m : ℕ). leb m rest) (size_told_law n size)
+  fits_told rest small b (Err f) P test told size = told ∙ sym (lt-leb _ _ (omega (arith, size_large f size, small)))
 
 -- a record is at least as long as its key and its value
 pub size_holds : (e : SegmentExpiry) (k v : ℕ) → k + v ≤ record_size e k v

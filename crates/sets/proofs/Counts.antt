@@ -1,5 +1,5 @@
 -- What the questions on numbers tell: of a setting, of counts, of a builder and of a finished set. Assumes nothing.
-use Rattle.std.proofs.Common.{◌≡◌, ℕ, ◌+◌, ◌-◌, ◌*◌, ◌^◌, ◌≤◌, Bool, true, false, cond, eqb, leb, refl, eqb-true, le-leb, leb-true}
+use Rattle.std.proofs.Common.{◌≡◌, ℕ, ◌+◌, ◌-◌, ◌*◌, ◌^◌, ◌≤◌, Bool, true, false, cond, eqb, leb, refl, arith, eqb-true, le-leb, leb-true}
 use Rattle.hash_parts.specs.declared.setting.SegmentCacheConfig.{SegmentCacheConfig}
 use Rattle.sets.specs.Build.{areas_hold_builder, builder_fits}
 use Rattle.sets.specs.Lookup.{areas_hold_set, set_fits}
@@ -94,6 +94,13 @@ module _ (b : SegmentCacheBuilder) where
           filled_held = leb-true _ _ a₃.0;
           arena_short = leb-true _ _ a₃.1;
         }
+
+    -- key and value bytes are far from 64 bits
+    pub builder_bytes_few : areas_hold_builder b index arena ≡ true → (b.logical_key_bytes ≤ 2 ^ 50) × (b.logical_value_bytes ≤ 2 ^ 50)
+    builder_bytes_few e =
+        let f = (builder_areas_asked e).numbers in
+        let records = counts_records _ _ _ _ f.counts in
+        (omega (arith, records, f.announced, f.key_bytes), omega (arith, records, f.announced, f.value_bytes))
 
     pub builder_areas_pass : AreasHoldBuilder b index arena → areas_hold_builder b index arena ≡ true
     unfolding areas_hold_builder arena_holds

@@ -14,7 +14,7 @@ use Rattle.sets.specs.declared.cache.FrozenSegmentCache.{FrozenSegmentCache}
 use Rattle.sets.specs.declared.rebuild.SegmentRecordLocation.{SegmentRecordLocation}
 use Rattle.sets.specs.declared.rebuild.SharedSegmentCacheBuilder.{SharedSegmentCacheBuilder}
 use Rattle.sets.proofs.Asked.{then, then_own}
-use Rattle.sets.proofs.Counts.{both, counts_setting, set_counts, set_segments}
+use Rattle.sets.proofs.Counts.{both, counts_records, counts_setting, set_counts, set_segments}
 
 -- ---- segments in the filled arena
 
@@ -81,6 +81,13 @@ module _ (r : SharedSegmentCacheBuilder) where
   unfolding rebuild_fits
   rebuild_passes_law f =
       rw (f.counts, le-leb _ _ f.announced, le-leb _ _ f.few, le-leb _ _ f.key_bytes, le-leb _ _ f.value_bytes, le-leb _ _ f.header_length)
+
+  -- key, value and header bytes are far from 64 bits
+  pub bytes_few : rebuild_fits r ≡ true → (r.logical_key_bytes ≤ 2 ^ 50) × (r.logical_value_bytes ≤ 2 ^ 50) × (r.record_header_bytes ≤ 2 ^ 50)
+  bytes_few e =
+      let f = rebuild_asked e in
+      let records = counts_records _ _ _ _ f.counts in
+      (omega (arith, records, f.announced, f.key_bytes), omega (arith, records, f.announced, f.value_bytes), omega (arith, records, f.announced, f.header_length))
 
   module _ (index : ℕ) (starts lengths : List ℕ) (arena : ℕ) where
     pub rebuild_areas_asked : areas_hold_rebuild r index starts lengths arena ≡ true → AreasHoldRebuild r index starts lengths arena

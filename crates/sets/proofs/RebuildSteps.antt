@@ -1,9 +1,9 @@
 -- The steps of a rebuild: its segments one by one, its new segment areas, and what its pushes and its finish leave. Assumes nothing.
-use Rattle.std.proofs.Common.{◌≡◌, ℕ, zero, suc, ◌+◌, ◌-◌, ◌*◌, ◌^◌, ◌<◌, ◌≤◌, Bool, true, false, cond, eqb, leb, List, [], ◌∷◌, ◌++◌, length, get_or, drop, take, set, subst, sym, replicate, refl, ap, ◌∙◌, append_assoc, arith, length-append, take_all, eqb-true, le-leb, leb-false, leb-true}
+use Rattle.std.proofs.Common.{◌≡◌, ℕ, zero, suc, ◌+◌, ◌-◌, ◌*◌, ◌%◌, ◌^◌, ◌<◌, ◌≤◌, Bool, true, false, cond, eqb, leb, List, [], ◌∷◌, ◌++◌, length, get_or, drop, take, set, subst, sym, replicate, refl, ap, ap₂, ◌∙◌, append_assoc, arith, length-append, take_all, eqb-true, le-leb, leb-true}
 use lib.ListN.{length-replicate}
 use Rattle.std.specs.Bool.{MatchBool}
 use Rattle.std.specs.List.{AllWithin, HoldsAt, zip}
-use Rattle.std.proofs.lemmas.List.{get_or-take, length-take}
+use Rattle.std.proofs.lemmas.List.{get_or-take, length-take, length-take-le}
 use Rattle.std.proofs.lemmas.Slice.Zip.{get_or-zip, length-zip}
 use Rattle.hash_parts.specs.Hash.{tag_of}
 use Rattle.records.specs.Area.{over, pasted}
@@ -73,20 +73,17 @@ sum_more n words =
     let s : n + 1 ≡ suc n = omega arith in
     rw s
 
-pub sum_most : (i n : ℕ) (words : List ℕ) → i ≤ n → sum_of i words ≤ sum_of n words
+-- of the front of an area
+pub sum_front : (n i : ℕ) (words : List ℕ) → i ≤ n → sum_of i (take n words) ≡ sum_of i words
 unfolding sum_of
-sum_most i zero words h =
-    let z : i ≡ 0 = omega arith in
-    rw z (omega arith)
-sum_most i (suc n) words h = go (leb i n) refl (λ (k : i ≤ n). sum_most i n words k)
-  where
-    go : (b : Bool) → leb i n ≡ b → (i ≤ n → sum_of i words ≤ sum_of n words) → sum_of i words ≤ sum_of n words + get_or words n 0
-    go true e less =
-        let s : sum_of i words ≤ sum_of n words = less (leb-true _ _ e) in
-        omega arith
-    go false e less =
-        let s : i ≡ suc n = omega (arith, leb-false i n e) in
-        rw s (omega arith)
+sum_front n zero words h = refl
+sum_front n (suc i) words h = ap₂ ◌+◌ (sum_front n i words (omega arith)) (get_or-take n words i 0 (omega arith))
+
+-- what is summed of it is the sum, where that fits 64 bits
+pub sum_part : (n : ℕ) (words : List ℕ) → n ≤ length words → sum_of n words < 2 ^ 64 → sum_of (length (take n words)) (take n words) % 2 ^ 64 ≡ sum_of n words
+sum_part n words inside fits =
+    let front = ap (λ (i : ℕ). sum_of i (take n words)) (length-take-le n words inside) ∙ sum_front n n words (omega arith) in
+    omega (arith, front, fits)
 
 -- ---- the new segment areas
 

@@ -1,5 +1,5 @@
 // How large the areas must be that are lent for so many records, and sums of their words.
-ghost use Rattle.std.specs.Prelude.{◌≡◌, ◌^◌, ◌<◌, ◌≤◌, length, if◌then◌else◌};
+ghost use Rattle.std.specs.Prelude.{◌≡◌, ◌%◌, ◌^◌, ◌≤◌, length, if◌then◌else◌};
 ghost use Rattle.sets.specs.Questions.{most_records};
 ghost use Rattle.sets.specs.Areas.{area_words_for, area_words_reply, words_needed};
 ghost use Rattle.sets.specs.Rebuild.{sum_of};
@@ -55,15 +55,14 @@ fn scratch_words(packed: bool, buckets: usize) -> usize
     if packed { buckets } else { 0 }
 }
 
-// The sum of the first words of an area.
-pub fn sum_of(words: &[u64], count: usize) -> usize
-    requires inside { count ≤ length words.now }
-    requires fits { sum_of count words.now < 2 ^ 64 }
-    ensures { result ≡ sum_of count words.now }
+// The sum of an area's words. They are free numbers: it wraps at 64 bits.
+#[tactic(auto, unfolding(crate::specs::Rebuild::sum_of))]
+pub fn sum_of(words: &[u64]) -> usize
+    ensures { result ≡ sum_of (length words.now) words.now % 2 ^ 64 }
 {
-    let mut sum = 0;
-    for &word in &words[..count] {
-        sum += word as usize;
+    let mut sum: usize = 0;
+    for &word in words {
+        sum = sum.wrapping_add(word as usize);
     }
     sum
 }

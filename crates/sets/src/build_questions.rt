@@ -18,7 +18,7 @@ use index::word::BUCKET_SLOTS;
 use records::record::Records;
 
 impl SegmentCacheBuilder {
-    // Question 1: the state's own numbers.
+    // Whether the state's own numbers fit.
     #[tactic(auto, using(crate::proofs::Counts::counts_records), unfolding(crate::specs::Build::builder_fits))]
     fn fits(self) -> bool
         ensures { result ≡ builder_fits self }
@@ -38,7 +38,7 @@ impl SegmentCacheBuilder {
             && bytes_fit(inserted, self.filled - keys - values)
     }
 
-    // Question 1: the index and the arena.
+    // Whether they fit, and index and arena hold what they tell.
     #[tactic(auto, unfolding(crate::specs::Build::areas_hold_builder))]
     fn areas_hold(self, index_len: usize, arena_len: usize) -> bool
         ensures { result ≡ areas_hold_builder self index_len arena_len }

@@ -1,11 +1,11 @@
 // Building a set: opened for an announced number of records, filled by pushes, finished once. Index,
-// filter, segment areas and arena are lent to each call.
-ghost use Rattle.std.specs.Prelude.{◌≡◌, ◌+◌, ◌*◌, ◌^◌, ◌<◌, ◌≤◌, length, if◌then◌else◌};
+// filter, segment areas and arena are lent to each call, one by one where it writes to some of them.
+ghost use Rattle.std.specs.Prelude.{◌≡◌, ◌+◌, ◌*◌, ◌^◌, ◌<◌, ◌≤◌, true, length, if◌then◌else◌};
 ghost use Rattle.index.specs.Packed.{packed_index, packed_scratch};
 ghost use Rattle.records.specs.Record.{encoded_size};
 ghost use Rattle.hash_parts.specs.Outcome.{outcome_of};
 ghost use Rattle.sets.specs.Questions.{most_arena_bytes, most_records};
-ghost use Rattle.sets.specs.Build.{after_finish, after_open, after_push, builder_grown, builder_opened, finish_result, open_result, push_end, push_made, push_result, set_of};
+ghost use Rattle.sets.specs.Build.{after_finish, after_open, after_push, areas_hold_builder, builder_opened, finish_result, open_result, push_end, push_made, push_result, set_of};
 
 use crate::cache::FrozenSegmentCache;
 use crate::questions::{check_open, filter_words_for};
@@ -125,7 +125,7 @@ impl SegmentCacheBuilder {
     }
 
     // Writes the record, then its word and its filter mark.
-    #[tactic(auto, using(crate::proofs::Appends::appended, crate::proofs::Appends::push_left_law, crate::proofs::Appends::size_holds))]
+    #[tactic(auto, using(crate::proofs::Appends::appended, crate::proofs::Appends::push_left_law, crate::proofs::Counts::builder_bytes_few))]
     fn push_at(
         &mut self,
         plan: PushPlan,
@@ -136,12 +136,10 @@ impl SegmentCacheBuilder {
         filter: &mut [u64],
         arena: &mut [u8],
     ) -> PushedRecord
-        requires room { push_end self.old (length key.now) (length value.now) ≤ length arena.old }
-        requires short { length arena.old ≤ most_arena_bytes }
-        requires slot { plan.slot < length index.old }
+        requires held { areas_hold_builder self.old (length index.old) (length arena.old) ≡ true }
         requires announced { self.old.inserted_entries < self.old.expected_entries }
-        requires key_bytes { self.old.logical_key_bytes ≤ 2 ^ 50 }
-        requires value_bytes { self.old.logical_value_bytes ≤ 2 ^ 50 }
+        requires room { push_end self.old (length key.now) (length value.now) ≤ length arena.old }
+        requires slot { plan.slot < length index.old }
         ensures { push_result (Ok result) self.new index.new filter.new arena.new ≡ push_made plan.slot plan.expires_at self.old hash key.now value.now index.old filter.old arena.old }
     {
         let PushPlan { slot, expires_at } = plan;
@@ -150,23 +148,11 @@ impl SegmentCacheBuilder {
         let size = append_record(rest, self.config.expiry, key, value, expires_at);
         index[slot] = encode_index_word(hash_tag(hash), location as u64);
         mark_displaced(filter, self.filter_words, hash, slot, self.bucket_count);
-        self.grow(size, key.len(), value.len());
-        PushedRecord { slot, location }
-    }
-
-    // Counts one record more.
-    fn grow(&mut self, size: usize, key_bytes: usize, value_bytes: usize)
-        requires announced { self.old.inserted_entries < self.old.expected_entries }
-        requires short { self.old.filled + size ≤ most_arena_bytes }
-        requires key_bytes { self.old.logical_key_bytes ≤ 2 ^ 50 }
-        requires value_bytes { self.old.logical_value_bytes ≤ 2 ^ 50 }
-        requires holds { key_bytes + value_bytes ≤ size }
-        ensures { self.new ≡ builder_grown self.old size key_bytes value_bytes }
-    {
         self.inserted_entries += 1;
         self.filled += size;
-        self.logical_key_bytes += key_bytes;
-        self.logical_value_bytes += value_bytes;
+        self.logical_key_bytes += key.len();
+        self.logical_value_bytes += value.len();
+        PushedRecord { slot, location }
     }
 
     // The finished set.

@@ -120,7 +120,7 @@ impl FrozenSegmentCache {
         filter: &[u64],
         areas: SegmentAreas<'_>,
     ) -> Result<Option<SegmentBaseRecord>, SegmentCacheBuildError>
-        ensures { (probe_reply result ≡ probe_answer self hash key.now now_tick index.now filter.now areas.entry.starts.now areas.entry.lengths.now areas.entry.arena.now) × (index.now ≡ index.now) }
+        ensures { probe_reply result ≡ probe_answer self hash key.now now_tick index.now filter.now areas.entry.starts.now areas.entry.lengths.now areas.entry.arena.now }
     {
         self.check_lookup(index.len(), filter.len(), areas)?;
         let Some(found) = self.find(hash, key, index, filter, areas) else {
@@ -139,14 +139,14 @@ impl FrozenSegmentCache {
         index: &[u64],
         areas: SegmentAreas<'_>,
     ) -> Result<Option<SegmentBaseRecord>, SegmentCacheBuildError>
-        ensures { (walk_reply result ≡ walk_answer self from now_tick index.now areas.entry.starts.now areas.entry.lengths.now areas.entry.arena.now) × (index.now ≡ index.now) }
+        ensures { walk_reply result ≡ walk_answer self from now_tick index.now areas.entry.starts.now areas.entry.lengths.now areas.entry.arena.now }
     {
-        let SegmentAreas {
-            starts,
-            lengths,
-            arena,
-        } = areas;
-        if !self.areas_hold(index.len(), starts.len(), lengths.len(), arena.len()) {
+        if !self.areas_hold(
+            index.len(),
+            areas.starts.len(),
+            areas.lengths.len(),
+            areas.arena.len(),
+        ) {
             return Err(SegmentCacheBuildError::InvalidState);
         }
         let found = next_entry(self.view(), self.finished_index(index), from, areas);
@@ -202,7 +202,7 @@ impl FrozenSegmentCache {
         }
     }
 
-    // The question of a lookup.
+    // The one question of a lookup.
     #[tactic(auto, unfolding(crate::specs::Lookup::ask_lookup))]
     fn check_lookup(
         self,
@@ -212,24 +212,20 @@ impl FrozenSegmentCache {
     ) -> Result<(), SegmentCacheBuildError>
         ensures { check_number result ≡ first_no (ask_lookup self index_len filter_len (length areas.entry.starts.now) (length areas.entry.lengths.now) (length areas.entry.arena.now)) }
     {
-        let SegmentAreas {
-            starts,
-            lengths,
-            arena,
-        } = areas;
         if !self.lookup_areas_hold(
             index_len,
             filter_len,
-            starts.len(),
-            lengths.len(),
-            arena.len(),
+            areas.starts.len(),
+            areas.lengths.len(),
+            areas.arena.len(),
         ) {
             return Err(SegmentCacheBuildError::InvalidState);
         }
         Ok(())
     }
 
-    // Question 1 of a lookup: all five areas. They go by their lengths: a caller may have no more of them.
+    // Whether all five areas hold what a lookup reads. By their lengths: a caller that has them lent to be
+    // written asks as well.
     #[tactic(auto, unfolding(crate::specs::Lookup::areas_hold_lookup))]
     pub fn lookup_areas_hold(
         self,
@@ -256,7 +252,7 @@ impl FrozenSegmentCache {
         }
     }
 
-    // Question 1: the state's own numbers.
+    // Whether the state's own numbers fit.
     #[tactic(auto, using(crate::proofs::Counts::counts_records), unfolding(crate::specs::Lookup::set_fits))]
     pub fn fits(self) -> bool
         ensures { result ≡ set_fits self }
@@ -269,7 +265,7 @@ impl FrozenSegmentCache {
             && bytes_fit(self.entries, self.record_header_bytes)
     }
 
-    // Question 1: index, segment areas and arena.
+    // Whether they fit, and index, segment areas and arena hold what they tell, by their lengths.
     #[tactic(auto, unfolding(crate::specs::Lookup::areas_hold_set))]
     pub fn areas_hold(
         self,

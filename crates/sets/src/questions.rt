@@ -1,5 +1,7 @@
 // The questions that several calls ask of a state and of the lengths of the areas lent to it. Every
-// number of a state is free: sums and products are made only after what bounds them was asked.
+// number of a state is free: sums and products are made only after what bounds them was asked. C hands
+// states in as plain numbers, so no invariant of a struct can say what a question told: the private
+// functions that run after it require that.
 ghost use Rattle.std.specs.Prelude.{◌≡◌, ◌*◌, ◌^◌, ◌≤◌, length, nat_le};
 ghost use Rattle.hash_parts.specs.Duration.{ceil_div};
 ghost use Rattle.records.specs.Record.{record_size};
@@ -201,8 +203,5 @@ pub(crate) fn record_fits(
 ) -> bool
     ensures { result ≡ nat_le (record_size expiry key_bytes value_bytes) rest }
 {
-    match encoded_record_bytes(expiry, key_bytes, value_bytes) {
-        Ok(size) => size <= rest,
-        Err(_) => false,
-    }
+    encoded_record_bytes(expiry, key_bytes, value_bytes).is_ok_and(|size| size <= rest)
 }

@@ -1,5 +1,5 @@
 // Rebuilding a set: a new index over segments that are kept where they are and records copied behind
-// them. All areas are lent to each call.
+// them. All areas are lent to each call, one by one where it writes to some of them.
 ghost use Rattle.std.specs.Prelude.{◌≡◌, ◌+◌, ◌*◌, ◌^◌, ◌<◌, ◌≤◌, true, length, set, slice_set};
 ghost use Rattle.hash_parts.specs.Hash.{tag_of};
 ghost use Rattle.records.specs.Area.{over};
@@ -8,7 +8,7 @@ ghost use Rattle.index.specs.Segments.{most_segments, padded};
 ghost use Rattle.index.specs.Word.{segment_part, word_of};
 ghost use Rattle.sets.specs.Questions.{most_arena_bytes, most_records};
 ghost use Rattle.sets.specs.Kept.{chosen, is_kept, retained};
-ghost use Rattle.sets.specs.Rebuild.{after_copied, after_rebuild_finish, after_rebuild_open, after_reused, copied_grown, copied_made, copied_result, copied_size, rebuild_filled, rebuild_finish_result, rebuild_open_result, rebuild_opened, reused_grown, reused_made, reused_result};
+ghost use Rattle.sets.specs.Rebuild.{after_copied, after_rebuild_finish, after_rebuild_open, after_reused, copied_made, copied_result, copied_size, rebuild_filled, rebuild_fits, rebuild_finish_result, rebuild_open_result, rebuild_opened, reused_made, reused_result};
 
 use crate::builder::{PushPlan, PushedRecord, pack_index};
 use crate::cache::FrozenSegmentCache;
@@ -79,7 +79,9 @@ impl SharedSegmentCacheBuilder {
         starts: &mut [u64],
         lengths: &mut [u64],
     ) -> Result<SharedSegmentCacheBuilder, SegmentCacheBuildError>
-        ensures { rebuild_open_result result source index.new filter.new starts.new lengths.new ≡ after_rebuild_open source source_areas.entry.starts.now source_areas.entry.lengths.now source_areas.entry.arena.now entry_count copied_record_capacity used_source_segments.now source_now_tick index.old filter.old starts.old lengths.old }
+        ensures { rebuild_open_result result source index.new filter.new starts.new lengths.new
+            ≡ after_rebuild_open source source_areas.entry.starts.now source_areas.entry.lengths.now source_areas.entry.arena.now
+            entry_count copied_record_capacity used_source_segments.now source_now_tick index.old filter.old starts.old lengths.old }
     {
         check_rebuild_open(
             source,
@@ -174,8 +176,9 @@ impl SharedSegmentCacheBuilder {
         Ok(build)
     }
 
-    // Writes the word and the filter mark of a record of a kept segment.
-    #[tactic(auto, using(crate::proofs::RebuildSteps::reused_left_law))]
+    // Writes the word and the filter mark of a record of a kept segment. The totals of reused records are free
+    // numbers: they wrap at 64 bits.
+    #[tactic(auto, using(crate::proofs::RebuildAsked::bytes_few, crate::proofs::RebuildSteps::reused_left_law))]
     fn reused_at(
         &mut self,
         slot: usize,
@@ -186,22 +189,27 @@ impl SharedSegmentCacheBuilder {
         index: &mut [u64],
         filter: &mut [u64],
     ) -> PushedRecord
-        requires kept { is_kept self.old.kept (segment_part source.location) ≡ true }
-        requires slot { slot < length index.old }
+        requires fits { rebuild_fits self.old ≡ true }
         requires announced { self.old.inserted_entries < self.old.expected_entries }
-        requires key_bytes { self.old.logical_key_bytes + key_bytes < 2 ^ 64 }
-        requires value_bytes { self.old.logical_value_bytes + value_bytes < 2 ^ 64 }
-        requires header_bytes { self.old.record_header_bytes + source.header_bytes < 2 ^ 64 }
+        requires kept { is_kept self.old.kept (segment_part source.location) ≡ true }
+        requires short { source.header_bytes + key_bytes + value_bytes ≤ most_arena_bytes }
+        requires slot { slot < length index.old }
         ensures { reused_result (Ok result) self.new index.new filter.new ≡ reused_made slot self.old hash key_bytes value_bytes source index.old filter.old }
     {
         let location = self.moved_location(source.location);
         self.push_index(slot, hash, location, index, filter);
-        self.count_reused(source.header_bytes, key_bytes, value_bytes);
+        self.inserted_entries += 1;
+        self.logical_key_bytes += key_bytes;
+        self.logical_value_bytes += value_bytes;
+        self.record_header_bytes += source.header_bytes;
+        let bytes = source.header_bytes + key_bytes + value_bytes;
+        self.reused_entries = self.reused_entries.wrapping_add(1);
+        self.reused_record_bytes = self.reused_record_bytes.wrapping_add(bytes);
         PushedRecord { slot, location }
     }
 
     // Writes the record, then its word and its filter mark.
-    #[tactic(auto, using(crate::proofs::Appends::appended, crate::proofs::Appends::size_holds, crate::proofs::RebuildSteps::copied_left_law))]
+    #[tactic(auto, using(crate::proofs::Appends::appended, crate::proofs::RebuildAsked::bytes_few, crate::proofs::RebuildSteps::copied_left_law))]
     fn copied_at(
         &mut self,
         plan: PushPlan,
@@ -212,14 +220,12 @@ impl SharedSegmentCacheBuilder {
         filter: &mut [u64],
         arena: &mut [u8],
     ) -> PushedRecord
+        requires fits { rebuild_fits self.old ≡ true }
+        requires announced { self.old.inserted_entries < self.old.expected_entries }
         requires room { rebuild_filled self.old + copied_size self.old (length key.now) (length value.now) ≤ length arena.old }
         requires short { length arena.old ≤ most_arena_bytes }
         requires segment { retained self.old.kept < most_segments }
         requires slot { plan.slot < length index.old }
-        requires announced { self.old.inserted_entries < self.old.expected_entries }
-        requires key_bytes { self.old.logical_key_bytes ≤ 2 ^ 50 }
-        requires value_bytes { self.old.logical_value_bytes ≤ 2 ^ 50 }
-        requires header_bytes { self.old.record_header_bytes ≤ 2 ^ 50 }
         ensures { copied_result (Ok result) self.new index.new filter.new arena.new ≡ copied_made plan.slot plan.expires_at self.old hash key.now value.now index.old filter.old arena.old }
     {
         let PushPlan { slot, expires_at } = plan;
@@ -227,7 +233,11 @@ impl SharedSegmentCacheBuilder {
         let size = append_record(rest, self.config.expiry, key, value, expires_at);
         let location = self.kept.retained() * SEGMENT_BYTES + self.copied_bytes;
         self.push_index(slot, hash, location, index, filter);
-        self.count_copied(size, key.len(), value.len());
+        self.inserted_entries += 1;
+        self.copied_bytes += size;
+        self.logical_key_bytes += key.len();
+        self.logical_value_bytes += value.len();
+        self.record_header_bytes += size - key.len() - value.len();
         PushedRecord { slot, location }
     }
 
@@ -245,42 +255,6 @@ impl SharedSegmentCacheBuilder {
     {
         index[slot] = encode_index_word(hash_tag(hash), location as u64);
         mark_displaced(filter, self.filter_words, hash, slot, self.bucket_count);
-    }
-
-    // Counts one reused record more. The totals of reused records are free numbers: they wrap at 64 bits.
-    fn count_reused(&mut self, header_bytes: usize, key_bytes: usize, value_bytes: usize)
-        requires announced { self.old.inserted_entries < self.old.expected_entries }
-        requires key_bytes { self.old.logical_key_bytes + key_bytes < 2 ^ 64 }
-        requires value_bytes { self.old.logical_value_bytes + value_bytes < 2 ^ 64 }
-        requires header_bytes { self.old.record_header_bytes + header_bytes < 2 ^ 64 }
-        ensures { self.new ≡ reused_grown self.old header_bytes key_bytes value_bytes }
-    {
-        self.inserted_entries += 1;
-        self.logical_key_bytes += key_bytes;
-        self.logical_value_bytes += value_bytes;
-        self.record_header_bytes += header_bytes;
-        self.reused_entries = self.reused_entries.wrapping_add(1);
-        let with_header = self.reused_record_bytes.wrapping_add(header_bytes);
-        self.reused_record_bytes = with_header
-            .wrapping_add(key_bytes)
-            .wrapping_add(value_bytes);
-    }
-
-    // Counts one copied record more.
-    fn count_copied(&mut self, size: usize, key_bytes: usize, value_bytes: usize)
-        requires announced { self.old.inserted_entries < self.old.expected_entries }
-        requires short { self.old.copied_bytes + size ≤ most_arena_bytes }
-        requires holds { key_bytes + value_bytes ≤ size }
-        requires key_bytes { self.old.logical_key_bytes ≤ 2 ^ 50 }
-        requires value_bytes { self.old.logical_value_bytes ≤ 2 ^ 50 }
-        requires header_bytes { self.old.record_header_bytes ≤ 2 ^ 50 }
-        ensures { self.new ≡ copied_grown self.old size key_bytes value_bytes }
-    {
-        self.inserted_entries += 1;
-        self.copied_bytes += size;
-        self.logical_key_bytes += key_bytes;
-        self.logical_value_bytes += value_bytes;
-        self.record_header_bytes += size - key_bytes - value_bytes;
     }
 }
 

@@ -12,7 +12,7 @@ use crate::rebuild::{SharedSegmentCacheBuild, SharedSegmentCacheBuilder};
 use hash_parts::error::SegmentCacheBuildError;
 
 impl SharedSegmentCacheBuilder {
-    // The questions of finish.
+    // The questions of finish. The areas stand one by one: those of the segments are lent to be written.
     #[tactic(auto, unfolding(crate::specs::Rebuild::ask_rebuild_finish))]
     pub(crate) fn check_finish(
         self,
@@ -78,6 +78,7 @@ impl SharedSegmentCacheBuilder {
         }
     }
 
+    #[tactic(auto, using(crate::proofs::RebuildSteps::sum_part))]
     fn into_cache(self, lengths: &[u64]) -> FrozenSegmentCache
         requires lengths { retained self.kept ≤ length lengths.now }
         requires sum { sum_of (retained self.kept) lengths.now ≤ 2 ^ 38 }
@@ -91,7 +92,7 @@ impl SharedSegmentCacheBuilder {
             filter_words: self.filter_words,
             segments: self.segment_count(),
             filled: self.source_filled + self.copied_bytes,
-            record_bytes: sum_of(lengths, self.kept.retained()) + self.copied_bytes,
+            record_bytes: sum_of(&lengths[..self.kept.retained()]) + self.copied_bytes,
             logical_key_bytes: self.logical_key_bytes,
             logical_value_bytes: self.logical_value_bytes,
             record_header_bytes: self.record_header_bytes,

@@ -29,7 +29,7 @@ use records::record::{RecordRef, same_bytes, value_slice};
 pub(crate) const SEGMENT_BYTES: usize = index::word::SEGMENT_BYTES as usize;
 
 impl SharedSegmentCacheBuilder {
-    // Question 1: the state's own numbers.
+    // Whether the state's own numbers fit.
     #[tactic(auto, using(crate::proofs::Counts::counts_records, crate::proofs::RebuildSteps::segment_most, crate::proofs::KeptBits::retained_256), unfolding(crate::specs::Rebuild::rebuild_fits))]
     fn fits(self) -> bool
         ensures { result ≡ rebuild_fits self }
@@ -47,7 +47,8 @@ impl SharedSegmentCacheBuilder {
             && bytes_fit(inserted, self.record_header_bytes)
     }
 
-    // Question 1: index, segment areas and arena.
+    // Whether they fit, and index, segment areas and arena hold what they tell. The areas stand one by one: a
+    // copied push has the arena lent to be written, and finish the segment areas.
     #[tactic(auto, using(crate::proofs::RebuildAsked::rebuild_asked, crate::proofs::RebuildSteps::areas_256, crate::proofs::RebuildSteps::arena_held, crate::proofs::KeptBits::retained_256), unfolding(crate::specs::Rebuild::areas_hold_rebuild))]
     pub(crate) fn areas_hold(
         self,
@@ -114,7 +115,8 @@ impl SharedSegmentCacheBuilder {
         areas: SegmentAreas<'_>,
     ) -> bool
         requires { (is_kept self.kept (segment_part source.location) ≡ true) × (rebuild_filled self < 2 ^ 64) }
-        ensures { result ≡ holds_record key.now value.now source.header_bytes areas.entry.arena.now (record_in (kept_view self) areas.entry.arena.now areas.entry.starts.now areas.entry.lengths.now (moved_location self source.location + 1)) }
+        ensures { result ≡ holds_record key.now value.now source.header_bytes areas.entry.arena.now
+            (record_in (kept_view self) areas.entry.arena.now areas.entry.starts.now areas.entry.lengths.now (moved_location self source.location + 1)) }
     {
         let stored = self.moved_location(source.location) as u64 + 1;
         let Some(record) = self.view().record_at_location(areas, stored) else {
@@ -145,7 +147,7 @@ impl SharedSegmentCacheBuilder {
         segment * SEGMENT_BYTES + location % SEGMENT_BYTES
     }
 
-    // The questions of a copied push.
+    // The questions of a copied push. The areas stand one by one, since the arena is lent to be written.
     #[tactic(auto, using(crate::proofs::RebuildAsked::rebuild_areas_asked, crate::proofs::Decides::decided_refused, crate::proofs::Decides::own_refused), unfolding(crate::specs::RebuildPlans::plan_copied, crate::specs::Rebuild::ask_copied, crate::specs::RebuildPlans::plan_room, crate::specs::RebuildPlans::ask_room))]
     pub(crate) fn plan_copied(
         self,
@@ -210,7 +212,8 @@ fn segment_for(bytes: usize) -> usize
     if bytes == 0 { 0 } else { 1 }
 }
 
-// Whether each of the first segments lies in the filled arena.
+// Whether each of the first segments lies in the filled arena. The count stands beside the areas: they
+// are cut here, and not twice at each call.
 fn segments_inside(count: usize, filled: usize, starts: &[u64], lengths: &[u64]) -> bool
     requires { (count ≤ length starts.now) × (count ≤ length lengths.now) }
     ensures { result ≡ segments_inside count filled starts.now lengths.now }
@@ -230,7 +233,8 @@ fn arena_holds_both(source_filled: usize, copied: usize, arena_len: usize) -> bo
         && arena_holds(source_filled + copied, arena_len)
 }
 
-// Question 1 of a source. A caller may have no more of the arena than its length.
+// Whether a source's numbers fit, and its areas hold what they tell. A caller may have no more of the
+// arena than its length.
 #[tactic(auto, using(crate::proofs::RebuildSteps::areas_256, crate::proofs::Counts::set_segments), unfolding(crate::specs::Rebuild::areas_hold_source))]
 pub fn source_holds(
     source: FrozenSegmentCache,
@@ -250,7 +254,7 @@ pub fn source_holds(
 #[tactic(auto, using(crate::proofs::RebuildAsked::source_areas_asked, crate::proofs::RebuildSteps::kept_most, crate::proofs::RebuildSteps::segment_most), unfolding(crate::specs::Rebuild::ask_rebuild_open))]
 pub(crate) fn check_rebuild_open(
     source: FrozenSegmentCache,
-    source_areas: SegmentAreas<'_>,
+    areas: SegmentAreas<'_>,
     entry_count: usize,
     copied_record_capacity: usize,
     used_source_segments: &[u8],
@@ -259,14 +263,11 @@ pub(crate) fn check_rebuild_open(
     starts_len: usize,
     lengths_len: usize,
 ) -> Result<(), SegmentCacheBuildError>
-    ensures { check_number result ≡ first_no (ask_rebuild_open source source_areas.entry.starts.now source_areas.entry.lengths.now (length source_areas.entry.arena.now) entry_count copied_record_capacity used_source_segments.now index_len filter_len starts_len lengths_len) }
+    ensures { check_number result ≡ first_no (ask_rebuild_open source
+        areas.entry.starts.now areas.entry.lengths.now (length areas.entry.arena.now)
+        entry_count copied_record_capacity used_source_segments.now index_len filter_len starts_len lengths_len) }
 {
-    let SegmentAreas {
-        starts,
-        lengths,
-        arena,
-    } = source_areas;
-    if !source_holds(source, starts, lengths, arena.len()) {
+    if !source_holds(source, areas.starts, areas.lengths, areas.arena.len()) {
         return Err(SegmentCacheBuildError::InvalidState);
     }
     if used_source_segments.len() != source.segments {

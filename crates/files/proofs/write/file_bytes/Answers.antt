@@ -1,12 +1,12 @@
 -- `file_bytes` meets its contract: what the questions leave are numbers whose sum fits. Assumes nothing.
-use mathlib.Core.Path.{refl}
-use Prim.Native.Nat.{◌≤◌, ◌<◌}
-use native.Mathlib.Omega.{arith}
-use borrow.Author.Tests.{le-leb, lt-leb}
+use Rattle.std.proofs.Common.{◌≡◌, ◌∙◌, ◌≤◌, ◌<◌, ◌%◌, ◌^◌, refl, sym, arith, length, take, le-leb}
+use borrow.Author.Tests.{lt-leb}
+use Rattle.std.proofs.lemmas.List.{length-take-le}
+use Rattle.sets.specs.Rebuild.{sum_of}
 use Rattle.sets.proofs.Counts.{set_counts}
 use Rattle.sets.proofs.Finding.{few_buckets, few_words}
 use Rattle.sets.proofs.RebuildAsked.{SourceHolds, source_areas_asked}
-use Rattle.sets.proofs.RebuildSteps.{sum_inside}
+use Rattle.sets.proofs.RebuildSteps.{sum_inside, sum_part}
 use Rattle.sets.proofs.Said.{answered_no, answered_yes}
 use Rattle.files.specs.Write.{ask_size, size_answer}
 use Rattle.files.proofs.write.file_bytes.Goals as goal
@@ -22,17 +22,25 @@ pub returns-then-not-source_holds : goal.returns-then-not-source_holds
 unfolding size_answer ask_size
 returns-then-not-source_holds c = rw (answered_no c.source_holds.ensures c.if-not-source_holds.true)
 
-pub sum_of-bytes-requires : goal.sum_of-bytes-requires
-sum_of-bytes-requires c =
+-- the segments' lengths, whose sum does not wrap
+some : (c : Else-not-source_holds) → let a = c.args in a.set.segments ≤ length a.lengths.now
+some c = let h = (held c) in omega (arith, h.few, h.lengths_hold)
+
+summed : (c : Else-not-source_holds)
+    → let a = c.args in sum_of (length (take a.set.segments a.lengths.now)) (take a.set.segments a.lengths.now) % 2 ^ 64 ≡ sum_of a.set.segments a.lengths.now
+summed c =
     let a = c.args in
     let h = (held c) in
     let each = sum_inside a.set.filled a.starts.now a.lengths.now a.set.segments (omega (arith, h.arena_short)) h.inside in
-    record { inside = omega (arith, h.few, h.lengths_hold); fits = omega (arith, each, h.few) }
+    sum_part a.set.segments a.lengths.now (some c) (omega (arith, each, h.few))
+
+pub slice_bounds-sum_of-end : goal.slice_bounds-sum_of-end
+slice_bounds-sum_of-end c = sym (length-take-le c.args.set.segments c.args.lengths.now (some (goal.at.slice_bounds-sum_of-end c).Else-not-source_holds))
 
 pub returns-then-bytes-gt-MAX_ARENA_BYTES : goal.returns-then-bytes-gt-MAX_ARENA_BYTES
 unfolding size_answer ask_size
 returns-then-bytes-gt-MAX_ARENA_BYTES c =
-    let sum = c.sum_of-bytes.ensures in
+    let sum = c.sum_of-bytes.ensures ∙ summed (goal.at.returns-then-bytes-gt-MAX_ARENA_BYTES c).Else-not-source_holds in
     rw (answered_yes c.source_holds.ensures c.if-not-source_holds.false, lt-leb _ _ (rw sum at c.if-bytes-gt-MAX_ARENA_BYTES.true))
 
 -- the numbers that are added are small
@@ -84,5 +92,5 @@ overflow_add-result-4 c =
 pub returns : goal.returns
 unfolding size_answer ask_size
 returns c =
-    let sum = c.sum_of-bytes.ensures in
+    let sum = c.sum_of-bytes.ensures ∙ summed (goal.at.returns c).Else-not-source_holds in
     rw (answered_yes c.source_holds.ensures c.if-not-source_holds.false, ← sum, le-leb _ _ c.if-bytes-gt-MAX_ARENA_BYTES.false) refl

@@ -1,7 +1,7 @@
 -- `push` meets its contract. Assumes nothing.
-use Rattle.std.proofs.Common.{sym, ap, ◌∙◌, arith, Ok}
+use Rattle.std.proofs.Common.{sym, ap, ◌∙◌, Ok}
 use Rattle.sets.specs.BuildPlans.{planned, plan_push}
-use Rattle.sets.proofs.Counts.{counts_records}
+use Rattle.sets.proofs.Counts.{builder_areas_pass}
 use Rattle.sets.proofs.Asked.{push_asked}
 use Rattle.sets.proofs.EmptySlots.{found_inside}
 use Rattle.sets.proofs.Decides.{planned_two}
@@ -13,14 +13,9 @@ unfolding plan_push
 push_at-requires c =
     let p = planned_two _ _ _ _ _ (sym c.plan_push.ensures ∙ ap planned c.in_ok-plan.was) in
     let q = push_asked _ _ _ _ _ _ _ _ p.0 in
-    let n = q.areas.numbers in
-    let few = counts_records _ _ _ _ n.counts in
-    let at = found_inside _ _ _ _ _ c.ranges.hash.fits q.areas.index_holds (q.place ∙ ap Ok p.1) in
     record {
-      room = q.fits;
-      short = q.areas.arena_short;
-      slot = at;
+      held = builder_areas_pass _ _ _ q.areas;
       announced = q.announced;
-      key_bytes = omega (arith, few, n.announced, n.key_bytes);
-      value_bytes = omega (arith, few, n.announced, n.value_bytes);
+      room = q.fits;
+      slot = found_inside _ _ _ _ _ c.ranges.hash.fits q.areas.index_holds (q.place ∙ ap Ok p.1);
     }

@@ -1,21 +1,13 @@
--- `push_at` meets its contract. Assumes nothing.
-use Rattle.std.proofs.Common.{length, arith}
-use Rattle.sets.proofs.Appends.{appended, size_holds}
+-- `push_at` meets its contract: the record takes no more than the arena has. Assumes nothing.
+use Rattle.std.proofs.Common.{arith}
+use Rattle.sets.proofs.Appends.{appended}
+use Rattle.sets.proofs.Counts.{builder_areas_asked}
 use Rattle.sets.proofs.builder.SegmentCacheBuilder.push_at.Goals as goal
 
-pub grow-requires : goal.grow-requires
-grow-requires c =
+pub overflow_add-self-2 : goal.overflow_add-self-2
+overflow_add-self-2 c =
     let a = c.args in
     let b = a.self.now in
-    let pre = c.requires in
-    let e = b.config.expiry in
-    let written = c.append_record-size.ensures in
-    let wrote = appended e a.key.now a.value.now a.plan.expires_at b.filled a.arena.now pre.room _ _ written.0 written.1 in
-    let holds = size_holds e (length a.key.now) (length a.value.now) in
-    record {
-      announced = pre.announced;
-      short = omega (arith, wrote.0, pre.room, pre.short);
-      key_bytes = pre.key_bytes;
-      value_bytes = pre.value_bytes;
-      holds = omega (arith, wrote.0, holds);
-    }
+    let told = c.append_record-size.ensures in
+    let wrote = appended b.config.expiry a.key.now a.value.now a.plan.expires_at b.filled a.arena.now c.requires.room _ _ told.0 told.1 in
+    omega (arith, wrote.0, c.requires.room, (builder_areas_asked _ _ _ c.requires.held).arena_short)

@@ -2,9 +2,8 @@
 use Rattle.std.proofs.Common.{◌+◌, sym, ap, ◌∙◌, arith, Ok}
 use Rattle.sets.specs.Rebuild.{kept_view, moved_location}
 use Rattle.sets.specs.RebuildPlans.{plan_reused, slot_planned}
-use Rattle.sets.proofs.Counts.{counts_records}
 use Rattle.sets.proofs.ReadInside.{reused_record}
-use Rattle.sets.proofs.RebuildAsked.{reused_asked}
+use Rattle.sets.proofs.RebuildAsked.{reused_asked, rebuild_passes_law}
 use Rattle.sets.proofs.EmptySlots.{found_inside}
 use Rattle.sets.proofs.Decides.{planned_yes}
 use Rattle.sets.proofs.rebuild.SharedSegmentCacheBuilder.push_reused.Goals as goal
@@ -16,16 +15,11 @@ reused_at-requires c =
     let a = c.args in
     let p = planned_yes _ _ _ (sym c.plan_reused.ensures ∙ ap slot_planned c.in_ok-slot.was) in
     let q = reused_asked _ _ _ _ _ _ _ _ _ _ p.0 in
-    let n = q.areas.numbers in
-    let few = counts_records _ _ _ _ n.counts in
-    let at = found_inside _ _ _ _ _ c.ranges.hash.fits q.areas.index_holds (q.place ∙ ap Ok p.1) in
     let shown = (reused_record _ _ _ _ (kept_view a.self.now) _ _ (moved_location a.self.now a.source.location + 1) q.holds).3 in
-    let short = q.areas.arena_short in
     record {
-      kept = q.kept;
-      slot = at;
+      fits = rebuild_passes_law _ q.areas.numbers;
       announced = q.announced;
-      key_bytes = omega (arith, few, n.announced, n.key_bytes, shown, short);
-      value_bytes = omega (arith, few, n.announced, n.value_bytes, shown, short);
-      header_bytes = omega (arith, few, n.announced, n.header_length, shown, short);
+      kept = q.kept;
+      short = omega (arith, shown, q.areas.arena_short);
+      slot = found_inside _ _ _ _ _ c.ranges.hash.fits q.areas.index_holds (q.place ∙ ap Ok p.1);
     }
