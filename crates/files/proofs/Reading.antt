@@ -13,7 +13,7 @@ use Rattle.hash_parts.specs.ZeroBytes.{number_of}
 use Rattle.records.specs.Area.{part}
 use Rattle.index.specs.Packed.{words_of}
 use Rattle.files.specs.Kinds.{place_of}
-use Rattle.files.specs.declared.content.Count.{Count}
+use Rattle.files.specs.declared.counts.Count.{Count}
 use Rattle.files.specs.Contents.{numbers_in, sum}
 
 -- ---- words
