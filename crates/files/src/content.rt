@@ -58,10 +58,9 @@ fn blocks_fit(file: &[u8], buckets: usize, filter_words: usize) -> bool
 
 // Whether so many bytes are a count of pieces of a size. No product wraps.
 fn is_count_of(bytes: usize, count: usize, size: usize) -> bool
-    requires { 0 < size }
     ensures { result ≡ eqb bytes (size * count) }
 {
-    bytes % size == 0 && bytes / size == count
+    size.checked_mul(count) == Some(bytes)
 }
 
 // Whether the words add up to so many bytes. What is left of the bytes is counted down: no sum wraps.
