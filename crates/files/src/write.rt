@@ -208,9 +208,9 @@ fn put_segment_bytes(out: &mut [u8], areas: SegmentAreas<'_>)
         arena,
     } = areas;
     let mut at = 0;
-    for (i, length) in lengths.iter().enumerate() {
-        let start = starts[i] as usize;
-        let length = *length as usize;
+    for (&start, &length) in starts.iter().zip(lengths) {
+        let start = start as usize;
+        let length = length as usize;
         out[at..at + length].copy_from_slice(&arena[start..start + length]);
         at += length;
     }
