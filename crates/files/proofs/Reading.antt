@@ -70,10 +70,6 @@ number_in (w ∷ ws) bytes (suc i) h =
 pub place_few : (c : Count) → place_of c < 10
 place_few c = grind arith
 
--- ---- starts
-
--- ---- 256 words
-
 -- ---- tests
 
 pub eqb_same : (a b c d : ℕ) → (a ≡ b → c ≡ d) → (c ≡ d → a ≡ b) → eqb a b ≡ eqb c d

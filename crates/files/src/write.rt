@@ -139,17 +139,16 @@ fn put_counts(out: &mut [u8], set: FrozenSegmentCache)
     put_numbers(content, &numbers);
 }
 
-// Numbers one after the other, each in its width. They are counted, since nothing is known of what is
-// written through an adapter of the area's parts.
+// Numbers one after the other, each in its width. A position in the area is kept, since a loop over parts
+// that are lent to be written proves nothing of them.
 fn put_numbers(out: &mut [u8], numbers: &[u64])
     requires { (length numbers.now ≡ 10) × (length out.old ≡ 44) }
     ensures { out.new ≡ bytes_for widths numbers.now }
 {
     let mut at = 0;
-    for (i, number) in numbers.iter().enumerate() {
-        let end = at + WIDTHS[i];
-        put_number(&mut out[at..end], *number);
-        at = end;
+    for (&width, &number) in WIDTHS.iter().zip(numbers) {
+        put_number(&mut out[at..at + width], number);
+        at += width;
     }
 }
 
