@@ -7,6 +7,7 @@ use native.Mathlib.Omega.{arith}
 use lib.Dec.{eqb, leb}
 use lib.ListN.{length, take, get_or}
 use borrow.Author.Tests.{eq-eqb, le-leb}
+use Rattle.hash_parts.specs.Setting.{expiry_flag, tick_nanos, tick_secs}
 use Rattle.hash_parts.specs.declared.setting.SegmentExpiry.{SegmentExpiry}
 use Rattle.hash_parts.specs.declared.setting.SegmentExpiry.TheVariants.{None, Relative16}
 use Rattle.sets.specs.Questions.{bytes_fit, first_no, setting_fits}
@@ -16,7 +17,7 @@ use Rattle.files.specs.Blocks.{content_of, frames_well, kinds_from}
 use Rattle.files.specs.Contents.{ask_file, buckets_of, content_fits, field, filter_words_of, numbers_in, records_in, segment_count_fits, segment_lengths, setting_in, sum, tick_fits, widths}
 use Rattle.files.specs.Load.{ask_load, load_areas_hold}
 use Rattle.files.specs.Typed.{Typed}
-use Rattle.files.specs.Write.{count_bytes, count_numbers, file_of, expiry_flag, tick_nanos, tick_secs}
+use Rattle.files.specs.Write.{count_bytes, count_numbers, file_of}
 use Rattle.files.proofs.Asked.{WriteAsked}
 use Rattle.files.proofs.Fields.{numbers}
 use Rattle.files.proofs.Framing.{frames_written, kinds_written}

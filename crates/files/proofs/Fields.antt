@@ -4,12 +4,13 @@ use mathlib.Core.Bool.{Bool, true, false, cond}
 use mathlib.Core.List.{List}
 use Prim.Native.Nat.{ℕ}
 use lib.Dec.{eqb}
+use Rattle.hash_parts.specs.Setting.{expiry_flag, tick_nanos, tick_secs}
 use Rattle.hash_parts.specs.declared.setting.SegmentExpiry.{SegmentExpiry}
 use Rattle.hash_parts.specs.declared.setting.SegmentExpiry.TheVariants.{None, Relative16}
 use Rattle.sets.specs.declared.cache.FrozenSegmentCache.{FrozenSegmentCache}
 use Rattle.files.specs.Blocks.{content_of}
 use Rattle.files.specs.Contents.{expiry_in, field, numbers_in, records_in, widths}
-use Rattle.files.specs.Write.{count_bytes, count_numbers, expiry_flag, tick_nanos, tick_secs}
+use Rattle.files.specs.Write.{count_bytes, count_numbers}
 use Rattle.files.proofs.Framing.{Fit, numbers_back}
 
 module _ (s : FrozenSegmentCache) (f : List ℕ) (one : content_of 0 f ≡ count_bytes s) (fit : Fit widths (count_numbers s)) where

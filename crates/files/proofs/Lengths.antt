@@ -10,7 +10,7 @@ use Rattle.sets.specs.Rebuild.{sum_of}
 use Rattle.sets.specs.declared.cache.FrozenSegmentCache.{FrozenSegmentCache}
 use Rattle.files.specs.Blocks.{block}
 use Rattle.files.specs.Contents.{unmarked_index}
-use Rattle.files.specs.Write.{count_bytes, count_numbers, file_of, file_size, segment_bytes}
+use Rattle.files.specs.Write.{count_bytes, file_of, file_size, segment_bytes}
 use Rattle.files.proofs.Asked.{WriteAsked}
 use Rattle.files.proofs.Low.{unmarked_length, word_bytes_length}
 use Rattle.files.proofs.Moved.{segments_length}
@@ -38,8 +38,7 @@ module _ (s : FrozenSegmentCache) (index filter starts lengths arena out : List 
   c5 = segment_bytes s.segments starts lengths arena
 
   pub one_long : length c1 ≡ 44
-  unfolding count_bytes count_numbers
-  one_long = counts_long _ _ _ _ _ _ _ _ _ _
+  one_long = counts_long s
 
   pub two_words : length (take s.segments lengths) ≡ s.segments
   two_words = length-take-le s.segments lengths (omega (arith, asked.few_segments, asked.lengths_hold))

@@ -1,6 +1,6 @@
 -- Laws of the pieces that a file is written of: a block by its header and its content, words as bytes, the index without its marks. Assumes nothing.
 use mathlib.Core.Path.{◌≡◌, refl, sym, ap, ap₂, ◌∙◌}
-use mathlib.Core.Bool.{Bool, true, false, cond}
+use mathlib.Core.Bool.{true, false}
 use mathlib.Core.List.{List, [], ◌∷◌, ◌++◌, map, flat_map, append_assoc}
 use Prim.Native.Nat.{ℕ, zero, suc, ◌+◌, ◌≤◌, ◌<◌}
 use native.Mathlib.Numerals.{add-one}
@@ -8,7 +8,7 @@ use native.Mathlib.Omega.{arith}
 use lib.ListN.{length, take, drop, get_or, length-append}
 use lib.Seq.{drop-cons}
 use Rattle.std.proofs.lemmas.List.{drop_all, get_or-take}
-use Rattle.std.specs.Int.{from_bool}
+use Rattle.hash_parts.specs.Setting.{setting_numbers}
 use Rattle.hash_parts.specs.ZeroBytes.{bytes_of}
 use Rattle.hash_parts.proofs.Bytes.{length_bytes}
 use Rattle.records.specs.Area.{part}
@@ -19,7 +19,7 @@ use Rattle.sets.specs.declared.cache.FrozenSegmentCache.{FrozenSegmentCache}
 use Rattle.files.specs.Blocks.{block}
 use Rattle.files.specs.Contents.{bytes_for, sum, unmarked_index, widths}
 use Rattle.files.specs.Copies.{masked_by}
-use Rattle.files.specs.Write.{count_bytes, count_numbers, expiry_flag, segment_bytes, tick_nanos, tick_secs}
+use Rattle.files.specs.Write.{count_bytes, count_numbers, segment_bytes}
 use Rattle.files.proofs.Low.{bytes_low}
 use Rattle.files.proofs.Masks.{control_masked, whole_masked, word_masked}
 
@@ -81,25 +81,19 @@ pub no_numbers : (i : ℕ) (numbers : List ℕ) → 10 ≤ i → bytes_for (drop
 unfolding bytes_for
 no_numbers i numbers h = rw (drop_all i widths h)
 
--- kind 1, whatever its numbers are
-pub counts_long : (a b c d e f g h i j : ℕ) → length (bytes_for widths (a ∷ b ∷ c ∷ d ∷ e ∷ f ∷ g ∷ h ∷ i ∷ j ∷ [])) ≡ 44
-unfolding bytes_for bytes_of
-counts_long a b c d e f g h i j = refl
+-- kind 1
+pub counts_long : (s : FrozenSegmentCache) → length (count_bytes s) ≡ 44
+unfolding count_bytes count_numbers bytes_for bytes_of
+counts_long s = refl
 
--- a flag
-pub flag_is : (b : Bool) → from_bool b ≡ cond b 1 0
-flag_is true = refl
-flag_is false = refl
-
--- of a set, whose flags and tick were worked out
-pub counts_same : (s : FrozenSegmentCache) (flag secs nanos packed : ℕ) → flag ≡ expiry_flag s.config.expiry → secs ≡ tick_secs s.config.expiry
-    → nanos ≡ tick_nanos s.config.expiry → packed ≡ cond s.config.packed_bucket_index 1 0
+-- with the setting's numbers as they were worked out
+pub counts_same : (s : FrozenSegmentCache) (ns : List ℕ) → ns ≡ setting_numbers s.config
     → bytes_for widths
-    (flag ∷ secs ∷ nanos ∷ s.config.target_occupied_slots ∷ packed ∷ s.config.negative_filter_bits_per_entry ∷ s.entries
+    (get_or ns 0 0 ∷ get_or ns 1 0 ∷ get_or ns 2 0 ∷ get_or ns 3 0 ∷ get_or ns 4 0 ∷ get_or ns 5 0 ∷ s.entries
     ∷ s.logical_key_bytes ∷ s.logical_value_bytes ∷ s.record_header_bytes ∷ [])
     ≡ count_bytes s
 unfolding count_bytes count_numbers
-counts_same s flag secs nanos packed a b c d = rw (a, b, c, d)
+counts_same s ns e = rw e
 
 -- the bytes of the segments from one on
 pub segments_from : ℕ → ℕ → List ℕ → List ℕ → List ℕ → List ℕ

@@ -13,7 +13,7 @@ use Rattle.hash_parts.specs.ZeroBytes.{number_of}
 use Rattle.records.specs.Area.{part}
 use Rattle.index.specs.Packed.{words_of}
 use Rattle.files.specs.Kinds.{place_of}
-use Rattle.files.specs.declared.content.Count.{Count}
+use Rattle.files.specs.declared.counts.Count.{Count}
 use Rattle.files.specs.Contents.{numbers_in, sum}
 
 -- ---- words
@@ -69,10 +69,6 @@ number_in (w ∷ ws) bytes (suc i) h =
 
 pub place_few : (c : Count) → place_of c < 10
 place_few c = grind arith
-
--- ---- starts
-
--- ---- 256 words
 
 -- ---- tests
 

@@ -8,6 +8,7 @@ use lib.ListN.{length, take, drop, get_or}
 use lib.Seq.{take_at, get_or-take}
 use borrow.Author.Tests.{ltb-true}
 use Rattle.hash_parts.specs.declared.setting.SegmentCacheConfig.{SegmentCacheConfig}
+use Rattle.hash_parts.specs.Setting.{expiry_flag, tick_nanos, tick_secs}
 use Rattle.hash_parts.specs.declared.setting.SegmentExpiry.{SegmentExpiry}
 use Rattle.hash_parts.specs.declared.setting.SegmentExpiry.TheVariants.{None, Relative16}
 use Rattle.index.specs.Packed.{word_bytes, words_of}
@@ -19,7 +20,7 @@ use Rattle.sets.proofs.Finding.{few_buckets, few_words}
 use Rattle.files.specs.Blocks.{block, content_of}
 use Rattle.files.specs.Contents.{buckets_of, file_filter, file_index, filter_words_of, records_in, segment_lengths, setting_in, unmarked_index, widths}
 use Rattle.files.specs.Typed.{Typed, SecondsFit}
-use Rattle.files.specs.Write.{count_bytes, count_numbers, file_of, file_size, segment_bytes, expiry_flag, tick_nanos, tick_secs}
+use Rattle.files.specs.Write.{count_bytes, count_numbers, file_of, file_size, segment_bytes}
 use Rattle.files.proofs.Asked.{WriteAsked}
 use Rattle.files.proofs.Fields.{FieldsBack, fields_back}
 use Rattle.files.proofs.Framing.{Fit, fit_none, fit_one, Small, contents_back}

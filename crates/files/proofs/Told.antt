@@ -2,11 +2,11 @@
 use mathlib.Core.Path.{◌≡◌, refl, sym, ◌∙◌}
 use mathlib.Core.Bool.{Bool, true, false}
 use mathlib.Core.List.{List, [], ◌∷◌}
-use Prim.Native.Nat.{ℕ, ◌*◌, ◌/◌, ◌%◌, ◌≤◌, ◌<◌}
+use Prim.Native.Nat.{ℕ, ◌*◌, ◌/◌, ◌%◌, ◌≤◌}
 use native.Mathlib.Omega.{arith}
 use lib.Dec.{eqb, leb}
 use lib.ListN.{length}
-use borrow.Author.Tests.{eqb-true, leb-true, eq-eqb, le-leb, lt-leb}
+use borrow.Author.Tests.{eqb-true, leb-true, eq-eqb, le-leb}
 use Rattle.hash_parts.specs.declared.setting.SegmentCacheConfig.{SegmentCacheConfig}
 use Rattle.sets.specs.Lookup.{set_fits}
 use Rattle.sets.specs.Questions.{all, bytes_fit, counts_fit, setting_fits}
@@ -47,18 +47,6 @@ module _ (f : List ℕ) where
   set_is c records buckets words segments bytes keys values headers p q r s t u v w x =
       let n : segments ≡ length (segment_lengths f) = t ∙ sym (words_of_length (length (content_of 1 f) / 8) (content_of 1 f)) in
       rw (p, q, r, s, n, u, v, w, x)
-
-  pub flags_first : (n : ℕ) → n ≡ field 0 f → 1 < n → false ≡ flags_fit f
-  unfolding flags_fit
-  flags_first n e h = rw (lt-leb (field 0 f) 1 (omega (arith, e)))
-
-  pub flags_second : (n m : ℕ) → n ≡ field 0 f → m ≡ field 4 f → n ≤ 1 → 1 < m → false ≡ flags_fit f
-  unfolding flags_fit
-  flags_second n m e g h k = rw (le-leb (field 0 f) 1 (omega (arith, e)), lt-leb (field 4 f) 1 (omega (arith, g)))
-
-  pub flags_third : (n m : ℕ) → n ≡ field 0 f → m ≡ field 4 f → n ≤ 1 → m ≤ 1 → flags_fit f ≡ tick_fits f
-  unfolding flags_fit
-  flags_third n m e g h k = rw (le-leb (field 0 f) 1 (omega (arith, e)), le-leb (field 4 f) 1 (omega (arith, g)))
 
   -- ---- what 15 asks
 

@@ -3,8 +3,8 @@
 use Rattle.std.specs.Prelude.{ℕ}
 use Rattle.files.specs.declared.blocks.BlockKind.{BlockKind}
 use Rattle.files.specs.declared.blocks.BlockKind.TheVariants.{Counts, Lengths, Index, Filter, Segments}
-use Rattle.files.specs.declared.content.Count.{Count}
-use Rattle.files.specs.declared.content.Count.TheVariants.{ExpiryOn, TickSeconds, TickNanoseconds, Occupancy, Packed, FilterBits, Records, KeyBytes, ValueBytes, HeaderBytes}
+use Rattle.files.specs.declared.counts.Count.{Count}
+use Rattle.files.specs.declared.counts.Count.TheVariants.{ExpiryOn, TickSeconds, TickNanoseconds, Occupancy, Packed, FilterBits, Records, KeyBytes, ValueBytes, HeaderBytes}
 
 abbrev pub kind_number : BlockKind → ℕ
 kind_number Counts = 1

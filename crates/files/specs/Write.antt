@@ -1,11 +1,10 @@
 -- Writing a set as a file: its questions, and what it leaves.
 -- Assumes nothing.
-use Rattle.std.specs.Prelude.{Bool, cond, ℕ, ◌+◌, ◌*◌, leb, length, take, get_or, Result, Ok, Err}
+use Rattle.std.specs.Prelude.{Bool, ℕ, ◌+◌, ◌*◌, leb, length, take, get_or, Result, Ok, Err}
 use mathlib.Core.List.{List, [], ◌∷◌, ◌++◌, flat_map}
 use Rattle.hash_parts.specs.Error.{error_number}
+use Rattle.hash_parts.specs.Setting.{setting_before}
 use Rattle.hash_parts.specs.declared.error.SegmentCacheBuildError.{SegmentCacheBuildError}
-use Rattle.hash_parts.specs.declared.setting.SegmentExpiry.{SegmentExpiry}
-use Rattle.hash_parts.specs.declared.setting.SegmentExpiry.TheVariants.{None, Relative16}
 use Rattle.records.specs.Area.{over, part}
 use Rattle.index.specs.Packed.{word_bytes}
 use Rattle.index.specs.Walk.{up_from}
@@ -17,25 +16,10 @@ use Rattle.sets.specs.declared.cache.FrozenSegmentCache.{FrozenSegmentCache}
 use Rattle.files.specs.Blocks.{block}
 use Rattle.files.specs.Contents.{bytes_for, unmarked_index, widths}
 
--- "with expiry off both tick fields are zero"
-abbrev pub expiry_flag : SegmentExpiry → ℕ
-expiry_flag None = 0
-expiry_flag (Relative16 tick) = 1
-
-abbrev pub tick_secs : SegmentExpiry → ℕ
-tick_secs None = 0
-tick_secs (Relative16 tick) = tick.secs
-
-abbrev pub tick_nanos : SegmentExpiry → ℕ
-tick_nanos None = 0
-tick_nanos (Relative16 tick) = tick.nanos
-
 -- the numbers of kind 1
 unfoldable pub count_numbers : FrozenSegmentCache → List ℕ
 count_numbers s =
-    expiry_flag s.config.expiry ∷ tick_secs s.config.expiry ∷ tick_nanos s.config.expiry
-    ∷ s.config.target_occupied_slots ∷ cond s.config.packed_bucket_index 1 0 ∷ s.config.negative_filter_bits_per_entry ∷ s.entries
-    ∷ s.logical_key_bytes ∷ s.logical_value_bytes ∷ s.record_header_bytes ∷ []
+    setting_before s.config (s.entries ∷ s.logical_key_bytes ∷ s.logical_value_bytes ∷ s.record_header_bytes ∷ [])
 
 unfoldable pub count_bytes : FrozenSegmentCache → List ℕ
 count_bytes s = bytes_for widths (count_numbers s)

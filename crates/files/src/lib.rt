@@ -5,5 +5,6 @@
 mod blocks;
 mod content;
 mod copies;
+mod counts;
 pub mod load;
 pub mod write;

@@ -118,7 +118,8 @@ fn load_lengths(from: &[u8], lengths: &mut [u64])
     lengths[count..MAX_RECORD_SEGMENTS].fill(0);
 }
 
-// Each segment starts where the one before ends; the words past the last are 0.
+// Each segment starts where the one before ends; the words past the last are 0. By index: nothing is known
+// of words that a zip lends to be written.
 fn load_starts(lengths: &[u64], starts: &mut [u64])
     requires { (length lengths.now ≤ most_segments) × (most_segments ≤ length starts.old) × (sum lengths.now ≤ most_arena_bytes) }
     ensures { starts.new ≡ over (padded (starts_by 0 lengths.now)) starts.old }

@@ -7,13 +7,13 @@ ghost use Rattle.sets.specs.Rebuild.{segments_inside, sum_of};
 ghost use Rattle.files.specs.Blocks.{block};
 ghost use Rattle.files.specs.Contents.{bytes_for, unmarked_index, widths};
 ghost use Rattle.files.specs.Kinds.{kind_number};
-ghost use Rattle.files.specs.Write.{after_write, ask_write, count_bytes, expiry_flag, file_of, file_size, segment_bytes, size_answer, size_reply, tick_nanos, tick_secs, write_result};
+ghost use Rattle.files.specs.Write.{after_write, ask_write, count_bytes, file_of, file_size, segment_bytes, size_answer, size_reply, write_result};
 
 use crate::blocks::{BlockKind, HEADER_BYTES, put_header};
-use crate::content::{BUCKET_BYTES, COUNT_BYTES, MAX_ARENA_BYTES, WIDTHS};
+use crate::content::{BUCKET_BYTES, MAX_ARENA_BYTES};
 use crate::copies::{UNMARKED_CONTROL, UNMARKED_WORD, WHOLE, WORD_BYTES, put_number, put_words};
+use crate::counts::{COUNT_BYTES, WIDTHS};
 use hash_parts::error::SegmentCacheBuildError;
-use hash_parts::setting::SegmentExpiry;
 use index::view::SegmentAreas;
 use index::word::BUCKET_SLOTS;
 use sets::areas::sum_of;
@@ -116,15 +116,21 @@ fn put_counts(out: &mut [u8], set: FrozenSegmentCache)
 {
     let (header, content) = out.split_at_mut(HEADER_BYTES);
     put_header(header, COUNT_BYTES, BlockKind::Counts);
-    let config = set.config;
-    let (expiry_on, secs, nanos) = expiry_numbers(config.expiry);
+    let [
+        expiry_on,
+        tick_secs,
+        tick_nanos,
+        occupancy,
+        packed,
+        filter_bits,
+    ] = set.config.numbers();
     let numbers = [
         expiry_on,
-        secs,
-        nanos,
-        config.target_occupied_slots as u64,
-        u64::from(config.packed_bucket_index),
-        config.negative_filter_bits_per_entry as u64,
+        tick_secs,
+        tick_nanos,
+        occupancy,
+        packed,
+        filter_bits,
         set.entries as u64,
         set.logical_key_bytes as u64,
         set.logical_value_bytes as u64,
@@ -133,27 +139,16 @@ fn put_counts(out: &mut [u8], set: FrozenSegmentCache)
     put_numbers(content, &numbers);
 }
 
-// Numbers one after the other, each in its width. They are counted, since nothing is known of what is
-// written through an adapter of the area's parts.
+// Numbers one after the other, each in its width. A position in the area is kept, since a loop over parts
+// that are lent to be written proves nothing of them.
 fn put_numbers(out: &mut [u8], numbers: &[u64])
     requires { (length numbers.now ≡ 10) × (length out.old ≡ 44) }
     ensures { out.new ≡ bytes_for widths numbers.now }
 {
     let mut at = 0;
-    for (i, number) in numbers.iter().enumerate() {
-        let end = at + WIDTHS[i];
-        put_number(&mut out[at..end], *number);
-        at = end;
-    }
-}
-
-// Whether expiry is on, and the tick; with expiry off both its numbers are zero.
-fn expiry_numbers(expiry: SegmentExpiry) -> (u64, u64, u64)
-    ensures { (result.0 ≡ expiry_flag expiry) × (result.1 ≡ tick_secs expiry) × (result.2 ≡ tick_nanos expiry) }
-{
-    match expiry {
-        SegmentExpiry::None => (0, 0, 0),
-        SegmentExpiry::Relative16 { tick } => (1, tick.secs, tick.nanos as u64),
+    for (&width, &number) in WIDTHS.iter().zip(numbers) {
+        put_number(&mut out[at..at + width], number);
+        at += width;
     }
 }
 
@@ -212,9 +207,9 @@ fn put_segment_bytes(out: &mut [u8], areas: SegmentAreas<'_>)
         arena,
     } = areas;
     let mut at = 0;
-    for (i, length) in lengths.iter().enumerate() {
-        let start = starts[i] as usize;
-        let length = *length as usize;
+    for (&start, &length) in starts.iter().zip(lengths) {
+        let start = start as usize;
+        let length = length as usize;
         out[at..at + length].copy_from_slice(&arena[start..start + length]);
         at += length;
     }

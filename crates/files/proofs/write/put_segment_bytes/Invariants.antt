@@ -5,6 +5,9 @@ use Rattle.files.specs.Write.{segment_bytes}
 use Rattle.files.proofs.Pieces.{segments_from}
 use Rattle.files.proofs.write.put_segment_bytes.Given as goal
 
-abbrev pub invariant-loop-i : goal.invariant-loop-i
-invariant-loop-i l =
-    Writing (segment_bytes (length l.lengths) l.starts l.lengths l.arena) (segments_from l.i (length l.lengths - l.i) l.starts l.lengths l.arena) l.initial.out l.out l.at
+abbrev pub invariant-loop-start : goal.invariant-loop-start
+invariant-loop-start l =
+    let i = length l.yielded in
+    let starts = l.areas.starts.now in
+    let lengths = l.areas.lengths.now in
+    Writing (segment_bytes (length lengths) starts lengths l.arena) (segments_from i (length lengths - i) starts lengths l.arena) l.initial.out l.out l.at
