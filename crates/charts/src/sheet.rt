@@ -7,12 +7,11 @@ ghost use Rattle.charts.specs.Sheet.{after_sheet, pages_answer, row_count, row_f
 
 use crate::line::{LINE_BYTES, put_blanks, put_row};
 use hash_parts::error::SegmentCacheBuildError;
-use index::find::FinishedIndex;
-use index::view::{SegmentAreas, SegmentView};
+use index::view::SegmentAreas;
 use index::word::BUCKET_SLOTS;
 use records::record::{RecordRef, value_slice};
 use sets::cache::FrozenSegmentCache;
-use sets::lookup::entry_at;
+use sets::lookup::SetRecords;
 
 // The lines of a page, and its bytes.
 const PAGE_LINES: usize = 50;
@@ -38,7 +37,7 @@ pub fn sheet_pages(
     if !set.areas_hold(index.len(), starts.len(), lengths.len(), arena.len()) {
         return Err(SegmentCacheBuildError::InvalidState);
     }
-    let rows = count_rows(set.view(), set.finished_index(index), areas)?;
+    let rows = count_rows(set.records(index, areas))?;
     Ok(rows.div_ceil(PAGE_LINES))
 }
 
@@ -55,25 +54,21 @@ pub fn print_sheet(
     if page.len() / PAGE_BYTES < pages {
         return Err(SegmentCacheBuildError::AreaTooShort);
     }
-    write_sheet(set.view(), set.finished_index(index), areas, pages, page);
+    write_sheet(set.records(index, areas), pages, page);
     Ok(pages)
 }
 
 // The first pass: counts the rows, and asks of each whether it fits.
-fn count_rows(
-    view: SegmentView,
-    index: FinishedIndex<'_>,
-    areas: SegmentAreas<'_>,
-) -> Result<usize, SegmentCacheBuildError>
-    requires { 8 * index.buckets ≤ length index.words.now }
-    ensures { result ≡ row_count 0 (rows_in (record_in view areas.entry.arena.now areas.entry.starts.now areas.entry.lengths.now) index.entry.packed index.entry.buckets index.entry.words.now areas.entry.arena.now) }
+fn count_rows(records: SetRecords<'_>) -> Result<usize, SegmentCacheBuildError>
+    requires { 8 * records.index.buckets ≤ length records.index.words.now }
+    ensures { result ≡ row_count 0 (rows_in (record_in records.entry.view records.entry.areas.arena.now records.entry.areas.starts.now records.entry.areas.lengths.now) records.entry.index.packed records.entry.index.buckets records.entry.index.words.now records.entry.areas.arena.now) }
 {
     let mut rows = 0;
-    for slot in 0..index.buckets * BUCKET_SLOTS {
-        let Some(entry) = entry_at(view, index, slot, areas) else {
+    for slot in 0..records.index.buckets * BUCKET_SLOTS {
+        let Some(entry) = records.entry_at(slot) else {
             continue;
         };
-        if !entry_fits(areas.arena, entry) {
+        if !entry_fits(records.areas.arena, entry) {
             return Err(SegmentCacheBuildError::FieldTooLong);
         }
         rows += 1;
@@ -90,41 +85,30 @@ fn entry_fits(arena: &[u8], entry: RecordRef) -> bool
 }
 
 // The second pass: a line to each row, and blank lines to the end of the last page.
-fn write_sheet(
-    view: SegmentView,
-    index: FinishedIndex<'_>,
-    areas: SegmentAreas<'_>,
-    pages: usize,
-    page: &mut [u8],
-)
-    requires buckets_in_bounds { (8 * index.buckets ≤ length index.words.now) × (8 * index.buckets ≤ 100000000) }
-    requires arena_value { rows_fit (rows_in (record_in view areas.arena.now areas.starts.now areas.lengths.now) index.packed index.buckets index.words.now areas.arena.now) ≡ true }
-    requires pages_value { (pages ≡ pages_for (length (rows_in (record_in view areas.arena.now areas.starts.now areas.lengths.now) index.packed index.buckets index.words.now areas.arena.now))) × (3250 * pages ≤ length page.old) }
-    ensures { page.new ≡ over (sheet (rows_in (record_in view areas.entry.arena.now areas.entry.starts.now areas.entry.lengths.now) index.entry.packed index.entry.buckets index.entry.words.now areas.entry.arena.now)) page.old }
+fn write_sheet(records: SetRecords<'_>, pages: usize, page: &mut [u8])
+    requires buckets_in_bounds { (8 * records.index.buckets ≤ length records.index.words.now) × (8 * records.index.buckets ≤ 100000000) }
+    requires arena_value { rows_fit (rows_in (record_in records.view records.areas.arena.now records.areas.starts.now records.areas.lengths.now) records.index.packed records.index.buckets records.index.words.now records.areas.arena.now) ≡ true }
+    requires pages_value { (pages ≡ pages_for (length (rows_in (record_in records.view records.areas.arena.now records.areas.starts.now records.areas.lengths.now) records.index.packed records.index.buckets records.index.words.now records.areas.arena.now))) × (3250 * pages ≤ length page.old) }
+    ensures { page.new ≡ over (sheet (rows_in (record_in records.entry.view records.entry.areas.arena.now records.entry.areas.starts.now records.entry.areas.lengths.now) records.entry.index.packed records.entry.index.buckets records.entry.index.words.now records.entry.areas.arena.now)) page.old }
 {
-    let rows = write_rows(view, index, areas, page);
+    let rows = write_rows(records, page);
     let at = rows * LINE_BYTES;
     put_blanks(&mut page[at..], pages * PAGE_LINES - rows);
 }
 
-fn write_rows(
-    view: SegmentView,
-    index: FinishedIndex<'_>,
-    areas: SegmentAreas<'_>,
-    page: &mut [u8],
-) -> usize
-    requires buckets_in_bounds { (8 * index.buckets ≤ length index.words.now) × (8 * index.buckets ≤ 100000000) }
-    requires arena_value { rows_fit (rows_in (record_in view areas.arena.now areas.starts.now areas.lengths.now) index.packed index.buckets index.words.now areas.arena.now) ≡ true }
-    requires arena_in_bounds { 65 * length (rows_in (record_in view areas.arena.now areas.starts.now areas.lengths.now) index.packed index.buckets index.words.now areas.arena.now) ≤ length page.old }
-    ensures value { let rows = rows_in (record_in view areas.entry.arena.now areas.entry.starts.now areas.entry.lengths.now) index.entry.packed index.entry.buckets index.entry.words.now areas.entry.arena.now in (result ≡ length rows) × (65 * result ≡ length (lines (length rows) rows)) }
-    ensures page_after { let rows = rows_in (record_in view areas.entry.arena.now areas.entry.starts.now areas.entry.lengths.now) index.entry.packed index.entry.buckets index.entry.words.now areas.entry.arena.now in page.new ≡ over (lines (length rows) rows) page.old }
+fn write_rows(records: SetRecords<'_>, page: &mut [u8]) -> usize
+    requires buckets_in_bounds { (8 * records.index.buckets ≤ length records.index.words.now) × (8 * records.index.buckets ≤ 100000000) }
+    requires arena_value { rows_fit (rows_in (record_in records.view records.areas.arena.now records.areas.starts.now records.areas.lengths.now) records.index.packed records.index.buckets records.index.words.now records.areas.arena.now) ≡ true }
+    requires arena_in_bounds { 65 * length (rows_in (record_in records.view records.areas.arena.now records.areas.starts.now records.areas.lengths.now) records.index.packed records.index.buckets records.index.words.now records.areas.arena.now) ≤ length page.old }
+    ensures value { let rows = rows_in (record_in records.entry.view records.entry.areas.arena.now records.entry.areas.starts.now records.entry.areas.lengths.now) records.entry.index.packed records.entry.index.buckets records.entry.index.words.now records.entry.areas.arena.now in (result ≡ length rows) × (65 * result ≡ length (lines (length rows) rows)) }
+    ensures page_after { let rows = rows_in (record_in records.entry.view records.entry.areas.arena.now records.entry.areas.starts.now records.entry.areas.lengths.now) records.entry.index.packed records.entry.index.buckets records.entry.index.words.now records.entry.areas.arena.now in page.new ≡ over (lines (length rows) rows) page.old }
 {
     let mut rows = 0;
-    for slot in 0..index.buckets * BUCKET_SLOTS {
-        let Some(entry) = entry_at(view, index, slot, areas) else {
+    for slot in 0..records.index.buckets * BUCKET_SLOTS {
+        let Some(entry) = records.entry_at(slot) else {
             continue;
         };
-        rows = put_entry(page, rows, slot, entry, areas.arena);
+        rows = put_entry(page, rows, slot, entry, records.areas.arena);
     }
     rows
 }

@@ -5,7 +5,7 @@ ghost use Rattle.sets.specs.Answers.{probe_reply, stats_reply, walk_reply};
 ghost use Rattle.sets.specs.Questions.{check_number, first_no};
 ghost use Rattle.sets.specs.Lookup.{areas_hold_lookup, areas_hold_set, after_get, after_peek, ask_lookup, find_of, get_result, probe_answer, set_fits, stats_answer, after_take, take_result, view_of, walk_answer};
 
-use crate::lookup::{base_record, live_value, mark_live, next_entry};
+use crate::lookup::{SetRecords, base_record, live_value, mark_live};
 use crate::marks::clear_accessed;
 use crate::questions::{arena_holds, bytes_fit, counts_fit, segment_areas_hold};
 use crate::stats::SegmentCacheStats;
@@ -149,7 +149,7 @@ impl FrozenSegmentCache {
         ) {
             return Err(SegmentCacheBuildError::InvalidState);
         }
-        let found = next_entry(self.view(), self.finished_index(index), from, areas);
+        let found = self.records(index, areas).next_entry(from);
         Ok(found.map(|found| base_record(self.config, found, now_tick)))
     }
 
@@ -191,8 +191,21 @@ impl FrozenSegmentCache {
         find_record(self.view(), index, filter, areas, key, hash)
     }
 
+    // Its records, of the areas that are lent.
+    pub fn records<'a>(self, index: &'a [u64], areas: SegmentAreas<'a>) -> SetRecords<'a>
+        ensures view { result.view ≡ view_of self }
+        ensures index { (result.index.words.now ≡ index.now) × (result.index.packed ≡ self.config.packed_bucket_index) × (result.index.buckets ≡ self.buckets) }
+        ensures areas { (result.areas.starts.now ≡ areas.entry.starts.now) × (result.areas.lengths.now ≡ areas.entry.lengths.now) × (result.areas.arena.now ≡ areas.entry.arena.now) }
+    {
+        SetRecords {
+            view: self.view(),
+            index: self.finished_index(index),
+            areas,
+        }
+    }
+
     // Its index, whose words are lent.
-    pub fn finished_index(self, words: &[u64]) -> FinishedIndex<'_>
+    fn finished_index(self, words: &[u64]) -> FinishedIndex<'_>
         ensures { (result.words.now ≡ words.now) × (result.packed ≡ self.config.packed_bucket_index) × (result.buckets ≡ self.buckets) }
     {
         FinishedIndex {

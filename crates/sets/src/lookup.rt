@@ -57,35 +57,35 @@ pub(crate) fn base_record(
     }
 }
 
-// The first record from a slot on, with its deadline as it is stored.
-#[tactic(auto, using(crate::proofs::WalkSteps::entry_hit, crate::proofs::WalkSteps::entry_miss, crate::proofs::WalkSteps::entry_none), unfolding(crate::specs::Lookup::next_entry))]
-pub(crate) fn next_entry(
-    view: SegmentView,
-    index: FinishedIndex<'_>,
-    from: usize,
-    areas: SegmentAreas<'_>,
-) -> Option<FoundRecord>
-    requires { 8 * index.buckets ≤ length index.words.now }
-    ensures { result ≡ next_entry (record_in view areas.entry.arena.now areas.entry.starts.now areas.entry.lengths.now) index.entry.packed index.entry.buckets index.entry.words.now from }
-{
-    for slot in from..index.buckets * BUCKET_SLOTS {
-        if let Some(entry) = entry_at(view, index, slot, areas) {
-            return Some(FoundRecord { slot, entry });
-        }
-    }
-    None
+// The records of a finished set, as the slots of its index name them.
+#[derive(Clone, Copy)]
+pub struct SetRecords<'a> {
+    pub view: SegmentView,
+    pub index: FinishedIndex<'a>,
+    pub areas: SegmentAreas<'a>,
 }
 
-// The record that a slot names.
-#[tactic(auto, unfolding(crate::specs::Lookup::entry_at))]
-pub fn entry_at(
-    view: SegmentView,
-    index: FinishedIndex<'_>,
-    slot: usize,
-    areas: SegmentAreas<'_>,
-) -> Option<RecordRef>
-    ensures { result ≡ entry_at (record_in view areas.entry.arena.now areas.entry.starts.now areas.entry.lengths.now) index.entry.packed index.entry.buckets index.entry.words.now slot }
-{
-    let (_, stored) = index.slot_at(slot)?;
-    view.record_at_location(areas, stored)
+impl SetRecords<'_> {
+    // The first record from a slot on, with its deadline as it is stored.
+    #[tactic(auto, using(crate::proofs::WalkSteps::entry_hit, crate::proofs::WalkSteps::entry_miss, crate::proofs::WalkSteps::entry_none), unfolding(crate::specs::Lookup::next_entry))]
+    pub(crate) fn next_entry(self, from: usize) -> Option<FoundRecord>
+        requires { 8 * self.index.buckets ≤ length self.index.words.now }
+        ensures { result ≡ next_entry (record_in self.entry.view self.entry.areas.arena.now self.entry.areas.starts.now self.entry.areas.lengths.now) self.entry.index.packed self.entry.index.buckets self.entry.index.words.now from }
+    {
+        for slot in from..self.index.buckets * BUCKET_SLOTS {
+            if let Some(entry) = self.entry_at(slot) {
+                return Some(FoundRecord { slot, entry });
+            }
+        }
+        None
+    }
+
+    // The record that a slot names.
+    #[tactic(auto, unfolding(crate::specs::Lookup::entry_at))]
+    pub fn entry_at(self, slot: usize) -> Option<RecordRef>
+        ensures { result ≡ entry_at (record_in self.entry.view self.entry.areas.arena.now self.entry.areas.starts.now self.entry.areas.lengths.now) self.entry.index.packed self.entry.index.buckets self.entry.index.words.now slot }
+    {
+        let (_, stored) = self.index.slot_at(slot)?;
+        self.view.record_at_location(self.areas, stored)
+    }
 }

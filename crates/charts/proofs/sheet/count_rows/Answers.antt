@@ -17,26 +17,26 @@ use Rattle.charts.proofs.sheet.count_rows.Goals.{At-loop-slot}
 abbrev reads : (l : At-loop-slot) → ℕ → Option RecordRef
 reads l =
     let a = l.args in
-    entry_at (record_in a.view a.areas.arena.now a.areas.starts.now a.areas.lengths.now) a.index.packed a.index.buckets a.index.words.now
+    entry_at (record_in a.records.view a.records.areas.arena.now a.records.areas.starts.now a.records.areas.lengths.now) a.records.index.packed a.records.index.buckets a.records.index.words.now
 
 abbrev rest : (l : At-loop-slot) → ℕ → List Row
-rest l = let a = l.args in rows_from (reads l) a.areas.arena.now (8 * a.index.buckets)
+rest l = let a = l.args in rows_from (reads l) a.records.areas.arena.now (8 * a.records.index.buckets)
 
 -- of a slot whose record was read
-hit : (l : At-loop-slot) (r : RecordRef) → l.loop-slot.slot < l.args.index.buckets * 8 → Some r ≡ reads l l.loop-slot.slot
-    → rest l l.loop-slot.slot ≡ row_of l.args.areas.arena.now (record { slot = l.loop-slot.slot; entry = r }) ∷ rest l (l.loop-slot.slot + 1)
-hit l r below e = rows_hit (reads l) l.args.areas.arena.now (8 * l.args.index.buckets) l.loop-slot.slot r (omega arith) (sym e)
+hit : (l : At-loop-slot) (r : RecordRef) → l.loop-slot.slot < l.args.records.index.buckets * 8 → Some r ≡ reads l l.loop-slot.slot
+    → rest l l.loop-slot.slot ≡ row_of l.args.records.areas.arena.now (record { slot = l.loop-slot.slot; entry = r }) ∷ rest l (l.loop-slot.slot + 1)
+hit l r below e = rows_hit (reads l) l.args.records.areas.arena.now (8 * l.args.records.index.buckets) l.loop-slot.slot r (omega arith) (sym e)
 
 pub loop-slot-init : goal.loop-slot-init
 loop-slot-init c = let a = c.args in
-    (ap (row_count 0) (rows_all (record_in a.view a.areas.arena.now a.areas.starts.now a.areas.lengths.now) a.index.packed a.index.buckets a.index.words.now a.areas.arena.now), omega arith)
+    (ap (row_count 0) (rows_all (record_in a.records.view a.records.areas.arena.now a.records.areas.starts.now a.records.areas.lengths.now) a.records.index.packed a.records.index.buckets a.records.index.words.now a.records.areas.arena.now), omega arith)
 
 pub loop-slot-preserved-in_default : goal.loop-slot-preserved-in_default
 loop-slot-preserved-in_default c =
     let at = goal.at.loop-slot-preserved-in_default c in
     let a = c.args in
-    let below : c.loop-slot.slot < 8 * a.index.buckets = omega arith in
-    let missed = rows_miss (reads at.At-loop-slot) a.areas.arena.now (8 * a.index.buckets) c.loop-slot.slot below (sym c.entry_at.ensures ∙ c.in_default.is) in
+    let below : c.loop-slot.slot < 8 * a.records.index.buckets = omega arith in
+    let missed = rows_miss (reads at.At-loop-slot) a.records.areas.arena.now (8 * a.records.index.buckets) c.loop-slot.slot below (sym c.entry_at.ensures ∙ c.in_default.is) in
     (ap (row_count c.loop-slot.rows) (sym missed) ∙ c.loop-slot.invariant.0, omega (arith, c.loop-slot.invariant.1))
 
 pub returns-then-not-entry_fits : goal.returns-then-not-entry_fits
@@ -59,5 +59,5 @@ overflow_add-rows c = omega (arith, c.loop-slot.invariant.1)
 pub returns : goal.returns
 returns c =
     let at = goal.at.returns c in
-    let none : rest at.At-loop-slot c.loop-slot.slot ≡ [] = rows_none (reads at.At-loop-slot) c.args.areas.arena.now (8 * c.args.index.buckets) c.loop-slot.slot (omega arith) in
+    let none : rest at.At-loop-slot c.loop-slot.slot ≡ [] = rows_none (reads at.At-loop-slot) c.args.records.areas.arena.now (8 * c.args.records.index.buckets) c.loop-slot.slot (omega arith) in
     sym (count_none c.loop-slot.rows) ∙ ap (row_count c.loop-slot.rows) (sym none) ∙ c.loop-slot.invariant.0

@@ -10,7 +10,7 @@ use Rattle.charts.proofs.sheet.count_rows.Given as goal
 abbrev pub invariant-loop-slot : goal.invariant-loop-slot
 invariant-loop-slot l =
     (row_count l.rows
-    (rows_from (entry_at (record_in l.view l.areas.arena.now l.areas.starts.now l.areas.lengths.now) l.index.packed l.index.buckets l.index.words.now) l.areas.arena.now
-    (8 * l.index.buckets) l.slot)
-    ≡ row_count 0 (rows_in (record_in l.view l.areas.arena.now l.areas.starts.now l.areas.lengths.now) l.index.packed l.index.buckets l.index.words.now l.areas.arena.now))
+    (rows_from (entry_at (record_in l.records.view l.records.areas.arena.now l.records.areas.starts.now l.records.areas.lengths.now) l.records.index.packed l.records.index.buckets l.records.index.words.now) l.records.areas.arena.now
+    (8 * l.records.index.buckets) l.slot)
+    ≡ row_count 0 (rows_in (record_in l.records.view l.records.areas.arena.now l.records.areas.starts.now l.records.areas.lengths.now) l.records.index.packed l.records.index.buckets l.records.index.words.now l.records.areas.arena.now))
     × (l.rows ≤ l.slot)

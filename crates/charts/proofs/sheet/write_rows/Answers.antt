@@ -21,35 +21,35 @@ use Rattle.charts.proofs.sheet.write_rows.Goals.{At-loop-slot}
 abbrev reads : (l : At-loop-slot) → ℕ → Option RecordRef
 reads l =
     let a = l.args in
-    entry_at (record_in a.view a.areas.arena.now a.areas.starts.now a.areas.lengths.now) a.index.packed a.index.buckets a.index.words.now
+    entry_at (record_in a.records.view a.records.areas.arena.now a.records.areas.starts.now a.records.areas.lengths.now) a.records.index.packed a.records.index.buckets a.records.index.words.now
 
 abbrev rest : (l : At-loop-slot) → ℕ → List Row
-rest l = let a = l.args in rows_from (reads l) a.areas.arena.now (8 * a.index.buckets)
+rest l = let a = l.args in rows_from (reads l) a.records.areas.arena.now (8 * a.records.index.buckets)
 
 -- the row of a slot that was read
 abbrev shown : (l : At-loop-slot) → RecordRef → Row
-shown l r = row_of l.args.areas.arena.now (record { slot = l.loop-slot.slot; entry = r })
+shown l r = row_of l.args.records.areas.arena.now (record { slot = l.loop-slot.slot; entry = r })
 
 -- what is printed before it
-standing : (l : At-loop-slot) (r : RecordRef) → l.loop-slot.slot < l.args.index.buckets * 8 → Some r ≡ reads l l.loop-slot.slot
+standing : (l : At-loop-slot) (r : RecordRef) → l.loop-slot.slot < l.args.records.index.buckets * 8 → Some r ≡ reads l l.loop-slot.slot
     → let a = l.args in
-    Printing (rows_in (record_in a.view a.areas.arena.now a.areas.starts.now a.areas.lengths.now) a.index.packed a.index.buckets a.index.words.now a.areas.arena.now)
+    Printing (rows_in (record_in a.records.view a.records.areas.arena.now a.records.areas.starts.now a.records.areas.lengths.now) a.records.index.packed a.records.index.buckets a.records.index.words.now a.records.areas.arena.now)
     (shown l r ∷ rest l (l.loop-slot.slot + 1)) a.page.now l.loop-slot.page l.loop-slot.rows
 standing l r below e =
-    rw (rows_hit (reads l) l.args.areas.arena.now (8 * l.args.index.buckets) l.loop-slot.slot r (omega arith) (sym e)) at l.loop-slot.invariant
+    rw (rows_hit (reads l) l.args.records.areas.arena.now (8 * l.args.records.index.buckets) l.loop-slot.slot r (omega arith) (sym e)) at l.loop-slot.invariant
 
 pub loop-slot-init : goal.loop-slot-init
 loop-slot-init c =
     let a = c.args in
-    rw (rows_all (record_in a.view a.areas.arena.now a.areas.starts.now a.areas.lengths.now) a.index.packed a.index.buckets a.index.words.now a.areas.arena.now)
+    rw (rows_all (record_in a.records.view a.records.areas.arena.now a.records.areas.starts.now a.records.areas.lengths.now) a.records.index.packed a.records.index.buckets a.records.index.words.now a.records.areas.arena.now)
     (print_start _ c.args.page.now c.requires.arena_value c.requires.arena_in_bounds)
 
 pub loop-slot-preserved-in_default : goal.loop-slot-preserved-in_default
 loop-slot-preserved-in_default c =
     let known = goal.at.loop-slot-preserved-in_default c in
     let a = c.args in
-    let below : c.loop-slot.slot < 8 * a.index.buckets = omega arith in
-    rw (rows_miss (reads known.At-loop-slot) a.areas.arena.now (8 * a.index.buckets) c.loop-slot.slot below (sym c.entry_at.ensures ∙ c.in_default.is)) at c.loop-slot.invariant
+    let below : c.loop-slot.slot < 8 * a.records.index.buckets = omega arith in
+    rw (rows_miss (reads known.At-loop-slot) a.records.areas.arena.now (8 * a.records.index.buckets) c.loop-slot.slot below (sym c.entry_at.ensures ∙ c.in_default.is)) at c.loop-slot.invariant
 
 pub put_entry-rows-requires : goal.put_entry-rows-requires
 put_entry-rows-requires c =
@@ -72,6 +72,6 @@ loop-slot-preserved c =
 pub returns : goal.returns
 returns c =
     let known = goal.at.returns c in
-    let none : rest known.At-loop-slot c.loop-slot.slot ≡ [] = rows_none (reads known.At-loop-slot) c.args.areas.arena.now (8 * c.args.index.buckets) c.loop-slot.slot (omega arith) in
+    let none : rest known.At-loop-slot c.loop-slot.slot ≡ [] = rows_none (reads known.At-loop-slot) c.args.records.areas.arena.now (8 * c.args.records.index.buckets) c.loop-slot.slot (omega arith) in
     let p = printed (rw none at c.loop-slot.invariant) in
     record { value = p.0; page_after = p.1 }

@@ -11,7 +11,7 @@ use Rattle.charts.proofs.sheet.write_sheet.Goals.{Start}
 abbrev rows : (s : Start) → List Row
 rows s =
     let a = s.args in
-    rows_in (record_in a.view a.areas.arena.now a.areas.starts.now a.areas.lengths.now) a.index.packed a.index.buckets a.index.words.now a.areas.arena.now
+    rows_in (record_in a.records.view a.records.areas.arena.now a.records.areas.starts.now a.records.areas.lengths.now) a.records.index.packed a.records.index.buckets a.records.index.words.now a.records.areas.arena.now
 
 pub write_rows-rows-requires : goal.write_rows-rows-requires
 write_rows-rows-requires c =
