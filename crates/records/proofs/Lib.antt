@@ -1,5 +1,4 @@
 pub mod Area
-pub mod Chunks
 pub mod Parts
 pub mod Prefix
 pub mod Steps
