@@ -219,8 +219,7 @@ fn segments_inside(count: usize, filled: usize, starts: &[u64], lengths: &[u64])
     ensures { result ≡ segments_inside count filled starts.now lengths.now }
 {
     let end = filled as u64;
-    let mut segments = starts[..count].iter().zip(&lengths[..count]);
-    segments.all(|(&start, &length)| length <= end && start <= end - length)
+    (0..count).all(|i| lengths[i] <= end && starts[i] <= end - lengths[i])
 }
 
 // Whether the arena holds the source's bytes and the copied ones after them.
