@@ -2,8 +2,9 @@
 use Rattle.std.proofs.Common.{◌≡◌, ℕ, zero, suc, ◌+◌, ◌-◌, ◌*◌, ◌%◌, ◌^◌, ◌<◌, ◌≤◌, Bool, true, false, cond, eqb, leb, List, [], ◌∷◌, ◌++◌, length, get_or, drop, take, set, subst, sym, replicate, refl, ap, ap₂, ◌∙◌, append_assoc, arith, length-append, take_all, eqb-true, le-leb, leb-true}
 use lib.ListN.{length-replicate}
 use Rattle.std.specs.Bool.{MatchBool}
-use Rattle.std.specs.List.{AllWithin, HoldsAt}
-use Rattle.std.proofs.lemmas.List.{get_or-take, length-take-le}
+use Rattle.std.specs.List.{AllWithin, HoldsAt, zip}
+use Rattle.std.proofs.lemmas.List.{get_or-take, length-take, length-take-le}
+use Rattle.std.proofs.lemmas.Slice.Zip.{get_or-zip, length-zip}
 use Rattle.hash_parts.specs.Hash.{tag_of}
 use Rattle.records.specs.Area.{over, pasted}
 use Rattle.records.specs.Record.{record_bytes}
@@ -21,30 +22,33 @@ use Rattle.sets.specs.declared.rebuild.SegmentRecordLocation.{SegmentRecordLocat
 use Rattle.sets.specs.declared.rebuild.SharedSegmentCacheBuild.{SharedSegmentCacheBuild}
 use Rattle.sets.specs.declared.rebuild.SharedSegmentCacheBuilder.{SharedSegmentCacheBuilder}
 use Rattle.sets.proofs.Counts.{both}
-use Rattle.std.proofs.lemmas.List.FromFn.{get_or-range_with_len, length-range_with_len}
-use Rattle.std.specs.List.{range_with_len}
 use Rattle.sets.proofs.RebuildAsked.{segments_each, segments_pass}
 
 -- ---- segments
 
-module _ (count filled : ℕ) (starts lengths : List ℕ) where
-  numbers_length : length (range_with_len 0 count) ≡ count
-  numbers_length = length-range_with_len 0 count
+module _ (count filled : ℕ) (starts lengths : List ℕ) (some : count ≤ length starts) (others : count ≤ length lengths) where
+  -- the first so many segments, each with its start and its length
+  abbrev pub pairs : List (ℕ × ℕ)
+  pairs = zip (take count starts) (take count lengths)
 
-  number_at : (g : ℕ) → g < count → get_or (range_with_len 0 count) g 0 ≡ g
-  number_at g h = get_or-range_with_len 0 count g 0 h ∙ omega arith
+  pairs_length : length pairs ≡ count
+  pairs_length = length-zip (take count starts) (take count lengths) ∙ omega (arith, length-take count starts, length-take count lengths)
+
+  pair_at : (g : ℕ) → g < count → get_or pairs g (0, 0) ≡ (get_or starts g 0, get_or lengths g 0)
+  pair_at g h =
+      get_or-zip (take count starts) (take count lengths) g (0, 0) (omega (arith, length-take count starts)) (omega (arith, length-take count lengths))
+      ∙ rw (get_or-take count starts g 0 h, get_or-take count lengths g 0 h)
 
   -- whether each lies inside, as a test of one after the other tells
-  pub each_inside : (r : Bool)
-      → MatchBool r (AllWithin (λ g. get_or starts g 0 + get_or lengths g 0 ≤ filled) (range_with_len 0 count) 0 (length (range_with_len 0 count)))
-      ((k : ℕ) × (k < length (range_with_len 0 count)) × HoldsAt (λ g. filled < get_or starts g 0 + get_or lengths g 0) (range_with_len 0 count) k)
+  pub pairs_inside : (r : Bool)
+      → MatchBool r (AllWithin (λ p. p.0 + p.1 ≤ filled) pairs 0 (length pairs)) ((k : ℕ) × (k < length pairs) × HoldsAt (λ p. filled < p.0 + p.1) pairs k)
       → r ≡ segments_inside count filled starts lengths
-  each_inside true each =
+  pairs_inside true each =
       sym (segments_pass filled starts lengths count
-      (λ g h. subst (λ (g : ℕ). get_or starts g 0 + get_or lengths g 0 ≤ filled) (number_at g h) (each g 0 (omega arith) (omega (arith, h, numbers_length)))))
-  each_inside false (k, h, out) =
-      let inside : k < count = omega (arith, h, numbers_length) in
-      sym (segments_not k inside (subst (λ (g : ℕ). filled < get_or starts g 0 + get_or lengths g 0) (number_at k inside) (out 0)))
+      (λ g h. subst (λ (p : ℕ × ℕ). p.0 + p.1 ≤ filled) (pair_at g h) (each g (0, 0) (omega arith) (omega (arith, h, pairs_length)))))
+  pairs_inside false (k, h, out) =
+      let inside : k < count = omega (arith, h, pairs_length) in
+      sym (segments_not k inside (subst (λ (p : ℕ × ℕ). filled < p.0 + p.1) (pair_at k inside) (out (0, 0))))
     where
       segments_not : (i : ℕ) → i < count → filled < get_or starts i 0 + get_or lengths i 0 → segments_inside count filled starts lengths ≡ false
       segments_not i h out = go (segments_inside count filled starts lengths) refl

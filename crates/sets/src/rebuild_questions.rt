@@ -219,7 +219,8 @@ fn segments_inside(count: usize, filled: usize, starts: &[u64], lengths: &[u64])
     ensures { result ≡ segments_inside count filled starts.now lengths.now }
 {
     let end = filled as u64;
-    (0..count).all(|i| lengths[i] <= end && starts[i] <= end - lengths[i])
+    let mut segments = starts[..count].iter().zip(&lengths[..count]);
+    segments.all(|(&start, &length)| length <= end && start <= end - length)
 }
 
 // Whether the arena holds the source's bytes and the copied ones after them.
