@@ -1,6 +1,6 @@
 // Rebuilding a set: a new index over segments that are kept where they are and records copied behind
 // them. All areas are lent to each call, one by one where it writes to some of them.
-ghost use Rattle.std.specs.Prelude.{◌≡◌, ◌+◌, ◌*◌, ◌^◌, ◌<◌, ◌≤◌, true, length, set, slice_set};
+ghost use Rattle.std.specs.Prelude.{◌≡◌, ◌+◌, ◌*◌, ◌<◌, ◌≤◌, true, length, slice_set};
 ghost use Rattle.hash_parts.specs.Hash.{tag_of};
 ghost use Rattle.records.specs.Area.{over};
 ghost use Rattle.index.specs.Filter.{displaced_marked};
