@@ -213,12 +213,6 @@ module _ (flags : List ℕ) (from left word : ℕ) (made : word ≡ flag_word (p
       ∙ flag_step flags (from + (left - 1)) (64 - left)
       ∙ ap (λ (x : ℕ). flag_word (part (from + (left - 1)) x flags)) n
 
-  pub word_whole : left ≤ 0 → word ≡ flag_word (part from 64 flags)
-  word_whole h =
-      let a : from + left ≡ from = omega arith in
-      let n : 64 - left ≡ 64 = omega arith in
-      made ∙ ap₂ (λ (x y : ℕ). flag_word (part x y flags)) a n
-
 -- ---- a state
 
 module _ (k : KeptSegments) where

@@ -25,7 +25,7 @@ use Rattle.sets.proofs.Counts.{both}
 use Rattle.sets.proofs.KeptBits.{chosen_length, retained_256, retained_kept}
 use Rattle.sets.proofs.ReadInside.{reused_record}
 use Rattle.sets.proofs.RebuildAccepted.{ReopenCase, reopen_made_law, reopen_refused, reopen_case, ReusedCase, reused_made_law, reused_refused, reused_case, CopiedCase, copied_made_law, copied_refused, copied_case, RefinishCase, refinish_made, refinish_refused, refinish_case}
-use Rattle.sets.proofs.RebuildAsked.{EachInside, AreasHoldRebuild, ReopenAsked, rebuild_areas_asked, rebuild_areas_pass, segments_pass}
+use Rattle.sets.proofs.RebuildAsked.{EachInside, AreasHoldRebuild, ReopenAsked, rebuild_areas_pass, segments_pass}
 
 -- ---- question 1 with every area: index, filter and arena by their lengths
 
@@ -42,9 +42,6 @@ module _ (r : SharedSegmentCacheBuilder) (index filter : ℕ) (starts lengths : 
     passed : (areas_hold_rebuild r index starts lengths arena ≡ true) × (leb r.filter_words filter ≡ true)
     unfolding rebuild_passes
     passed = both (areas_hold_rebuild r index starts lengths arena) _ e
-
-    pub rebuild_areas : AreasHoldRebuild r index starts lengths arena
-    rebuild_areas = rebuild_areas_asked r index starts lengths arena passed.0
 
     pub rebuild_filter_holds : r.filter_words ≤ filter
     rebuild_filter_holds = leb-true _ _ passed.1

@@ -1,7 +1,6 @@
 // How large the areas must be that are lent for so many records, and sums of their words.
-ghost use Rattle.std.specs.Prelude.{◌≡◌, ◌%◌, ◌^◌, ◌≤◌, length, if◌then◌else◌};
-ghost use Rattle.sets.specs.Questions.{most_records};
-ghost use Rattle.sets.specs.Areas.{area_words_for, area_words_reply, words_needed};
+ghost use Rattle.std.specs.Prelude.{◌≡◌, ◌%◌, ◌^◌, length};
+ghost use Rattle.sets.specs.Areas.{area_words_for, area_words_reply};
 ghost use Rattle.sets.specs.Rebuild.{sum_of};
 
 use crate::questions::{check_counts, filter_words_for};
@@ -23,7 +22,7 @@ pub struct AreaWords {
 }
 
 // The least lengths that open, finish and the rebuild calls take. An area may be longer.
-#[tactic(auto, using(crate::proofs::Decides::decided_refused), unfolding(crate::specs::Areas::area_words_for, crate::specs::Questions::ask_counts, crate::specs::Questions::occupancy_fits))]
+#[tactic(auto, using(crate::proofs::Decides::decided_refused, index::proofs::Buckets::buckets_few), unfolding(crate::specs::Areas::area_words_for, crate::specs::Questions::ask_counts, crate::specs::Questions::occupancy_fits))]
 pub fn area_words(
     config: SegmentCacheConfig,
     entry_count: usize,
@@ -31,28 +30,19 @@ pub fn area_words(
     ensures { area_words_reply result ≡ area_words_for config entry_count }
 {
     check_counts(config, entry_count)?;
-    Ok(words_needed(config, entry_count))
-}
-
-#[tactic(auto, using(index::proofs::Buckets::buckets_few))]
-fn words_needed(config: SegmentCacheConfig, entry_count: usize) -> AreaWords
-    requires { (entry_count ≤ most_records) × (config.target_occupied_slots ≤ 7) }
-    ensures { result ≡ words_needed config entry_count }
-{
     let buckets = bucket_count(entry_count, config.target_occupied_slots);
-    AreaWords {
+    let scratch = if config.packed_bucket_index {
+        buckets
+    } else {
+        0
+    };
+    Ok(AreaWords {
         index: buckets * BUCKET_SLOTS,
         filter: filter_words_for(entry_count, config.negative_filter_bits_per_entry),
         starts: MAX_RECORD_SEGMENTS,
         lengths: MAX_RECORD_SEGMENTS,
-        scratch: scratch_words(config.packed_bucket_index, buckets),
-    }
-}
-
-fn scratch_words(packed: bool, buckets: usize) -> usize
-    ensures { result ≡ (if packed then buckets else 0) }
-{
-    if packed { buckets } else { 0 }
+        scratch,
+    })
 }
 
 // The sum of an area's words. They are free numbers: it wraps at 64 bits.

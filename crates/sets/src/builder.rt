@@ -1,11 +1,10 @@
 // Building a set: opened for an announced number of records, filled by pushes, finished once. Index,
 // filter, segment areas and arena are lent to each call, one by one where it writes to some of them.
-ghost use Rattle.std.specs.Prelude.{◌≡◌, ◌+◌, ◌*◌, ◌^◌, ◌<◌, ◌≤◌, true, length, if◌then◌else◌};
+ghost use Rattle.std.specs.Prelude.{◌≡◌, ◌+◌, ◌*◌, ◌<◌, ◌≤◌, true, length, if◌then◌else◌};
 ghost use Rattle.index.specs.Packed.{packed_index, packed_scratch};
 ghost use Rattle.records.specs.Record.{encoded_size};
 ghost use Rattle.hash_parts.specs.Outcome.{outcome_of};
-ghost use Rattle.sets.specs.Questions.{most_arena_bytes, most_records};
-ghost use Rattle.sets.specs.Build.{after_finish, after_open, after_push, areas_hold_builder, builder_opened, finish_result, open_result, push_end, push_made, push_result, set_of};
+ghost use Rattle.sets.specs.Build.{after_finish, after_open, after_push, areas_hold_builder, finish_result, open_result, push_end, push_made, push_result, set_of};
 
 use crate::cache::FrozenSegmentCache;
 use crate::questions::{check_open, filter_words_for};
@@ -61,7 +60,16 @@ impl SegmentCacheBuilder {
         ensures { open_result result index.new filter.new ≡ after_open config entry_count index.old filter.old areas.entry.starts.now areas.entry.lengths.now areas.entry.arena.now }
     {
         check_open(config, entry_count, index.len(), filter.len(), areas)?;
-        let builder = opened_builder(config, entry_count);
+        let builder = SegmentCacheBuilder {
+            config,
+            expected_entries: entry_count,
+            inserted_entries: 0,
+            bucket_count: bucket_count(entry_count, config.target_occupied_slots),
+            filter_words: filter_words_for(entry_count, config.negative_filter_bits_per_entry),
+            filled: 0,
+            logical_key_bytes: 0,
+            logical_value_bytes: 0,
+        };
         clear_words(index, builder.bucket_count * BUCKET_SLOTS);
         clear_words(filter, builder.filter_words);
         Ok(builder)
@@ -172,22 +180,6 @@ impl SegmentCacheBuilder {
             logical_value_bytes: self.logical_value_bytes,
             record_header_bytes: self.filled - self.logical_key_bytes - self.logical_value_bytes,
         }
-    }
-}
-
-fn opened_builder(config: SegmentCacheConfig, entry_count: usize) -> SegmentCacheBuilder
-    requires { entry_count ≤ most_records }
-    ensures { result ≡ builder_opened config entry_count }
-{
-    SegmentCacheBuilder {
-        config,
-        expected_entries: entry_count,
-        inserted_entries: 0,
-        bucket_count: bucket_count(entry_count, config.target_occupied_slots),
-        filter_words: filter_words_for(entry_count, config.negative_filter_bits_per_entry),
-        filled: 0,
-        logical_key_bytes: 0,
-        logical_value_bytes: 0,
     }
 }
 

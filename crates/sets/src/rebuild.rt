@@ -1,6 +1,6 @@
 // Rebuilding a set: a new index over segments that are kept where they are and records copied behind
 // them. All areas are lent to each call, one by one where it writes to some of them.
-ghost use Rattle.std.specs.Prelude.{◌≡◌, ◌+◌, ◌*◌, ◌^◌, ◌<◌, ◌≤◌, true, length, set, slice_set};
+ghost use Rattle.std.specs.Prelude.{◌≡◌, ◌+◌, ◌*◌, ◌<◌, ◌≤◌, true, length, slice_set};
 ghost use Rattle.hash_parts.specs.Hash.{tag_of};
 ghost use Rattle.records.specs.Area.{over};
 ghost use Rattle.index.specs.Filter.{displaced_marked};
@@ -137,6 +137,11 @@ impl SharedSegmentCacheBuilder {
     ) -> Result<PushedRecord, SegmentCacheBuildError>
         ensures { copied_result result self.new index.new filter.new arena.new ≡ after_copied self.old hash key.now value.now ttl index.old filter.old starts.now lengths.now arena.old }
     {
+        let areas = SegmentAreas {
+            starts,
+            lengths,
+            arena,
+        };
         let plan = self.plan_copied(
             hash,
             key.len(),
@@ -144,9 +149,7 @@ impl SharedSegmentCacheBuilder {
             ttl,
             index,
             filter.len(),
-            starts,
-            lengths,
-            arena.len(),
+            areas,
         )?;
         Ok(self.copied_at(plan, hash, key, value, index, filter, arena))
     }
@@ -164,7 +167,12 @@ impl SharedSegmentCacheBuilder {
     ) -> Result<SharedSegmentCacheBuild, SegmentCacheBuildError>
         ensures { rebuild_finish_result result self index.new starts.new lengths.new scratch.new ≡ after_rebuild_finish self index.old starts.old lengths.old scratch.old arena.now }
     {
-        self.check_finish(index.len(), starts, lengths, scratch.len(), arena.len())?;
+        let areas = SegmentAreas {
+            starts,
+            lengths,
+            arena,
+        };
+        self.check_finish(index.len(), areas, scratch.len())?;
         let build = self.into_build(lengths);
         self.add_segment(starts, lengths);
         pack_index(

@@ -10,21 +10,20 @@ use crate::cache::FrozenSegmentCache;
 use crate::questions::scratch_holds;
 use crate::rebuild::{SharedSegmentCacheBuild, SharedSegmentCacheBuilder};
 use hash_parts::error::SegmentCacheBuildError;
+use index::view::SegmentAreas;
 
 impl SharedSegmentCacheBuilder {
-    // The questions of finish. The areas stand one by one: those of the segments are lent to be written.
+    // The questions of finish.
     #[tactic(auto, unfolding(crate::specs::Rebuild::ask_rebuild_finish))]
     pub(crate) fn check_finish(
         self,
         index_len: usize,
-        starts: &[u64],
-        lengths: &[u64],
+        areas: SegmentAreas<'_>,
         scratch_len: usize,
-        arena_len: usize,
     ) -> Result<(), SegmentCacheBuildError>
-        ensures { check_number result ≡ first_no (ask_rebuild_finish self index_len starts.now lengths.now scratch_len arena_len) }
+        ensures { check_number result ≡ first_no (ask_rebuild_finish self index_len areas.entry.starts.now areas.entry.lengths.now scratch_len (length areas.entry.arena.now)) }
     {
-        if !self.areas_hold(index_len, starts, lengths, arena_len) {
+        if !self.areas_hold(index_len, areas) {
             return Err(SegmentCacheBuildError::InvalidState);
         }
         if self.inserted_entries != self.expected_entries {

@@ -47,29 +47,22 @@ impl SharedSegmentCacheBuilder {
             && bytes_fit(inserted, self.record_header_bytes)
     }
 
-    // Whether they fit, and index, segment areas and arena hold what they tell. The areas stand one by one: a
-    // copied push has the arena lent to be written, and finish the segment areas.
+    // Whether they fit, and index, segment areas and arena hold what they tell.
     #[tactic(auto, using(crate::proofs::RebuildAsked::rebuild_asked, crate::proofs::RebuildSteps::areas_256, crate::proofs::RebuildSteps::arena_held, crate::proofs::KeptBits::retained_256), unfolding(crate::specs::Rebuild::areas_hold_rebuild))]
-    pub(crate) fn areas_hold(
-        self,
-        index_len: usize,
-        starts: &[u64],
-        lengths: &[u64],
-        arena_len: usize,
-    ) -> bool
-        ensures { result ≡ areas_hold_rebuild self index_len starts.now lengths.now arena_len }
+    pub(crate) fn areas_hold(self, index_len: usize, areas: SegmentAreas<'_>) -> bool
+        ensures { result ≡ areas_hold_rebuild self index_len areas.entry.starts.now areas.entry.lengths.now (length areas.entry.arena.now) }
     {
         let source_filled = self.source_filled;
         let copied = self.copied_bytes;
         self.fits()
             && self.bucket_count <= index_len / BUCKET_SLOTS
-            && segment_areas_hold(starts.len(), lengths.len())
-            && arena_holds_both(source_filled, copied, arena_len)
+            && segment_areas_hold(areas.starts.len(), areas.lengths.len())
+            && arena_holds_both(source_filled, copied, areas.arena.len())
             && segments_inside(
                 self.kept.retained(),
                 source_filled + copied,
-                starts,
-                lengths,
+                areas.starts,
+                areas.lengths,
             )
     }
 
@@ -87,7 +80,7 @@ impl SharedSegmentCacheBuilder {
     ) -> Result<usize, SegmentCacheBuildError>
         ensures { slot_planned result ≡ plan_reused self hash key.now value.now source index.now filter_len areas.entry.starts.now areas.entry.lengths.now areas.entry.arena.now }
     {
-        if !self.areas_hold(index.len(), areas.starts, areas.lengths, areas.arena.len()) {
+        if !self.areas_hold(index.len(), areas) {
             return Err(SegmentCacheBuildError::InvalidState);
         }
         if filter_len < self.filter_words {
@@ -147,7 +140,7 @@ impl SharedSegmentCacheBuilder {
         segment * SEGMENT_BYTES + location % SEGMENT_BYTES
     }
 
-    // The questions of a copied push. The areas stand one by one, since the arena is lent to be written.
+    // The questions of a copied push.
     #[tactic(auto, using(crate::proofs::RebuildAsked::rebuild_areas_asked, crate::proofs::Decides::decided_refused, crate::proofs::Decides::own_refused), unfolding(crate::specs::RebuildPlans::plan_copied, crate::specs::Rebuild::ask_copied, crate::specs::RebuildPlans::plan_room, crate::specs::RebuildPlans::ask_room))]
     pub(crate) fn plan_copied(
         self,
@@ -157,13 +150,11 @@ impl SharedSegmentCacheBuilder {
         ttl: Option<Duration>,
         index: &[u64],
         filter_len: usize,
-        starts: &[u64],
-        lengths: &[u64],
-        arena_len: usize,
+        areas: SegmentAreas<'_>,
     ) -> Result<PushPlan, SegmentCacheBuildError>
-        ensures { planned result ≡ plan_copied self hash key_bytes value_bytes ttl index.now filter_len starts.now lengths.now arena_len }
+        ensures { planned result ≡ plan_copied self hash key_bytes value_bytes ttl index.now filter_len areas.entry.starts.now areas.entry.lengths.now (length areas.entry.arena.now) }
     {
-        if !self.areas_hold(index.len(), starts, lengths, arena_len) {
+        if !self.areas_hold(index.len(), areas) {
             return Err(SegmentCacheBuildError::InvalidState);
         }
         if filter_len < self.filter_words {
@@ -176,6 +167,7 @@ impl SharedSegmentCacheBuilder {
             return Err(SegmentCacheBuildError::CapacityOverflow);
         }
         let expires_at = encode_expiry_at_tick(self.config.expiry, ttl, self.source_now_tick)?;
+        let arena_len = areas.arena.len();
         self.plan_room(expires_at, hash, key_bytes, value_bytes, index, arena_len)
     }
 

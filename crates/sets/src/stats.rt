@@ -1,5 +1,5 @@
 // What a set takes up.
-ghost use Rattle.std.specs.Prelude.{◌≡◌, ◌+◌, ◌-◌, ◌*◌, ◌%◌, ◌^◌, min};
+ghost use Rattle.std.specs.Prelude.{◌≡◌, ◌+◌, ◌-◌, ◌%◌, ◌^◌};
 ghost use Rattle.sets.specs.Stats.{load_of};
 
 #[derive(Clone, Copy, Debug, PartialEq, Eq)]
