@@ -1,9 +1,8 @@
 // The chart room sheet: a set on paper, a line to each record that the walk visits.
 ghost use Rattle.std.specs.Prelude.{◌≡◌, true, ◌+◌, ◌*◌, ◌<◌, ◌≤◌, length};
 ghost use Rattle.records.specs.Area.{over, pasted};
-ghost use Rattle.index.specs.View.{record_in};
 ghost use Rattle.charts.specs.Line.{line, lines, pages_for, sheet};
-ghost use Rattle.charts.specs.Sheet.{after_sheet, pages_answer, row_count, row_fits, row_of, rows_fit, rows_in, sheet_reply, sheet_result};
+ghost use Rattle.charts.specs.Sheet.{after_sheet, chart_rows, pages_answer, row_count, row_fits, row_of, rows_fit, rows_of, sheet_reply, sheet_result};
 
 use crate::line::{LINE_BYTES, put_blanks, put_row};
 use hash_parts::error::SegmentCacheBuildError;
@@ -38,7 +37,7 @@ pub fn sheet_pages(
     if !set.areas_hold(index.len(), starts.len(), lengths.len(), arena.len()) {
         return Err(SegmentCacheBuildError::InvalidState);
     }
-    let rows = count_rows(set.view(), set.finished_index(index), areas)?;
+    let rows = Chart::of(set, index, areas).count_rows()?;
     Ok(rows.div_ceil(PAGE_LINES))
 }
 
@@ -55,30 +54,76 @@ pub fn print_sheet(
     if page.len() / PAGE_BYTES < pages {
         return Err(SegmentCacheBuildError::AreaTooShort);
     }
-    write_sheet(set.view(), set.finished_index(index), areas, pages, page);
+    Chart::of(set, index, areas).write_sheet(pages, page);
     Ok(pages)
 }
 
-// The first pass: counts the rows, and asks of each whether it fits.
-fn count_rows(
+// What a sheet is made of: the index that the walk goes through, and the records that it names.
+#[derive(Clone, Copy)]
+struct Chart<'a> {
     view: SegmentView,
-    index: FinishedIndex<'_>,
-    areas: SegmentAreas<'_>,
-) -> Result<usize, SegmentCacheBuildError>
-    requires { 8 * index.buckets ≤ length index.words.now }
-    ensures { result ≡ row_count 0 (rows_in (record_in view areas.entry.arena.now areas.entry.starts.now areas.entry.lengths.now) index.entry.packed index.entry.buckets index.entry.words.now areas.entry.arena.now) }
-{
-    let mut rows = 0;
-    for slot in 0..index.buckets * BUCKET_SLOTS {
-        let Some(entry) = entry_at(view, index, slot, areas) else {
-            continue;
-        };
-        if !entry_fits(areas.arena, entry) {
-            return Err(SegmentCacheBuildError::FieldTooLong);
+    index: FinishedIndex<'a>,
+    areas: SegmentAreas<'a>,
+}
+
+impl<'a> Chart<'a> {
+    fn of(set: FrozenSegmentCache, index: &'a [u64], areas: SegmentAreas<'a>) -> Self
+        ensures rows { chart_rows result ≡ rows_of set index.now areas.entry.starts.now areas.entry.lengths.now areas.entry.arena.now }
+        ensures index { (result.index.words.now ≡ index.now) × (result.index.buckets ≡ set.buckets) }
+    {
+        Self {
+            view: set.view(),
+            index: set.finished_index(index),
+            areas,
         }
-        rows += 1;
     }
-    Ok(rows)
+
+    // The first pass: counts the rows, and asks of each whether it fits.
+    fn count_rows(self) -> Result<usize, SegmentCacheBuildError>
+        requires { 8 * self.index.buckets ≤ length self.index.words.now }
+        ensures { result ≡ row_count 0 (chart_rows self.entry) }
+    {
+        let mut rows = 0;
+        for slot in 0..self.index.buckets * BUCKET_SLOTS {
+            let Some(entry) = entry_at(self.view, self.index, slot, self.areas) else {
+                continue;
+            };
+            if !entry_fits(self.areas.arena, entry) {
+                return Err(SegmentCacheBuildError::FieldTooLong);
+            }
+            rows += 1;
+        }
+        Ok(rows)
+    }
+
+    // The second pass: a line to each row, and blank lines to the end of the last page.
+    fn write_sheet(self, pages: usize, page: &mut [u8])
+        requires slots { (8 * self.index.buckets ≤ length self.index.words.now) × (8 * self.index.buckets ≤ 100000000) }
+        requires fit { rows_fit (chart_rows self) ≡ true }
+        requires room { (pages ≡ pages_for (length (chart_rows self))) × (3250 * pages ≤ length page.old) }
+        ensures { page.new ≡ over (sheet (chart_rows self.entry)) page.old }
+    {
+        let rows = self.write_rows(page);
+        let at = rows * LINE_BYTES;
+        put_blanks(&mut page[at..], pages * PAGE_LINES - rows);
+    }
+
+    fn write_rows(self, page: &mut [u8]) -> usize
+        requires slots { (8 * self.index.buckets ≤ length self.index.words.now) × (8 * self.index.buckets ≤ 100000000) }
+        requires fit { rows_fit (chart_rows self) ≡ true }
+        requires room { 65 * length (chart_rows self) ≤ length page.old }
+        ensures count { let rows = chart_rows self.entry in (result ≡ length rows) × (65 * result ≡ length (lines (length rows) rows)) }
+        ensures page_after { let rows = chart_rows self.entry in page.new ≡ over (lines (length rows) rows) page.old }
+    {
+        let mut rows = 0;
+        for slot in 0..self.index.buckets * BUCKET_SLOTS {
+            let Some(entry) = entry_at(self.view, self.index, slot, self.areas) else {
+                continue;
+            };
+            rows = put_entry(page, rows, slot, entry, self.areas.arena);
+        }
+        rows
+    }
 }
 
 // Whether key and value fit their columns.
@@ -87,46 +132,6 @@ fn entry_fits(arena: &[u8], entry: RecordRef) -> bool
 {
     value_slice(arena, entry.key).len() <= FIELD_BYTES
         && value_slice(arena, entry.value).len() <= FIELD_BYTES
-}
-
-// The second pass: a line to each row, and blank lines to the end of the last page.
-fn write_sheet(
-    view: SegmentView,
-    index: FinishedIndex<'_>,
-    areas: SegmentAreas<'_>,
-    pages: usize,
-    page: &mut [u8],
-)
-    requires buckets_in_bounds { (8 * index.buckets ≤ length index.words.now) × (8 * index.buckets ≤ 100000000) }
-    requires arena_value { rows_fit (rows_in (record_in view areas.arena.now areas.starts.now areas.lengths.now) index.packed index.buckets index.words.now areas.arena.now) ≡ true }
-    requires pages_value { (pages ≡ pages_for (length (rows_in (record_in view areas.arena.now areas.starts.now areas.lengths.now) index.packed index.buckets index.words.now areas.arena.now))) × (3250 * pages ≤ length page.old) }
-    ensures { page.new ≡ over (sheet (rows_in (record_in view areas.entry.arena.now areas.entry.starts.now areas.entry.lengths.now) index.entry.packed index.entry.buckets index.entry.words.now areas.entry.arena.now)) page.old }
-{
-    let rows = write_rows(view, index, areas, page);
-    let at = rows * LINE_BYTES;
-    put_blanks(&mut page[at..], pages * PAGE_LINES - rows);
-}
-
-fn write_rows(
-    view: SegmentView,
-    index: FinishedIndex<'_>,
-    areas: SegmentAreas<'_>,
-    page: &mut [u8],
-) -> usize
-    requires buckets_in_bounds { (8 * index.buckets ≤ length index.words.now) × (8 * index.buckets ≤ 100000000) }
-    requires arena_value { rows_fit (rows_in (record_in view areas.arena.now areas.starts.now areas.lengths.now) index.packed index.buckets index.words.now areas.arena.now) ≡ true }
-    requires arena_in_bounds { 65 * length (rows_in (record_in view areas.arena.now areas.starts.now areas.lengths.now) index.packed index.buckets index.words.now areas.arena.now) ≤ length page.old }
-    ensures value { let rows = rows_in (record_in view areas.entry.arena.now areas.entry.starts.now areas.entry.lengths.now) index.entry.packed index.entry.buckets index.entry.words.now areas.entry.arena.now in (result ≡ length rows) × (65 * result ≡ length (lines (length rows) rows)) }
-    ensures page_after { let rows = rows_in (record_in view areas.entry.arena.now areas.entry.starts.now areas.entry.lengths.now) index.entry.packed index.entry.buckets index.entry.words.now areas.entry.arena.now in page.new ≡ over (lines (length rows) rows) page.old }
-{
-    let mut rows = 0;
-    for slot in 0..index.buckets * BUCKET_SLOTS {
-        let Some(entry) = entry_at(view, index, slot, areas) else {
-            continue;
-        };
-        rows = put_entry(page, rows, slot, entry, areas.arena);
-    }
-    rows
 }
 
 fn put_entry(page: &mut [u8], number: usize, slot: usize, entry: RecordRef, arena: &[u8]) -> usize

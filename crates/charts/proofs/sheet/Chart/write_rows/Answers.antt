@@ -9,58 +9,58 @@ use Rattle.records.specs.declared.record.RecordRef.{RecordRef}
 use Rattle.index.specs.View.{record_in}
 use Rattle.sets.specs.Lookup.{entry_at}
 use Rattle.charts.specs.Line.{Row, line}
-use Rattle.charts.specs.Sheet.{row_of, rows_in}
+use Rattle.charts.specs.Sheet.{row_of, chart_rows}
 use Rattle.texts.proofs.Spelling.{decimal_short}
 use Rattle.charts.proofs.Columns.{deadline_short, length_line}
 use Rattle.charts.proofs.Pages.{Printing, printed, print_next, print_room, print_start}
 use Rattle.charts.proofs.Rows.{fits_parts, rows_all, rows_from, rows_hit, rows_miss, rows_none}
-use Rattle.charts.proofs.sheet.write_rows.Goals as goal
-use Rattle.charts.proofs.sheet.write_rows.Goals.{At-loop-slot}
+use Rattle.charts.proofs.sheet.Chart.write_rows.Goals as goal
+use Rattle.charts.proofs.sheet.Chart.write_rows.Goals.{At-loop-slot}
 
 -- what stands in each slot, and the rows from a slot on
 abbrev reads : (l : At-loop-slot) → ℕ → Option RecordRef
 reads l =
     let a = l.args in
-    entry_at (record_in a.view a.areas.arena.now a.areas.starts.now a.areas.lengths.now) a.index.packed a.index.buckets a.index.words.now
+    entry_at (record_in a.self.view a.self.areas.arena.now a.self.areas.starts.now a.self.areas.lengths.now) a.self.index.packed a.self.index.buckets a.self.index.words.now
 
 abbrev rest : (l : At-loop-slot) → ℕ → List Row
-rest l = let a = l.args in rows_from (reads l) a.areas.arena.now (8 * a.index.buckets)
+rest l = let a = l.args in rows_from (reads l) a.self.areas.arena.now (8 * a.self.index.buckets)
 
 -- the row of a slot that was read
 abbrev shown : (l : At-loop-slot) → RecordRef → Row
-shown l r = row_of l.args.areas.arena.now (record { slot = l.loop-slot.slot; entry = r })
+shown l r = row_of l.args.self.areas.arena.now (record { slot = l.loop-slot.slot; entry = r })
 
 -- what is printed before it
-standing : (l : At-loop-slot) (r : RecordRef) → l.loop-slot.slot < l.args.index.buckets * 8 → Some r ≡ reads l l.loop-slot.slot
+standing : (l : At-loop-slot) (r : RecordRef) → l.loop-slot.slot < l.args.self.index.buckets * 8 → Some r ≡ reads l l.loop-slot.slot
     → let a = l.args in
-    Printing (rows_in (record_in a.view a.areas.arena.now a.areas.starts.now a.areas.lengths.now) a.index.packed a.index.buckets a.index.words.now a.areas.arena.now)
+    Printing (chart_rows a.self)
     (shown l r ∷ rest l (l.loop-slot.slot + 1)) a.page.now l.loop-slot.page l.loop-slot.rows
 standing l r below e =
-    rw (rows_hit (reads l) l.args.areas.arena.now (8 * l.args.index.buckets) l.loop-slot.slot r (omega arith) (sym e)) at l.loop-slot.invariant
+    rw (rows_hit (reads l) l.args.self.areas.arena.now (8 * l.args.self.index.buckets) l.loop-slot.slot r (omega arith) (sym e)) at l.loop-slot.invariant
 
 pub loop-slot-init : goal.loop-slot-init
 loop-slot-init c =
     let a = c.args in
-    rw (rows_all (record_in a.view a.areas.arena.now a.areas.starts.now a.areas.lengths.now) a.index.packed a.index.buckets a.index.words.now a.areas.arena.now)
-    (print_start _ c.args.page.now c.requires.arena_value c.requires.arena_in_bounds)
+    rw (rows_all (record_in a.self.view a.self.areas.arena.now a.self.areas.starts.now a.self.areas.lengths.now) a.self.index.packed a.self.index.buckets a.self.index.words.now a.self.areas.arena.now)
+    (print_start _ c.args.page.now c.requires.fit c.requires.room)
 
 pub loop-slot-preserved-in_default : goal.loop-slot-preserved-in_default
 loop-slot-preserved-in_default c =
     let known = goal.at.loop-slot-preserved-in_default c in
     let a = c.args in
-    let below : c.loop-slot.slot < 8 * a.index.buckets = omega arith in
-    rw (rows_miss (reads known.At-loop-slot) a.areas.arena.now (8 * a.index.buckets) c.loop-slot.slot below (sym c.entry_at.ensures ∙ c.in_default.is)) at c.loop-slot.invariant
+    let below : c.loop-slot.slot < 8 * a.self.index.buckets = omega arith in
+    rw (rows_miss (reads known.At-loop-slot) a.self.areas.arena.now (8 * a.self.index.buckets) c.loop-slot.slot below (sym c.entry_at.ensures ∙ c.in_default.is)) at c.loop-slot.invariant
 
 pub put_entry-rows-requires : goal.put_entry-rows-requires
 put_entry-rows-requires c =
     let at = goal.at.put_entry-rows-requires c in
     let room = print_room (shown at.At-loop-slot c.in-Some.entry) (rest at.At-loop-slot (c.loop-slot.slot + 1)) (standing at.At-loop-slot c.in-Some.entry c.loop-slot-test.true c.in-Some.ensures) in
-    (room.0, omega (arith, c.requires.buckets_in_bounds.1), room.1)
+    (room.0, omega (arith, c.requires.slots.1), room.1)
 
 pub loop-slot-preserved : goal.loop-slot-preserved
 loop-slot-preserved c =
     let at = goal.at.loop-slot-preserved c in
-    let small : c.loop-slot.slot < 100000000 = omega (arith, c.requires.buckets_in_bounds.1) in
+    let small : c.loop-slot.slot < 100000000 = omega (arith, c.requires.slots.1) in
     let stands = standing at.At-loop-slot c.in-Some.entry c.loop-slot-test.true c.in-Some.ensures in
     let fits = fits_parts (shown at.At-loop-slot c.in-Some.entry) (print_room (shown at.At-loop-slot c.in-Some.entry) (rest at.At-loop-slot (c.loop-slot.slot + 1)) stands).1 in
     let due = deadline_short c.in-Some.entry.expires_at (omega arith) in
@@ -72,6 +72,6 @@ loop-slot-preserved c =
 pub returns : goal.returns
 returns c =
     let known = goal.at.returns c in
-    let none : rest known.At-loop-slot c.loop-slot.slot ≡ [] = rows_none (reads known.At-loop-slot) c.args.areas.arena.now (8 * c.args.index.buckets) c.loop-slot.slot (omega arith) in
+    let none : rest known.At-loop-slot c.loop-slot.slot ≡ [] = rows_none (reads known.At-loop-slot) c.args.self.areas.arena.now (8 * c.args.self.index.buckets) c.loop-slot.slot (omega arith) in
     let p = printed (rw none at c.loop-slot.invariant) in
-    record { value = p.0; page_after = p.1 }
+    record { count = p.0; page_after = p.1 }

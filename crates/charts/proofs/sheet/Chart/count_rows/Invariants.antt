@@ -1,0 +1,16 @@
+-- What each turn of the loop keeps.
+use mathlib.Core.Path.{◌≡◌}
+use Prim.Native.Nat.{◌*◌, ◌≤◌}
+use Rattle.index.specs.View.{record_in}
+use Rattle.sets.specs.Lookup.{entry_at}
+use Rattle.charts.specs.Sheet.{row_count, chart_rows}
+use Rattle.charts.proofs.Rows.{rows_from}
+use Rattle.charts.proofs.sheet.Chart.count_rows.Given as goal
+
+abbrev pub invariant-loop-slot : goal.invariant-loop-slot
+invariant-loop-slot l =
+    (row_count l.rows
+    (rows_from (entry_at (record_in l.self.view l.self.areas.arena.now l.self.areas.starts.now l.self.areas.lengths.now) l.self.index.packed l.self.index.buckets l.self.index.words.now) l.self.areas.arena.now
+    (8 * l.self.index.buckets) l.slot)
+    ≡ row_count 0 (chart_rows l.self))
+    × (l.rows ≤ l.slot)
