@@ -9,34 +9,21 @@ use Rattle.index.specs.View.{record_in}
 use Rattle.sets.specs.Lookup.{entry_at}
 use Rattle.charts.specs.Line.{Row}
 use Rattle.charts.specs.Sheet.{row_count, row_of}
-use Rattle.charts.proofs.Rows.{count_fits, count_long, count_none, rows_all, rows_from, rows_hit, rows_miss, rows_none}
+use Rattle.charts.proofs.Rows.{count_fits, count_long, count_none, reads, rows_all, rows_from, rows_hit, rows_miss, rows_none, shown}
 use Rattle.charts.proofs.sheet.Chart.count_rows.Goals as goal
 use Rattle.charts.proofs.sheet.Chart.count_rows.Goals.{At-loop-slot}
 
--- what stands in each slot, and the rows from a slot on
-abbrev reads : (l : At-loop-slot) → ℕ → Option RecordRef
-reads l =
-    let a = l.args in
-    entry_at (record_in a.self.view a.self.areas.arena.now a.self.areas.starts.now a.self.areas.lengths.now) a.self.index.packed a.self.index.buckets a.self.index.words.now
-
-abbrev rest : (l : At-loop-slot) → ℕ → List Row
-rest l = let a = l.args in rows_from (reads l) a.self.areas.arena.now (8 * a.self.index.buckets)
-
 -- of a slot whose record was read
-hit : (l : At-loop-slot) (r : RecordRef) → l.loop-slot.slot < l.args.self.index.buckets * 8 → Some r ≡ reads l l.loop-slot.slot
-    → rest l l.loop-slot.slot ≡ row_of l.args.self.areas.arena.now (record { slot = l.loop-slot.slot; entry = r }) ∷ rest l (l.loop-slot.slot + 1)
-hit l r below e = rows_hit (reads l) l.args.self.areas.arena.now (8 * l.args.self.index.buckets) l.loop-slot.slot r (omega arith) (sym e)
+hit : (l : At-loop-slot) (r : RecordRef) → l.loop-slot.slot < l.args.self.index.buckets * 8 → Some r ≡ reads l.args.self l.loop-slot.slot
+    → rows_from l.args.self l.loop-slot.slot ≡ shown l.args.self l.loop-slot.slot r ∷ rows_from l.args.self (l.loop-slot.slot + 1)
+hit l r below e = rows_hit l.args.self l.loop-slot.slot r (omega arith) (sym e)
 
 pub loop-slot-init : goal.loop-slot-init
-loop-slot-init c = let a = c.args in
-    (ap (row_count 0) (rows_all (record_in a.self.view a.self.areas.arena.now a.self.areas.starts.now a.self.areas.lengths.now) a.self.index.packed a.self.index.buckets a.self.index.words.now a.self.areas.arena.now), omega arith)
+loop-slot-init c = (ap (row_count 0) (rows_all c.args.self), omega arith)
 
 pub loop-slot-preserved-in_default : goal.loop-slot-preserved-in_default
 loop-slot-preserved-in_default c =
-    let at = goal.at.loop-slot-preserved-in_default c in
-    let a = c.args in
-    let below : c.loop-slot.slot < 8 * a.self.index.buckets = omega arith in
-    let missed = rows_miss (reads at.At-loop-slot) a.self.areas.arena.now (8 * a.self.index.buckets) c.loop-slot.slot below (sym c.entry_at.ensures ∙ c.in_default.is) in
+    let missed = rows_miss c.args.self c.loop-slot.slot (omega arith) (sym c.entry_at.ensures ∙ c.in_default.is) in
     (ap (row_count c.loop-slot.rows) (sym missed) ∙ c.loop-slot.invariant.0, omega (arith, c.loop-slot.invariant.1))
 
 pub returns-then-not-entry_fits : goal.returns-then-not-entry_fits
@@ -58,6 +45,5 @@ overflow_add-rows c = omega (arith, c.loop-slot.invariant.1)
 
 pub returns : goal.returns
 returns c =
-    let at = goal.at.returns c in
-    let none : rest at.At-loop-slot c.loop-slot.slot ≡ [] = rows_none (reads at.At-loop-slot) c.args.self.areas.arena.now (8 * c.args.self.index.buckets) c.loop-slot.slot (omega arith) in
+    let none = rows_none c.args.self c.loop-slot.slot (omega arith) in
     sym (count_none c.loop-slot.rows) ∙ ap (row_count c.loop-slot.rows) (sym none) ∙ c.loop-slot.invariant.0

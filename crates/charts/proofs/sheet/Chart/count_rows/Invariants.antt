@@ -8,9 +8,4 @@ use Rattle.charts.proofs.Rows.{rows_from}
 use Rattle.charts.proofs.sheet.Chart.count_rows.Given as goal
 
 abbrev pub invariant-loop-slot : goal.invariant-loop-slot
-invariant-loop-slot l =
-    (row_count l.rows
-    (rows_from (entry_at (record_in l.self.view l.self.areas.arena.now l.self.areas.starts.now l.self.areas.lengths.now) l.self.index.packed l.self.index.buckets l.self.index.words.now) l.self.areas.arena.now
-    (8 * l.self.index.buckets) l.slot)
-    ≡ row_count 0 (chart_rows l.self))
-    × (l.rows ≤ l.slot)
+invariant-loop-slot l = (row_count l.rows (rows_from l.self l.slot) ≡ row_count 0 (chart_rows l.self)) × (l.rows ≤ l.slot)

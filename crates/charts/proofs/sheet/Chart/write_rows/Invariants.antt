@@ -8,8 +8,4 @@ use Rattle.charts.proofs.Rows.{rows_from}
 use Rattle.charts.proofs.sheet.Chart.write_rows.Given as goal
 
 abbrev pub invariant-loop-slot : goal.invariant-loop-slot
-invariant-loop-slot l =
-    Printing (chart_rows l.self)
-    (rows_from (entry_at (record_in l.self.view l.self.areas.arena.now l.self.areas.starts.now l.self.areas.lengths.now) l.self.index.packed l.self.index.buckets l.self.index.words.now) l.self.areas.arena.now
-    (8 * l.self.index.buckets) l.slot)
-    l.initial.page l.page l.rows
+invariant-loop-slot l = Printing (chart_rows l.self) (rows_from l.self l.slot) l.initial.page l.page l.rows
