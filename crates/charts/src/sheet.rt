@@ -4,7 +4,7 @@ ghost use Rattle.records.specs.Area.{over, pasted};
 ghost use Rattle.charts.specs.Line.{line, lines, pages_for, sheet};
 ghost use Rattle.charts.specs.Sheet.{after_sheet, chart_rows, pages_answer, row_count, row_fits, row_of, rows_fit, rows_of, sheet_reply, sheet_result};
 
-use crate::line::{LINE_BYTES, put_blanks, put_row};
+use crate::line::{LINE_BYTES, put_blanks, put_line};
 use hash_parts::error::SegmentCacheBuildError;
 use index::find::FinishedIndex;
 use index::view::{SegmentAreas, SegmentView};
@@ -134,16 +134,15 @@ fn entry_fits(arena: &[u8], entry: RecordRef) -> bool
         && value_slice(arena, entry.value).len() <= FIELD_BYTES
 }
 
+// Writes a record as the line of a number, and gives the number of the next line, which the next call takes.
 fn put_entry(page: &mut [u8], number: usize, slot: usize, entry: RecordRef, arena: &[u8]) -> usize
     requires { (65 * number + 65 ≤ length page.old) × (slot < 100000000) × (row_fits (row_of arena.now (record { slot = slot; entry = entry })) ≡ true) }
     ensures { (result ≡ number + 1) × (page.new ≡ pasted (65 * number) (line (row_of arena.now (record { slot = slot; entry = entry }))) page.old) }
 {
-    put_row(
-        page,
-        number,
-        slot,
-        value_slice(arena, entry.key),
-        value_slice(arena, entry.value),
-        entry.expires_at,
-    )
+    let at = number * LINE_BYTES;
+    let line = &mut page[at..at + LINE_BYTES];
+    let key = value_slice(arena, entry.key);
+    let value = value_slice(arena, entry.value);
+    put_line(line, slot, key, value, entry.expires_at);
+    number + 1
 }

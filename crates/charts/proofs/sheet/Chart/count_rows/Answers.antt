@@ -1,14 +1,11 @@
 -- `count_rows` meets its contract: what was counted and the rows from the next slot on make up the count. Assumes nothing.
-use mathlib.Core.List.{List, [], ◌∷◌}
+use mathlib.Core.List.{◌∷◌}
 use mathlib.Core.Path.{◌≡◌, sym, ap, ◌∙◌}
-use Prim.Native.Nat.{ℕ, ◌+◌, ◌*◌, ◌<◌}
+use Prim.Native.Nat.{◌+◌, ◌*◌, ◌<◌}
 use native.Mathlib.Omega.{arith}
-use Rattle.std.specs.Prelude.{Option, Some}
+use Rattle.std.specs.Prelude.{Some}
 use Rattle.records.specs.declared.record.RecordRef.{RecordRef}
-use Rattle.index.specs.View.{record_in}
-use Rattle.sets.specs.Lookup.{entry_at}
-use Rattle.charts.specs.Line.{Row}
-use Rattle.charts.specs.Sheet.{row_count, row_of}
+use Rattle.charts.specs.Sheet.{row_count}
 use Rattle.charts.proofs.Rows.{count_fits, count_long, count_none, reads, rows_all, rows_from, rows_hit, rows_miss, rows_none, shown}
 use Rattle.charts.proofs.sheet.Chart.count_rows.Goals as goal
 use Rattle.charts.proofs.sheet.Chart.count_rows.Goals.{At-loop-slot}

@@ -1,8 +1,6 @@
 -- What each turn of the loop keeps.
 use mathlib.Core.Path.{◌≡◌}
-use Prim.Native.Nat.{◌*◌, ◌≤◌}
-use Rattle.index.specs.View.{record_in}
-use Rattle.sets.specs.Lookup.{entry_at}
+use Prim.Native.Nat.{◌≤◌}
 use Rattle.charts.specs.Sheet.{row_count, chart_rows}
 use Rattle.charts.proofs.Rows.{rows_from}
 use Rattle.charts.proofs.sheet.Chart.count_rows.Given as goal

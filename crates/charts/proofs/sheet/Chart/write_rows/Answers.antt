@@ -1,15 +1,13 @@
 -- `write_rows` meets its contract: the lines of the rows from the next slot on, written behind those that stand, make the sheet's. Assumes nothing.
-use mathlib.Core.List.{List, [], ◌∷◌}
+use mathlib.Core.List.{◌∷◌}
 use mathlib.Core.Path.{◌≡◌, sym, ◌∙◌}
-use Prim.Native.Nat.{ℕ, ◌+◌, ◌*◌, ◌<◌}
+use Prim.Native.Nat.{◌+◌, ◌*◌, ◌<◌}
 use native.Mathlib.Omega.{arith}
 use lib.ListN.{length}
-use Rattle.std.specs.Prelude.{Option, Some}
+use Rattle.std.specs.Prelude.{Some}
 use Rattle.records.specs.declared.record.RecordRef.{RecordRef}
-use Rattle.index.specs.View.{record_in}
-use Rattle.sets.specs.Lookup.{entry_at}
-use Rattle.charts.specs.Line.{Row, line}
-use Rattle.charts.specs.Sheet.{row_of, chart_rows}
+use Rattle.charts.specs.Line.{line}
+use Rattle.charts.specs.Sheet.{chart_rows}
 use Rattle.texts.proofs.Spelling.{decimal_short}
 use Rattle.charts.proofs.Columns.{deadline_short, length_line}
 use Rattle.charts.proofs.Pages.{Printing, printed, print_next, print_room, print_start}

@@ -1,7 +1,4 @@
 -- What each turn of the loop keeps.
-use Prim.Native.Nat.{◌*◌}
-use Rattle.index.specs.View.{record_in}
-use Rattle.sets.specs.Lookup.{entry_at}
 use Rattle.charts.specs.Sheet.{chart_rows}
 use Rattle.charts.proofs.Pages.{Printing}
 use Rattle.charts.proofs.Rows.{rows_from}
