@@ -4,9 +4,10 @@ use mathlib.Core.Bool.{true}
 use mathlib.Core.List.{List}
 use Prim.Native.Nat.{ℕ, zero, suc, ◌*◌, ◌/◌, ◌≤◌}
 use native.Mathlib.Omega.{arith}
-use lib.ListN.{length, drop, length-append, length-drop}
+use lib.ListN.{length, drop}
 use borrow.Author.Tests.{eq-eqb, le-leb}
 use Rattle.records.specs.Area.{over}
+use Rattle.records.proofs.Area.{over_length}
 use Rattle.index.specs.Packed.{words_of}
 use Rattle.index.specs.Segments.{padded}
 use Rattle.index.proofs.Filling.{over_padded_length}
@@ -25,18 +26,15 @@ unfolding words_of
 words_of_length zero l = refl
 words_of_length (suc n) l = ap suc (words_of_length n (drop 8 l))
 
-pub over_length : (s area : List ℕ) → length s ≤ length area → length (over s area) ≡ length area
-over_length s area h = omega (arith, length-append s (drop (length s) area), length-drop (length s) area)
+pub segments_are : (f : List ℕ) → length (segment_lengths f) ≡ length (content_of 1 f) / 8
+segments_are f = words_of_length (length (content_of 1 f) / 8) (content_of 1 f)
 
 module _ (f : List ℕ) (asked : FileAsked f) where
-  segments_are : length (segment_lengths f) ≡ length (content_of 1 f) / 8
-  segments_are = words_of_length (length (content_of 1 f) / 8) (content_of 1 f)
-
   pub few_segments : length (segment_lengths f) ≤ 256
-  few_segments = omega (arith, segments_are, asked.few_segments)
+  few_segments = omega (arith, segments_are f, asked.few_segments)
 
   some_segment : 1 ≤ length (segment_lengths f)
-  some_segment = omega (arith, segments_are, asked.some_segment)
+  some_segment = omega (arith, segments_are f, asked.some_segment)
 
   counts : counts_fit (setting_in f) (file_set f).entries (buckets_of f) (filter_words_of f) ≡ true
   unfolding counts_fit
