@@ -1,7 +1,7 @@
 -- Laws of a set's rows, slot by slot: whether each fits, and how many there are. Assumes nothing.
-use mathlib.Core.Bool.{Bool, true, false, cond}
+use mathlib.Core.Bool.{true, false}
 use mathlib.Core.List.{List, [], ◌∷◌, map}
-use mathlib.Core.Path.{◌≡◌, refl, ap}
+use mathlib.Core.Path.{◌≡◌, ap}
 use Prim.Native.Nat.{ℕ, suc, ◌+◌, ◌-◌, ◌*◌, ◌≤◌, ◌<◌}
 use native.Mathlib.Omega.{arith}
 use borrow.Author.Tests.{leb-true}
@@ -13,6 +13,7 @@ use Rattle.records.specs.declared.record.RecordRef.{RecordRef}
 use Rattle.index.specs.View.{record_in}
 use Rattle.sets.specs.Lookup.{entry_at}
 use Rattle.sets.specs.Walk.{entries_from, entries_in}
+use Rattle.sets.proofs.Counts.{both}
 use Rattle.sets.proofs.WalkList.{entries_hit, entries_miss, entries_none}
 use Rattle.charts.specs.Line.{Row}
 use Rattle.charts.specs.Sheet.{chart_rows, row_count, row_fits, row_of, rows_fit}
@@ -52,24 +53,13 @@ module _ (c : Chart) where
 
 -- ---- whether rows fit
 
-says_no : false ≡ true → ⊥
-says_no e = let z : ◌≡◌ {A = ℕ} 0 1 = ap (λ (b : Bool). cond b 1 0) e in omega arith
-
 pub fits_parts : (r : Row) → row_fits r ≡ true → (length r.key ≤ 12) × (length r.value ≤ 12)
-fits_parts r e = go (leb (length r.key) 12) refl e
-  where
-    go : (t : Bool) → leb (length r.key) 12 ≡ t → cond t (leb (length r.value) 12) false ≡ true → (length r.key ≤ 12) × (length r.value ≤ 12)
-    go true k v = (leb-true _ _ k, leb-true _ _ v)
-    go false k v = absurd (says_no v)
+fits_parts r e = let p = both (leb (length r.key) 12) _ e in (leb-true _ _ p.0, leb-true _ _ p.1)
 
 -- of the first and of the others
 pub fit_next : (r : Row) (rows : List Row) → rows_fit (r ∷ rows) ≡ true → (row_fits r ≡ true) × (rows_fit rows ≡ true)
 unfolding rows_fit
-fit_next r rows e = go (row_fits r) refl e
-  where
-    go : (t : Bool) → row_fits r ≡ t → cond t (rows_fit rows) false ≡ true → (row_fits r ≡ true) × (rows_fit rows ≡ true)
-    go true f g = (f, g)
-    go false f g = absurd (says_no g)
+fit_next r rows e = both (row_fits r) (rows_fit rows) e
 
 -- ---- how many there are
 

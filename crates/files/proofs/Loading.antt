@@ -28,7 +28,7 @@ use Rattle.files.specs.Load.{Loaded, after_load, ask_load, load_areas_hold, need
 use Rattle.files.specs.Plan.{blocks_fit, file_asked}
 use Rattle.files.specs.declared.load.FileNeeds.{FileNeeds}
 use Rattle.files.proofs.Masks.{control_masked, word_masked}
-use Rattle.files.proofs.Passes.{words_of_length}
+use Rattle.index.proofs.PackingLoop.{length_words}
 use Rattle.files.proofs.Pieces.{map_same}
 use Rattle.files.proofs.Told.{ContentTold, content_told}
 
@@ -56,7 +56,7 @@ unfolding unmarked_index
 index_packed buckets rest l e =
     let f : ℕ → ℕ = λ w. number_of (map unmarked_byte (bytes_of 8 w)) in
     let both_parts : words_of (8 * buckets) l ≡ words_of buckets l ++ words_of rest (drop (8 * buckets) l) = ap (λ (n : ℕ). words_of n l) e ∙ words_split buckets rest l in
-    let n = words_of_length buckets l in
+    let n = length_words buckets l in
     ap₂ (λ (x y : List ℕ). x ++ y)
     (map_same (masked_by 0x7f7f_7f7f_7f7f_7f7f) f control_masked (words_of buckets l)
     ∙ ap (map f) (sym (ap (take buckets) both_parts ∙ take_at (words_of buckets l) (words_of rest (drop (8 * buckets) l)) buckets n)))
@@ -68,7 +68,7 @@ pub index_two : (buckets rest : ℕ) (l tail index out out' : List ℕ) → 8 * 
     → out' ≡ over (unmarked_index true buckets (words_of (8 * buckets) l)) index
 index_two buckets rest l tail index out out' e t p q =
     let controls : List ℕ = map (masked_by 0x7f7f_7f7f_7f7f_7f7f) (words_of buckets l) in
-    let n : length controls ≡ buckets = length-map (words_of buckets l) (masked_by 0x7f7f_7f7f_7f7f_7f7f) ∙ words_of_length buckets l in
+    let n : length controls ≡ buckets = length-map (words_of buckets l) (masked_by 0x7f7f_7f7f_7f7f_7f7f) ∙ length_words buckets l in
     q
     ∙ ap₂ (λ (x y : List ℕ). pasted buckets (words_of rest x) y) t p
     ∙ over_pasted controls (words_of rest (drop (8 * buckets) l)) index buckets n
@@ -168,7 +168,7 @@ module _ (f : List ℕ) where
       record {
         index = eqb-true _ _ b.0;
         filter = eqb-true _ _ c.0;
-        segments = omega (arith, words_of_length (length (content_of 1 f) / 8) (content_of 1 f));
+        segments = omega (arith, length_words (length (content_of 1 f) / 8) (content_of 1 f));
         adds_up = omega arith;
       }
 

@@ -16,7 +16,8 @@ use Rattle.files.specs.Blocks.{content_of}
 use Rattle.files.specs.Contents.{buckets_of, content_fits, field, file_set, filter_words_of, records_in, segment_lengths, setting_in}
 use Rattle.files.specs.Plan.{blocks_fit, flags_fit}
 use Rattle.files.proofs.Asked.{content_asked}
-use Rattle.files.proofs.Passes.{segments_are, words_of_length}
+use Rattle.files.proofs.Passes.{segments_are}
+use Rattle.index.proofs.PackingLoop.{length_words}
 
 bool_same : {b c : Bool} → (b ≡ true → c ≡ true) → (c ≡ true → b ≡ true) → b ≡ c
 bool_same {b} {c} there back = go b c there back
@@ -46,7 +47,7 @@ module _ (f : List ℕ) where
       })
       (file_set f)
   set_is c records buckets words segments bytes keys values headers p q r s t u v w x =
-      let n : segments ≡ length (segment_lengths f) = t ∙ sym (words_of_length (length (content_of 1 f) / 8) (content_of 1 f)) in
+      let n : segments ≡ length (segment_lengths f) = t ∙ sym (length_words (length (content_of 1 f) / 8) (content_of 1 f)) in
       rw (p, q, r, s, n, u, v, w, x)
 
   -- ---- what 15 asks

@@ -14,7 +14,7 @@ use Rattle.records.proofs.Area.{begin, complete, next_byte}
 use Rattle.index.specs.Packed.{words_of}
 use Rattle.files.specs.Copies.{masked_by}
 use Rattle.files.proofs.Copying.{chunk_at, over_all, word_is}
-use Rattle.files.proofs.Passes.{words_of_length}
+use Rattle.index.proofs.PackingLoop.{length_words}
 use Rattle.files.proofs.copies.take_words.Invariants.{Fitting, from}
 use Rattle.files.proofs.copies.take_words.Goals as goal
 
@@ -35,7 +35,7 @@ loop-i-init c =
     let n = length a.words.now in
     let w = words_of n a.bytes.now in
     let e : n - 0 ≡ n = omega arith in
-    let short : length (map (masked_by a.mask) w) ≤ n = omega (arith, length-map w (masked_by a.mask), words_of_length n a.bytes.now) in
+    let short : length (map (masked_by a.mask) w) ≤ n = omega (arith, length-map w (masked_by a.mask), length_words n a.bytes.now) in
     (rw e (begin (map (masked_by a.mask) w) a.words.now short), λ f. rw e at f)
 
 pub loop-i-preserved : goal.loop-i-preserved
@@ -62,5 +62,5 @@ returns c =
     let whole = map (masked_by a.mask) (words_of n a.bytes.now) in
     let z : n - l.i ≡ 0 = omega arith in
     let none : from a.bytes.now n l.i ≡ [] = ap (λ (k : ℕ). words_of k (drop (8 * l.i) a.bytes.now)) z in
-    let long : length whole ≡ n = length-map (words_of n a.bytes.now) (masked_by a.mask) ∙ words_of_length n a.bytes.now in
+    let long : length whole ≡ n = length-map (words_of n a.bytes.now) (masked_by a.mask) ∙ length_words n a.bytes.now in
     ((complete l.invariant.0 (ap (map (masked_by a.mask)) none)).1 ∙ over_all whole a.words.now (sym long), l.invariant.1 (rw none refl))
