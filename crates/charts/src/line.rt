@@ -52,7 +52,8 @@ fn put_blank(out: &mut [u8])
     out[DEADLINE_END] = b'\n';
 }
 
-// Fills the front of an area with blank lines.
+// Fills the front of an area with blank lines. They are counted: nothing is known of an area that was written
+// to by chunks.
 pub(crate) fn put_blanks(area: &mut [u8], count: usize)
     requires { 65 * count ≤ length area.old }
     ensures { area.new ≡ over (lines count []) area.old }

@@ -1,4 +1,4 @@
-// The chart room sheet: a set on paper, a line to each record that the walk visits.
+// The chart room sheet: a set in lines, one to each record that the walk visits.
 ghost use Rattle.std.specs.Prelude.{◌≡◌, true, ◌+◌, ◌*◌, ◌<◌, ◌≤◌, length};
 ghost use Rattle.records.specs.Area.{over, pasted};
 ghost use Rattle.charts.specs.Line.{line, lines, pages_for, sheet};
