@@ -1,4 +1,4 @@
-// What is told of a whole set, for C: its chart room sheet.
+// What is told of a whole set, for C: its chart room sheet. Each area is an argument of its own, as C lends it.
 #![tactic(auto)]
 
 ghost use Rattle.std.specs.Prelude.{◌≡◌};

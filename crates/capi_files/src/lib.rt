@@ -1,4 +1,5 @@
-// Sets as files, for C: how many bytes a set takes, writing it, what a file's areas take, loading it.
+// Sets as files, for C: how many bytes a set takes, writing it, what a file's areas take, loading it. Each area is
+// an argument of its own, as C lends it.
 #![tactic(auto)]
 
 ghost use Rattle.std.specs.Prelude.{◌≡◌};

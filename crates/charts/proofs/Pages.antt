@@ -35,10 +35,6 @@ pub lines_next : (r : Row) (rows : List Row) → lines (length (r ∷ rows)) (r 
 unfolding lines
 lines_next r rows = refl
 
-pub no_lines : (n : ℕ) → n ≡ 0 → lines n [] ≡ []
-unfolding lines
-no_lines n e = rw e
-
 pub lines_parts : (n : ℕ) (rows : List Row) → length rows ≤ n → lines n rows ≡ lines (length rows) rows ++ lines (n - length rows) []
 unfolding lines
 lines_parts n [] h = let e : n - 0 ≡ n = omega arith in rw e

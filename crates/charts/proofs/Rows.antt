@@ -1,7 +1,7 @@
 -- Laws of a set's rows, slot by slot: whether each fits, and how many there are. Assumes nothing.
-use mathlib.Core.Bool.{Bool, true, false, cond}
+use mathlib.Core.Bool.{true, false}
 use mathlib.Core.List.{List, [], ◌∷◌, map}
-use mathlib.Core.Path.{◌≡◌, refl, ap}
+use mathlib.Core.Path.{◌≡◌, ap}
 use Prim.Native.Nat.{ℕ, suc, ◌+◌, ◌-◌, ◌*◌, ◌≤◌, ◌<◌}
 use native.Mathlib.Omega.{arith}
 use borrow.Author.Tests.{leb-true}
@@ -10,53 +10,56 @@ use lib.ListN.{length}
 use Rattle.std.specs.Prelude.{Option, Some, None, Ok, Err}
 use Rattle.hash_parts.specs.declared.error.SegmentCacheBuildError.TheVariants.{FieldTooLong}
 use Rattle.records.specs.declared.record.RecordRef.{RecordRef}
+use Rattle.index.specs.View.{record_in}
 use Rattle.sets.specs.Lookup.{entry_at}
 use Rattle.sets.specs.Walk.{entries_from, entries_in}
+use Rattle.sets.proofs.Counts.{both}
 use Rattle.sets.proofs.WalkList.{entries_hit, entries_miss, entries_none}
 use Rattle.charts.specs.Line.{Row}
-use Rattle.charts.specs.Sheet.{row_count, row_fits, row_of, rows_fit, rows_in}
+use Rattle.charts.specs.Sheet.{chart_rows, row_count, row_fits, row_of, rows_fit}
+use Rattle.charts.specs.declared.sheet.Chart.{Chart}
 
--- ---- the rows from a slot on
+-- ---- the rows of a chart from a slot on
 
-abbrev pub rows_from : (ℕ → Option RecordRef) → List ℕ → ℕ → ℕ → List Row
-rows_from at arena slots s = map (row_of arena) (entries_from at s (slots - s))
+module _ (c : Chart) where
+  -- what stands in each slot
+  abbrev pub reads : ℕ → Option RecordRef
+  reads = entry_at (record_in c.view c.areas.arena.now c.areas.starts.now c.areas.lengths.now) c.index.packed c.index.buckets c.index.words.now
 
-module _ (at : ℕ → Option RecordRef) (arena : List ℕ) (slots s : ℕ) where
-  pub rows_hit : (r : RecordRef) → s < slots → at s ≡ Some r → rows_from at arena slots s ≡ row_of arena (record { slot = s; entry = r }) ∷ rows_from at arena slots (s + 1)
-  rows_hit r h e = ap (map (row_of arena)) (entries_hit at slots s r h e)
+  abbrev slots : ℕ
+  slots = 8 * c.index.buckets
 
-  pub rows_miss : s < slots → at s ≡ None → rows_from at arena slots s ≡ rows_from at arena slots (s + 1)
-  rows_miss h e = ap (map (row_of arena)) (entries_miss at slots s h e)
+  abbrev pub rows_from : ℕ → List Row
+  rows_from s = map (row_of c.areas.arena.now) (entries_from reads s (slots - s))
 
-  pub rows_none : slots ≤ s → rows_from at arena slots s ≡ []
-  rows_none h = ap (map (row_of arena)) (entries_none at slots s h)
+  -- the row of a slot whose record was read
+  abbrev pub shown : ℕ → RecordRef → Row
+  shown s r = row_of c.areas.arena.now (record { slot = s; entry = r })
 
--- from the first slot on they are all
-pub rows_all : (read : ℕ → Option RecordRef) (packed : Bool) (buckets : ℕ) (index arena : List ℕ)
-    → rows_from (entry_at read packed buckets index) arena (8 * buckets) 0 ≡ rows_in read packed buckets index arena
-unfolding entries_in
-rows_all read packed buckets index arena = let e : 8 * buckets - 0 ≡ 8 * buckets = omega arith in rw e
+  module _ (s : ℕ) where
+    pub rows_hit : (r : RecordRef) → s < slots → reads s ≡ Some r → rows_from s ≡ shown s r ∷ rows_from (s + 1)
+    rows_hit r h e = ap (map (row_of c.areas.arena.now)) (entries_hit reads slots s r h e)
+
+    pub rows_miss : s < slots → reads s ≡ None → rows_from s ≡ rows_from (s + 1)
+    rows_miss h e = ap (map (row_of c.areas.arena.now)) (entries_miss reads slots s h e)
+
+    pub rows_none : slots ≤ s → rows_from s ≡ []
+    rows_none h = ap (map (row_of c.areas.arena.now)) (entries_none reads slots s h)
+
+  -- from the first slot on they are all
+  pub rows_all : rows_from 0 ≡ chart_rows c
+  unfolding entries_in
+  rows_all = let e : slots - 0 ≡ slots = omega arith in rw e
 
 -- ---- whether rows fit
 
-says_no : false ≡ true → ⊥
-says_no e = let z : ◌≡◌ {A = ℕ} 0 1 = ap (λ (b : Bool). cond b 1 0) e in omega arith
-
 pub fits_parts : (r : Row) → row_fits r ≡ true → (length r.key ≤ 12) × (length r.value ≤ 12)
-fits_parts r e = go (leb (length r.key) 12) refl e
-  where
-    go : (t : Bool) → leb (length r.key) 12 ≡ t → cond t (leb (length r.value) 12) false ≡ true → (length r.key ≤ 12) × (length r.value ≤ 12)
-    go true k v = (leb-true _ _ k, leb-true _ _ v)
-    go false k v = absurd (says_no v)
+fits_parts r e = let p = both (leb (length r.key) 12) _ e in (leb-true _ _ p.0, leb-true _ _ p.1)
 
 -- of the first and of the others
 pub fit_next : (r : Row) (rows : List Row) → rows_fit (r ∷ rows) ≡ true → (row_fits r ≡ true) × (rows_fit rows ≡ true)
 unfolding rows_fit
-fit_next r rows e = go (row_fits r) refl e
-  where
-    go : (t : Bool) → row_fits r ≡ t → cond t (rows_fit rows) false ≡ true → (row_fits r ≡ true) × (rows_fit rows ≡ true)
-    go true f g = (f, g)
-    go false f g = absurd (says_no g)
+fit_next r rows e = both (row_fits r) (rows_fit rows) e
 
 -- ---- how many there are
 

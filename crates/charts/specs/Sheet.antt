@@ -5,6 +5,7 @@ use Rattle.hash_parts.specs.declared.error.SegmentCacheBuildError.{SegmentCacheB
 use Rattle.hash_parts.specs.declared.error.SegmentCacheBuildError.TheVariants.{FieldTooLong}
 use Rattle.records.specs.Area.{over, spanned}
 use Rattle.records.specs.declared.record.RecordRef.{RecordRef}
+use Rattle.index.specs.View.{record_in}
 use Rattle.index.specs.declared.find.FoundRecord.{FoundRecord}
 use Rattle.sets.specs.Answers.{Reply, accept, refuse}
 use Rattle.sets.specs.Lookup.{areas_hold_set}
@@ -12,6 +13,7 @@ use Rattle.sets.specs.Questions.{all, decided, first_no}
 use Rattle.sets.specs.Walk.{entries_in, entries_of}
 use Rattle.sets.specs.declared.cache.FrozenSegmentCache.{FrozenSegmentCache}
 use Rattle.charts.specs.Line.{Row, pages_for, sheet}
+use Rattle.charts.specs.declared.sheet.Chart.{Chart}
 
 -- ---- the rows of a set: "lapsed records are printed too", so that no tick is given
 
@@ -75,6 +77,11 @@ after_sheet s index starts lengths arena page =
 -- the rows of an index, by what reads a location
 abbrev pub rows_in : (ℕ → Option RecordRef) → Bool → ℕ → List ℕ → List ℕ → List Row
 rows_in read packed buckets index arena = map (row_of arena) (entries_in read packed buckets index)
+
+-- those of a chart
+abbrev pub chart_rows : Chart → List Row
+chart_rows c =
+    rows_in (record_in c.view c.areas.arena.now c.areas.starts.now c.areas.lengths.now) c.index.packed c.index.buckets c.index.words.now c.areas.arena.now
 
 -- how many rows there are behind others, where each fits
 unfoldable pub row_count : ℕ → List Row → Result ℕ SegmentCacheBuildError

@@ -20,24 +20,9 @@ const DEADLINE_AT: usize = 59;
 
 const DEADLINE_END: usize = 64;
 
-// Writes a row as the line of a number, and gives the number of the next line.
-pub(crate) fn put_row(
-    page: &mut [u8],
-    number: usize,
-    slot: usize,
-    key: &[u8],
-    value: &[u8],
-    deadline: u16,
-) -> usize
-    requires { (65 * number + 65 ≤ length page.old) × (slot < 100000000) × (length key.now ≤ 12) × (length value.now ≤ 12) }
-    ensures { (result ≡ number + 1) × (page.new ≡ pasted (65 * number) (line (row slot key.now value.now deadline)) page.old) }
-{
-    let at = number * LINE_BYTES;
-    put_fields(&mut page[at..at + LINE_BYTES], slot, key, value, deadline);
-    number + 1
-}
-
-fn put_fields(out: &mut [u8], slot: usize, key: &[u8], value: &[u8], deadline: u16)
+// Writes the fields of a row over a line. A line is lent as a slice here and below: as an array it would be had
+// of a page only by way of an option.
+pub(crate) fn put_line(out: &mut [u8], slot: usize, key: &[u8], value: &[u8], deadline: u16)
     requires { (length out.old ≡ 65) × (slot < 100000000) × (length key.now ≤ 12) × (length value.now ≤ 12) }
     ensures { out.new ≡ line (row slot key.now value.now deadline) }
 {
@@ -67,7 +52,8 @@ fn put_blank(out: &mut [u8])
     out[DEADLINE_END] = b'\n';
 }
 
-// Fills the front of an area with blank lines.
+// Fills the front of an area with blank lines. They are counted: nothing is known of an area that was written
+// to by chunks.
 pub(crate) fn put_blanks(area: &mut [u8], count: usize)
     requires { 65 * count ≤ length area.old }
     ensures { area.new ≡ over (lines count []) area.old }

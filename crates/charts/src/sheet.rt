@@ -1,17 +1,17 @@
-// The chart room sheet: a set on paper, a line to each record that the walk visits.
+// The chart room sheet: a set in lines, one to each record that the walk visits.
 ghost use Rattle.std.specs.Prelude.{◌≡◌, true, ◌+◌, ◌*◌, ◌<◌, ◌≤◌, length};
 ghost use Rattle.records.specs.Area.{over, pasted};
-ghost use Rattle.index.specs.View.{record_in};
 ghost use Rattle.charts.specs.Line.{line, lines, pages_for, sheet};
-ghost use Rattle.charts.specs.Sheet.{after_sheet, pages_answer, row_count, row_fits, row_of, rows_fit, rows_in, sheet_reply, sheet_result};
+ghost use Rattle.charts.specs.Sheet.{after_sheet, chart_rows, pages_answer, row_count, row_fits, row_of, rows_fit, rows_of, sheet_reply, sheet_result};
 
-use crate::line::{LINE_BYTES, put_blanks, put_row};
+use crate::line::{LINE_BYTES, put_blanks, put_line};
 use hash_parts::error::SegmentCacheBuildError;
-use index::view::SegmentAreas;
+use index::find::FinishedIndex;
+use index::view::{SegmentAreas, SegmentView};
 use index::word::BUCKET_SLOTS;
 use records::record::{RecordRef, value_slice};
 use sets::cache::FrozenSegmentCache;
-use sets::lookup::SetRecords;
+use sets::lookup::entry_at;
 
 // The lines of a page, and its bytes.
 const PAGE_LINES: usize = 50;
@@ -37,7 +37,7 @@ pub fn sheet_pages(
     if !set.areas_hold(index.len(), starts.len(), lengths.len(), arena.len()) {
         return Err(SegmentCacheBuildError::InvalidState);
     }
-    let rows = count_rows(set.records(index, areas))?;
+    let rows = Chart::of(set, index, areas).count_rows()?;
     Ok(rows.div_ceil(PAGE_LINES))
 }
 
@@ -54,26 +54,76 @@ pub fn print_sheet(
     if page.len() / PAGE_BYTES < pages {
         return Err(SegmentCacheBuildError::AreaTooShort);
     }
-    write_sheet(set.records(index, areas), pages, page);
+    Chart::of(set, index, areas).write_sheet(pages, page);
     Ok(pages)
 }
 
-// The first pass: counts the rows, and asks of each whether it fits.
-fn count_rows(records: SetRecords<'_>) -> Result<usize, SegmentCacheBuildError>
-    requires { 8 * records.index.buckets ≤ length records.index.words.now }
-    ensures { result ≡ row_count 0 (rows_in (record_in records.entry.view records.entry.areas.arena.now records.entry.areas.starts.now records.entry.areas.lengths.now) records.entry.index.packed records.entry.index.buckets records.entry.index.words.now records.entry.areas.arena.now) }
-{
-    let mut rows = 0;
-    for slot in 0..records.index.buckets * BUCKET_SLOTS {
-        let Some(entry) = records.entry_at(slot) else {
-            continue;
-        };
-        if !entry_fits(records.areas.arena, entry) {
-            return Err(SegmentCacheBuildError::FieldTooLong);
+// What a sheet is made of: the index that the walk goes through, and the records that it names.
+#[derive(Clone, Copy)]
+struct Chart<'a> {
+    view: SegmentView,
+    index: FinishedIndex<'a>,
+    areas: SegmentAreas<'a>,
+}
+
+impl<'a> Chart<'a> {
+    fn of(set: FrozenSegmentCache, index: &'a [u64], areas: SegmentAreas<'a>) -> Self
+        ensures rows { chart_rows result ≡ rows_of set index.now areas.entry.starts.now areas.entry.lengths.now areas.entry.arena.now }
+        ensures index { (result.index.words.now ≡ index.now) × (result.index.buckets ≡ set.buckets) }
+    {
+        Self {
+            view: set.view(),
+            index: set.finished_index(index),
+            areas,
         }
-        rows += 1;
     }
-    Ok(rows)
+
+    // The first pass: counts the rows, and asks of each whether it fits.
+    fn count_rows(self) -> Result<usize, SegmentCacheBuildError>
+        requires { 8 * self.index.buckets ≤ length self.index.words.now }
+        ensures { result ≡ row_count 0 (chart_rows self.entry) }
+    {
+        let mut rows = 0;
+        for slot in 0..self.index.buckets * BUCKET_SLOTS {
+            let Some(entry) = entry_at(self.view, self.index, slot, self.areas) else {
+                continue;
+            };
+            if !entry_fits(self.areas.arena, entry) {
+                return Err(SegmentCacheBuildError::FieldTooLong);
+            }
+            rows += 1;
+        }
+        Ok(rows)
+    }
+
+    // The second pass: a line to each row, and blank lines to the end of the last page.
+    fn write_sheet(self, pages: usize, page: &mut [u8])
+        requires slots { (8 * self.index.buckets ≤ length self.index.words.now) × (8 * self.index.buckets ≤ 100000000) }
+        requires fit { rows_fit (chart_rows self) ≡ true }
+        requires room { (pages ≡ pages_for (length (chart_rows self))) × (3250 * pages ≤ length page.old) }
+        ensures { page.new ≡ over (sheet (chart_rows self.entry)) page.old }
+    {
+        let rows = self.write_rows(page);
+        let at = rows * LINE_BYTES;
+        put_blanks(&mut page[at..], pages * PAGE_LINES - rows);
+    }
+
+    fn write_rows(self, page: &mut [u8]) -> usize
+        requires slots { (8 * self.index.buckets ≤ length self.index.words.now) × (8 * self.index.buckets ≤ 100000000) }
+        requires fit { rows_fit (chart_rows self) ≡ true }
+        requires room { 65 * length (chart_rows self) ≤ length page.old }
+        ensures count { let rows = chart_rows self.entry in (result ≡ length rows) × (65 * result ≡ length (lines (length rows) rows)) }
+        ensures page_after { let rows = chart_rows self.entry in page.new ≡ over (lines (length rows) rows) page.old }
+    {
+        let mut rows = 0;
+        for slot in 0..self.index.buckets * BUCKET_SLOTS {
+            let Some(entry) = entry_at(self.view, self.index, slot, self.areas) else {
+                continue;
+            };
+            rows = put_entry(page, rows, slot, entry, self.areas.arena);
+        }
+        rows
+    }
 }
 
 // Whether key and value fit their columns.
@@ -84,45 +134,15 @@ fn entry_fits(arena: &[u8], entry: RecordRef) -> bool
         && value_slice(arena, entry.value).len() <= FIELD_BYTES
 }
 
-// The second pass: a line to each row, and blank lines to the end of the last page.
-fn write_sheet(records: SetRecords<'_>, pages: usize, page: &mut [u8])
-    requires buckets_in_bounds { (8 * records.index.buckets ≤ length records.index.words.now) × (8 * records.index.buckets ≤ 100000000) }
-    requires arena_value { rows_fit (rows_in (record_in records.view records.areas.arena.now records.areas.starts.now records.areas.lengths.now) records.index.packed records.index.buckets records.index.words.now records.areas.arena.now) ≡ true }
-    requires pages_value { (pages ≡ pages_for (length (rows_in (record_in records.view records.areas.arena.now records.areas.starts.now records.areas.lengths.now) records.index.packed records.index.buckets records.index.words.now records.areas.arena.now))) × (3250 * pages ≤ length page.old) }
-    ensures { page.new ≡ over (sheet (rows_in (record_in records.entry.view records.entry.areas.arena.now records.entry.areas.starts.now records.entry.areas.lengths.now) records.entry.index.packed records.entry.index.buckets records.entry.index.words.now records.entry.areas.arena.now)) page.old }
-{
-    let rows = write_rows(records, page);
-    let at = rows * LINE_BYTES;
-    put_blanks(&mut page[at..], pages * PAGE_LINES - rows);
-}
-
-fn write_rows(records: SetRecords<'_>, page: &mut [u8]) -> usize
-    requires buckets_in_bounds { (8 * records.index.buckets ≤ length records.index.words.now) × (8 * records.index.buckets ≤ 100000000) }
-    requires arena_value { rows_fit (rows_in (record_in records.view records.areas.arena.now records.areas.starts.now records.areas.lengths.now) records.index.packed records.index.buckets records.index.words.now records.areas.arena.now) ≡ true }
-    requires arena_in_bounds { 65 * length (rows_in (record_in records.view records.areas.arena.now records.areas.starts.now records.areas.lengths.now) records.index.packed records.index.buckets records.index.words.now records.areas.arena.now) ≤ length page.old }
-    ensures value { let rows = rows_in (record_in records.entry.view records.entry.areas.arena.now records.entry.areas.starts.now records.entry.areas.lengths.now) records.entry.index.packed records.entry.index.buckets records.entry.index.words.now records.entry.areas.arena.now in (result ≡ length rows) × (65 * result ≡ length (lines (length rows) rows)) }
-    ensures page_after { let rows = rows_in (record_in records.entry.view records.entry.areas.arena.now records.entry.areas.starts.now records.entry.areas.lengths.now) records.entry.index.packed records.entry.index.buckets records.entry.index.words.now records.entry.areas.arena.now in page.new ≡ over (lines (length rows) rows) page.old }
-{
-    let mut rows = 0;
-    for slot in 0..records.index.buckets * BUCKET_SLOTS {
-        let Some(entry) = records.entry_at(slot) else {
-            continue;
-        };
-        rows = put_entry(page, rows, slot, entry, records.areas.arena);
-    }
-    rows
-}
-
+// Writes a record as the line of a number, and gives the number of the next line, which the next call takes.
 fn put_entry(page: &mut [u8], number: usize, slot: usize, entry: RecordRef, arena: &[u8]) -> usize
     requires { (65 * number + 65 ≤ length page.old) × (slot < 100000000) × (row_fits (row_of arena.now (record { slot = slot; entry = entry })) ≡ true) }
     ensures { (result ≡ number + 1) × (page.new ≡ pasted (65 * number) (line (row_of arena.now (record { slot = slot; entry = entry }))) page.old) }
 {
-    put_row(
-        page,
-        number,
-        slot,
-        value_slice(arena, entry.key),
-        value_slice(arena, entry.value),
-        entry.expires_at,
-    )
+    let at = number * LINE_BYTES;
+    let line = &mut page[at..at + LINE_BYTES];
+    let key = value_slice(arena, entry.key);
+    let value = value_slice(arena, entry.value);
+    put_line(line, slot, key, value, entry.expires_at);
+    number + 1
 }

@@ -111,9 +111,28 @@ module _ (f : List ℕ) where
     pub few_segments : length (content_of 1 f) ≤ 2048
     pub adds_up : sum (segment_lengths f) ≡ length (content_of 4 f)
 
-  content_asked : frames_well 5 f ≡ true → kinds_from 1 5 f ≡ true → content_fits f ≡ true → FileAsked
+  -- the questions of 15, each answered yes
+  pub record ContentAsked : Type 0 where
+    pub counts_long : eqb (length (content_of 0 f)) 44 ≡ true
+    pub expiry_flag : leb (field 0 f) 1 ≡ true
+    pub packed_flag : leb (field 4 f) 1 ≡ true
+    pub tick : tick_fits f ≡ true
+    pub setting : setting_fits (setting_in f) ≡ true
+    pub records : leb (records_in f) 1_048_576 ≡ true
+    pub key_bytes : bytes_fit (records_in f) (field 7 f) ≡ true
+    pub value_bytes : bytes_fit (records_in f) (field 8 f) ≡ true
+    pub header_length : bytes_fit (records_in f) (field 9 f) ≡ true
+    pub whole_words : eqb (length (content_of 1 f) % 8) 0 ≡ true
+    pub some_segment : leb 8 (length (content_of 1 f)) ≡ true
+    pub few_segments : leb (length (content_of 1 f)) 2048 ≡ true
+    pub index : eqb (length (content_of 2 f)) (64 * buckets_of f) ≡ true
+    pub filter : eqb (length (content_of 3 f)) (8 * filter_words_of f) ≡ true
+    pub arena_short : leb (length (content_of 4 f)) 1_073_741_824 ≡ true
+    pub adds_up : eqb (sum (segment_lengths f)) (length (content_of 4 f)) ≡ true
+
+  pub content_asked : content_fits f ≡ true → ContentAsked
   unfolding content_fits
-  content_asked framed kinds e =
+  content_asked e =
       let a₁ = both (eqb (length (content_of 0 f)) 44) _ e in
       let a₂ = both (leb (field 0 f) 1) _ a₁.1 in
       let a₃ = both (leb (field 4 f) 1) _ a₂.1 in
@@ -130,17 +149,38 @@ module _ (f : List ℕ) where
       let c₁ = both (eqb (length (content_of 1 f) % 8) 0) _ b₁.0 in
       let c₂ = both (leb 8 (length (content_of 1 f))) _ c₁.1 in
       record {
-        framed = framed;
-        kinds = kinds;
+        counts_long = a₁.0;
+        expiry_flag = a₂.0;
+        packed_flag = a₃.0;
+        tick = a₄.0;
         setting = a₅.0;
         records = a₆.0;
         key_bytes = a₇.0;
         value_bytes = a₈.0;
         header_length = a₉.0;
-        whole_words = eqb-true _ _ c₁.0;
-        some_segment = leb-true _ _ c₂.0;
-        few_segments = leb-true _ _ c₂.1;
-        adds_up = eqb-true _ _ b₄.1;
+        whole_words = c₁.0;
+        some_segment = c₂.0;
+        few_segments = c₂.1;
+        index = b₂.0;
+        filter = b₃.0;
+        arena_short = b₄.0;
+        adds_up = b₄.1;
+      }
+
+  file_asked : frames_well 5 f ≡ true → kinds_from 1 5 f ≡ true → ContentAsked → FileAsked
+  file_asked framed kinds c =
+      record {
+        framed = framed;
+        kinds = kinds;
+        setting = c.setting;
+        records = c.records;
+        key_bytes = c.key_bytes;
+        value_bytes = c.value_bytes;
+        header_length = c.header_length;
+        whole_words = eqb-true _ _ c.whole_words;
+        some_segment = leb-true _ _ c.some_segment;
+        few_segments = leb-true _ _ c.few_segments;
+        adds_up = eqb-true _ _ c.adds_up;
       }
 
   module _ (index filter starts lengths arena : List ℕ) where
@@ -166,7 +206,7 @@ module _ (f : List ℕ) where
         let d = both (leb 256 (length starts)) _ c.0 in
         let r = both (leb (length (content_of 4 f)) (length arena)) _ c.1 in
         record {
-          file = content_asked t.0 u.0 v.0;
+          file = file_asked t.0 u.0 (content_asked v.0);
           index_holds = leb-true _ _ a.0;
           filter_holds = leb-true _ _ b.0;
           starts_hold = leb-true _ _ d.0;

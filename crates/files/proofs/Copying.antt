@@ -6,9 +6,10 @@ use native.Mathlib.Decide.{dec_lt}
 use borrow.Rule.Slice.PartMut.{put_mid}
 use native.Mathlib.Omega.{arith}
 use lib.ListN.{length, take, drop, get_or, replicate, length-append, length-drop, length-replicate}
-use lib.Seq.{length-take-le, take_all, take_at}
+use lib.Seq.{drop-drop, length-take-le, take_all, take_at}
 use Rattle.std.specs.Int.{from_le_bytes, to_le_bytes, w64}
 use Rattle.std.proofs.lemmas.List.{drop_all, drop_more, drop-replicate, get_or_past}
+use Rattle.std.specs.Simd.{first_chunks}
 use Rattle.hash_parts.specs.ZeroBytes.{bytes_of, number_of}
 use Rattle.hash_parts.proofs.Bytes.{Bytes, no_bytes, one_byte, length_bytes, number_append}
 use Rattle.records.specs.Area.{over, part, pasted}
@@ -37,6 +38,14 @@ unfolding number_of
 word_is l h =
     let none : number_of (drop 8 l) ≡ 0 = rw (drop_all 8 l (omega arith)) in
     omega (arith, none, number_step l 0, number_step l 1, number_step l 2, number_step l 3, number_step l 4, number_step l 5, number_step l 6, number_step l 7)
+
+-- eight bytes of some
+pub chunk_at : (k : ℕ) (l : List ℕ) (i : ℕ) (d : List ℕ) → i < k → get_or (first_chunks 8 k l) i d ≡ part (8 * i) 8 l
+chunk_at zero l i d h = absurd (omega arith)
+chunk_at (suc k) l zero d h = refl
+chunk_at (suc k) l (suc i) d h =
+    let e : 8 + 8 * i ≡ 8 * suc i = omega arith in
+    chunk_at k (drop 8 l) i d (omega arith) ∙ ap (take 8) (drop-drop (8 * i) 8 l) ∙ ap (λ (j : ℕ). part j 8 l) e
 
 zeros_number : (n : ℕ) → number_of (replicate n 0) ≡ 0
 unfolding number_of

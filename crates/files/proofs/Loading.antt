@@ -14,13 +14,13 @@ use Rattle.records.proofs.Area.{over_pasted}
 use Rattle.index.specs.Packed.{unmarked_byte, words_of}
 use Rattle.index.specs.Segments.{padded}
 use Rattle.index.specs.Word.{unmarked}
-use Rattle.index.proofs.Buckets.{buckets_few}
 use Rattle.sets.specs.Answers.{Reply, accept, refuse}
 use Rattle.sets.specs.Lookup.{areas_hold_lookup, areas_hold_set, set_fits}
-use Rattle.sets.specs.Questions.{arena_holds, counts_fit, decided, first_no, segment_areas_hold, setting_fits}
+use Rattle.sets.specs.Questions.{arena_holds, counts_fit, decided, first_no, segment_areas_hold}
 use Rattle.sets.specs.declared.cache.FrozenSegmentCache.{FrozenSegmentCache}
 use Rattle.sets.proofs.Asked.{then}
-use Rattle.sets.proofs.Counts.{both, setting_occupied}
+use Rattle.sets.proofs.Counts.{both}
+use Rattle.sets.proofs.Finding as finding
 use Rattle.files.specs.Blocks.{content_of, frames_well, kinds_from}
 use Rattle.files.specs.Contents.{ask_file, buckets_of, content_fits, file_filter, file_index, file_set, filter_words_of, records_in, segment_lengths, setting_in, starts_by, sum, unmarked_index}
 use Rattle.files.specs.Copies.{masked_by}
@@ -28,7 +28,8 @@ use Rattle.files.specs.Load.{Loaded, after_load, ask_load, load_areas_hold, need
 use Rattle.files.specs.Plan.{blocks_fit, file_asked}
 use Rattle.files.specs.declared.load.FileNeeds.{FileNeeds}
 use Rattle.files.proofs.Masks.{control_masked, word_masked}
-use Rattle.files.proofs.Passes.{words_of_length}
+use Rattle.index.proofs.PackingLoop.{length_words}
+use Rattle.files.proofs.Pieces.{map_same}
 use Rattle.files.proofs.Told.{ContentTold, content_told}
 
 -- ---- words
@@ -43,14 +44,10 @@ words_split (suc a) b l =
     ∙ ap (λ (r : List ℕ). number_of (take 8 l) ∷ r)
     (words_split a b (drop 8 l) ∙ ap (λ (r : List ℕ). words_of a (drop 8 l) ++ words_of b r) (drop-drop (8 * a) 8 l ∙ ap (λ (k : ℕ). drop k l) n))
 
-each : (f g : ℕ → ℕ) → ((w : ℕ) → f w ≡ g w) → (l : List ℕ) → map f l ≡ map g l
-each f g e [] = refl
-each f g e (w ∷ l) = ap₂ (λ (x : ℕ) (r : List ℕ). x ∷ r) (e w) (each f g e l)
-
 -- an index of words
 pub index_words : (buckets : ℕ) (l : List ℕ) → map (masked_by 0x7fff_ffff_ffff_ffff) (words_of (8 * buckets) l) ≡ unmarked_index false buckets (words_of (8 * buckets) l)
 unfolding unmarked_index
-index_words buckets l = each (masked_by 0x7fff_ffff_ffff_ffff) unmarked word_masked (words_of (8 * buckets) l)
+index_words buckets l = map_same (masked_by 0x7fff_ffff_ffff_ffff) unmarked word_masked (words_of (8 * buckets) l)
 
 -- a packed one: its control words, then its references
 pub index_packed : (buckets rest : ℕ) (l : List ℕ) → 8 * buckets ≡ buckets + rest
@@ -59,9 +56,9 @@ unfolding unmarked_index
 index_packed buckets rest l e =
     let f : ℕ → ℕ = λ w. number_of (map unmarked_byte (bytes_of 8 w)) in
     let both_parts : words_of (8 * buckets) l ≡ words_of buckets l ++ words_of rest (drop (8 * buckets) l) = ap (λ (n : ℕ). words_of n l) e ∙ words_split buckets rest l in
-    let n = words_of_length buckets l in
+    let n = length_words buckets l in
     ap₂ (λ (x y : List ℕ). x ++ y)
-    (each (masked_by 0x7f7f_7f7f_7f7f_7f7f) f control_masked (words_of buckets l)
+    (map_same (masked_by 0x7f7f_7f7f_7f7f_7f7f) f control_masked (words_of buckets l)
     ∙ ap (map f) (sym (ap (take buckets) both_parts ∙ take_at (words_of buckets l) (words_of rest (drop (8 * buckets) l)) buckets n)))
     (sym (ap (drop buckets) both_parts ∙ drop_at (words_of buckets l) (words_of rest (drop (8 * buckets) l)) buckets n))
 
@@ -71,7 +68,7 @@ pub index_two : (buckets rest : ℕ) (l tail index out out' : List ℕ) → 8 * 
     → out' ≡ over (unmarked_index true buckets (words_of (8 * buckets) l)) index
 index_two buckets rest l tail index out out' e t p q =
     let controls : List ℕ = map (masked_by 0x7f7f_7f7f_7f7f_7f7f) (words_of buckets l) in
-    let n : length controls ≡ buckets = length-map (words_of buckets l) (masked_by 0x7f7f_7f7f_7f7f_7f7f) ∙ words_of_length buckets l in
+    let n : length controls ≡ buckets = length-map (words_of buckets l) (masked_by 0x7f7f_7f7f_7f7f_7f7f) ∙ length_words buckets l in
     q
     ∙ ap₂ (λ (x y : List ℕ). pasted buckets (words_of rest x) y) t p
     ∙ over_pasted controls (words_of rest (drop (8 * buckets) l)) index buckets n
@@ -143,13 +140,10 @@ module _ (f : List ℕ) where
       content_told f v.0
 
   pub few_buckets : first_no (ask_file f) ≡ 0 → buckets_of f ≤ 1_048_600
-  unfolding set_fits counts_fit
+  unfolding set_fits
   few_buckets e =
       let a = both (counts_fit (setting_in f) (records_in f) (buckets_of f) (filter_words_of f)) _ (told e).numbers in
-      let b = both (setting_fits (setting_in f)) _ a.0 in
-      let c = both (leb (records_in f) 1_048_576) _ b.1 in
-      let n : records_in f ≤ 1_048_576 = leb-true _ _ c.0 in
-      omega (arith, n, setting_occupied (setting_in f) b.0, buckets_few (records_in f) (setting_in f).target_occupied_slots)
+      omega (arith, finding.few_buckets _ _ _ _ a.0)
 
   pub record BlocksTold : Type 0 where
     pub index : length (content_of 2 f) ≡ 64 * buckets_of f
@@ -174,7 +168,7 @@ module _ (f : List ℕ) where
       record {
         index = eqb-true _ _ b.0;
         filter = eqb-true _ _ c.0;
-        segments = omega (arith, words_of_length (length (content_of 1 f) / 8) (content_of 1 f));
+        segments = omega (arith, length_words (length (content_of 1 f) / 8) (content_of 1 f));
         adds_up = omega arith;
       }
 

@@ -128,8 +128,9 @@ mask_small : (h : ℕ) → filter_mask h < 2 ^ 64
 unfolding filter_mask
 mask_small h =
     let second : second_bit h < 64 = past_small (first_bit h) (first_bit h) (mixed_hash h / 2 ^ 21 % 64) (omega arith) in
+    let mixed : ℕ = mixed_hash h / 2 ^ 42 % 64 in
     let third : third_bit h < 64 =
-    past_small (first_bit h) (second_bit h) (bit_past (first_bit h) (second_bit h) (mixed_hash h / 2 ^ 42 % 64)) (past_small (first_bit h) (second_bit h) (mixed_hash h / 2 ^ 42 % 64) (omega arith)) in
+    past_small (first_bit h) (second_bit h) (bit_past (first_bit h) (second_bit h) mixed) (past_small (first_bit h) (second_bit h) mixed (omega arith)) in
     let one : first_bit h < 64 = omega arith in
     or_lt 64 (bit_or (2 ^ first_bit h) (2 ^ second_bit h)) (2 ^ third_bit h) (or_lt 64 (2 ^ first_bit h) (2 ^ second_bit h) (pow-lt one) (pow-lt second)) (pow-lt third)
 

@@ -1,15 +1,17 @@
 -- A set that was loaded, of any file, passes question 1 with its areas. Assumes nothing.
-use mathlib.Core.Path.{◌≡◌, refl, ap, ◌∙◌}
+use mathlib.Core.Path.{◌≡◌, refl, ◌∙◌}
 use mathlib.Core.Bool.{true}
 use mathlib.Core.List.{List}
-use Prim.Native.Nat.{ℕ, zero, suc, ◌*◌, ◌/◌, ◌≤◌}
+use Prim.Native.Nat.{ℕ, ◌*◌, ◌/◌, ◌≤◌}
 use native.Mathlib.Omega.{arith}
-use lib.ListN.{length, drop, length-append, length-drop}
+use lib.ListN.{length}
 use borrow.Author.Tests.{eq-eqb, le-leb}
 use Rattle.records.specs.Area.{over}
+use Rattle.records.proofs.Area.{over_length}
 use Rattle.index.specs.Packed.{words_of}
 use Rattle.index.specs.Segments.{padded}
 use Rattle.index.proofs.Filling.{over_padded_length}
+use Rattle.index.proofs.PackingLoop.{length_words}
 use Rattle.sets.specs.Lookup.{areas_hold_lookup, areas_hold_set, set_fits}
 use Rattle.sets.specs.Questions.{arena_holds, counts_fit, segment_areas_hold}
 use Rattle.sets.specs.Rebuild.{areas_hold_source, segments_inside}
@@ -20,23 +22,15 @@ use Rattle.files.specs.Contents.{buckets_of, file_filter, file_index, file_set, 
 use Rattle.files.proofs.Asked.{FileAsked, LoadAsked}
 use Rattle.files.proofs.Low.{unmarked_length}
 
-pub words_of_length : (n : ℕ) (l : List ℕ) → length (words_of n l) ≡ n
-unfolding words_of
-words_of_length zero l = refl
-words_of_length (suc n) l = ap suc (words_of_length n (drop 8 l))
-
-pub over_length : (s area : List ℕ) → length s ≤ length area → length (over s area) ≡ length area
-over_length s area h = omega (arith, length-append s (drop (length s) area), length-drop (length s) area)
+pub segments_are : (f : List ℕ) → length (segment_lengths f) ≡ length (content_of 1 f) / 8
+segments_are f = length_words (length (content_of 1 f) / 8) (content_of 1 f)
 
 module _ (f : List ℕ) (asked : FileAsked f) where
-  segments_are : length (segment_lengths f) ≡ length (content_of 1 f) / 8
-  segments_are = words_of_length (length (content_of 1 f) / 8) (content_of 1 f)
-
   pub few_segments : length (segment_lengths f) ≤ 256
-  few_segments = omega (arith, segments_are, asked.few_segments)
+  few_segments = omega (arith, segments_are f, asked.few_segments)
 
   some_segment : 1 ≤ length (segment_lengths f)
-  some_segment = omega (arith, segments_are, asked.some_segment)
+  some_segment = omega (arith, segments_are f, asked.some_segment)
 
   counts : counts_fit (setting_in f) (file_set f).entries (buckets_of f) (filter_words_of f) ≡ true
   unfolding counts_fit
@@ -53,7 +47,7 @@ module _ (f : List ℕ) (asked : FileAsked f) where
 
   pub index_long : length (file_index f) ≡ 8 * buckets_of f
   index_long =
-      let n = words_of_length (8 * buckets_of f) (content_of 2 f) in
+      let n = length_words (8 * buckets_of f) (content_of 2 f) in
       unmarked_length (setting_in f).packed_bucket_index (buckets_of f) (words_of (8 * buckets_of f) (content_of 2 f)) (omega (arith, n)) ∙ n
 
   pub load_passes : (index filter starts lengths arena : List ℕ) → LoadAsked f index filter starts lengths arena
@@ -62,7 +56,7 @@ module _ (f : List ℕ) (asked : FileAsked f) where
       ≡ true
   load_passes index filter starts lengths arena a =
       let n = over_length (file_index f) index (omega (arith, index_long, a.index_holds)) in
-      let m = over_length (file_filter f) filter (omega (arith, words_of_length (filter_words_of f) (content_of 3 f), a.filter_holds)) in
+      let m = over_length (file_filter f) filter (omega (arith, length_words (filter_words_of f) (content_of 3 f), a.filter_holds)) in
       let u = over_padded_length (starts_by 0 (segment_lengths f)) starts a.starts_hold in
       let v = over_padded_length (segment_lengths f) lengths a.lengths_hold in
       let r = over_length (content_of 4 f) arena a.arena_held in

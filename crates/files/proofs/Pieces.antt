@@ -47,7 +47,7 @@ word_bytes_append [] b = refl
 word_bytes_append (w ∷ l) b = ap (λ (x : List ℕ). bytes_of 8 w ++ x) (word_bytes_append l b) ∙ sym (append_assoc (bytes_of 8 w) (word_bytes l) (word_bytes b))
 
 module _ (f g : ℕ → ℕ) (same : (w : ℕ) → f w ≡ g w) where
-  map_same : (l : List ℕ) → map f l ≡ map g l
+  pub map_same : (l : List ℕ) → map f l ≡ map g l
   map_same [] = refl
   map_same (w ∷ l) = ap₂ (λ (x : ℕ) (y : List ℕ). x ∷ y) (same w) (map_same l)
 

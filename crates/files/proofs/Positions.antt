@@ -88,5 +88,3 @@ none_left (b ∷ g) e = absurd (let z = eqb-true (suc (length g)) 0 e in omega a
 pub some_left : (g : List ℕ) → eqb (length g) 0 ≡ false → 0 < length g
 some_left [] e = cc
 some_left (b ∷ g) e = omega arith
-
--- ---- the content, as much of it as there is

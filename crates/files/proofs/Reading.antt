@@ -43,15 +43,6 @@ pub sum_short : (l : List ℕ) → length l < 8 → sum (all_words l) ≡ 0
 unfolding words_of
 sum_short l h = let none : length l / 8 ≡ 0 = omega arith in rw none
 
-front : (l : List ℕ) (i : ℕ) → sum (take (suc i) l) ≡ sum (take i l) + get_or l i 0
-front [] zero = refl
-front [] (suc i) = refl
-front (x ∷ l) zero = omega arith
-front (x ∷ l) (suc i) = omega (arith, front l i)
-
-pub sum_front : (l : List ℕ) (i : ℕ) → sum (take (i + 1) l) ≡ sum (take i l) + get_or l i 0
-sum_front l i = rw (add-one i) (front l i)
-
 pub sum_within : (l : List ℕ) (i : ℕ) → sum (take i l) + get_or l i 0 ≤ sum l
 sum_within [] zero = omega arith
 sum_within [] (suc i) = omega arith

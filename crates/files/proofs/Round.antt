@@ -18,7 +18,7 @@ use Rattle.sets.specs.declared.cache.FrozenSegmentCache.{FrozenSegmentCache}
 use Rattle.sets.proofs.Counts.{both, counts_buckets, counts_records, counts_setting, counts_words, setting_occupied}
 use Rattle.sets.proofs.Finding.{few_buckets, few_words}
 use Rattle.files.specs.Blocks.{block, content_of}
-use Rattle.files.specs.Contents.{buckets_of, file_filter, file_index, filter_words_of, records_in, segment_lengths, setting_in, unmarked_index, widths}
+use Rattle.files.specs.Contents.{buckets_of, file_filter, file_index, filter_words_of, segment_lengths, setting_in, unmarked_index, widths}
 use Rattle.files.specs.Typed.{Typed, SecondsFit}
 use Rattle.files.specs.Write.{count_bytes, count_numbers, file_of, file_size, segment_bytes}
 use Rattle.files.proofs.Asked.{WriteAsked}
@@ -184,9 +184,6 @@ module _ (s : FrozenSegmentCache) (index filter starts lengths arena out : List 
 
   pub segments_back : content_of 4 file ≡ c5
   segments_back = contents.4
-
-  pub records_back : records_in file ≡ s.entries
-  records_back = back.records
 
   -- the file is what the writer says of its area
   pub file_taken : take (file_size s lengths) (file ++ drop (length file) out) ≡ file

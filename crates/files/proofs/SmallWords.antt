@@ -16,6 +16,7 @@ use Rattle.index.specs.Packed.{control_byte, control_word, marked_byte, packed, 
 use Rattle.index.specs.Walk.{buckets_of}
 use Rattle.index.specs.Word.{unmarked}
 use Rattle.hash_parts.proofs.Bytes.{Bytes, bytes_append, bytes_drop, bytes_of_law, bytes_set, bytes_take, length_bytes, number_small, no_bytes, one_byte}
+use Rattle.index.proofs.PackingLoop.{length_words}
 use Rattle.index.proofs.Packing.{control_small, reference_bytes_law}
 use Rattle.index.proofs.Walks.{length_buckets}
 use Rattle.sets.specs.Lookup.{slot_cleared, slot_marked}
@@ -83,16 +84,11 @@ unfolding flat_map reference_words
 references [] = no_words
 references (b ∷ bs) = words_append (words_of_law 7 (references_bytes b)) (references bs)
 
-seven : (n : ℕ) (l : List ℕ) → length (words_of n l) ≡ n
-unfolding words_of
-seven zero l = refl
-seven (suc n) l = ap suc (seven n (drop 8 l))
-
 references_length : (bs : List (List ℕ)) → length (flat_map reference_words bs) ≡ 7 * length bs
 unfolding flat_map reference_words
 references_length [] = refl
 references_length (b ∷ bs) =
-    omega (arith, length-append (words_of 7 (flat_map reference_bytes b)) (flat_map reference_words bs), seven 7 (flat_map reference_bytes b), references_length bs)
+    omega (arith, length-append (words_of 7 (flat_map reference_bytes b)) (flat_map reference_words bs), length_words 7 (flat_map reference_bytes b), references_length bs)
 
 packed_words : (buckets : ℕ) (index : List ℕ) → Words (take (8 * buckets) (packed buckets index))
 unfolding packed

@@ -13,9 +13,11 @@ use Rattle.sets.specs.Questions.{all, bytes_fit, counts_fit, setting_fits}
 use Rattle.sets.specs.declared.cache.FrozenSegmentCache.{FrozenSegmentCache}
 use Rattle.sets.proofs.Counts.{both}
 use Rattle.files.specs.Blocks.{content_of}
-use Rattle.files.specs.Contents.{buckets_of, content_fits, field, file_set, filter_words_of, records_in, segment_count_fits, segment_lengths, setting_in, tick_fits}
+use Rattle.files.specs.Contents.{buckets_of, content_fits, field, file_set, filter_words_of, records_in, segment_lengths, setting_in}
 use Rattle.files.specs.Plan.{blocks_fit, flags_fit}
-use Rattle.files.proofs.Passes.{words_of_length}
+use Rattle.files.proofs.Asked.{content_asked}
+use Rattle.files.proofs.Passes.{segments_are}
+use Rattle.index.proofs.PackingLoop.{length_words}
 
 bool_same : {b c : Bool} → (b ≡ true → c ≡ true) → (c ≡ true → b ≡ true) → b ≡ c
 bool_same {b} {c} there back = go b c there back
@@ -45,7 +47,7 @@ module _ (f : List ℕ) where
       })
       (file_set f)
   set_is c records buckets words segments bytes keys values headers p q r s t u v w x =
-      let n : segments ≡ length (segment_lengths f) = t ∙ sym (words_of_length (length (content_of 1 f) / 8) (content_of 1 f)) in
+      let n : segments ≡ length (segment_lengths f) = t ∙ sym (length_words (length (content_of 1 f) / 8) (content_of 1 f)) in
       rw (p, q, r, s, n, u, v, w, x)
 
   -- ---- what 15 asks
@@ -56,38 +58,21 @@ module _ (f : List ℕ) where
     pub numbers : set_fits (file_set f) ≡ true
     pub blocks : blocks_fit (buckets_of f) (filter_words_of f) f ≡ true
 
-  segments_are : length (segment_lengths f) ≡ length (content_of 1 f) / 8
-  segments_are = words_of_length (length (content_of 1 f) / 8) (content_of 1 f)
-
   pub content_told : content_fits f ≡ true → ContentTold
-  unfolding content_fits flags_fit set_fits counts_fit blocks_fit
+  unfolding flags_fit set_fits counts_fit blocks_fit
   content_told e =
-      let a₁ = both (eqb (length (content_of 0 f)) 44) _ e in
-      let a₂ = both (leb (field 0 f) 1) _ a₁.1 in
-      let a₃ = both (leb (field 4 f) 1) _ a₂.1 in
-      let a₄ = both (tick_fits f) _ a₃.1 in
-      let a₅ = both (setting_fits (setting_in f)) _ a₄.1 in
-      let a₆ = both (leb (records_in f) 1_048_576) _ a₅.1 in
-      let a₇ = both (bytes_fit (records_in f) (field 7 f)) _ a₆.1 in
-      let a₈ = both (bytes_fit (records_in f) (field 8 f)) _ a₇.1 in
-      let a₉ = both (bytes_fit (records_in f) (field 9 f)) _ a₈.1 in
-      let b₁ = both (segment_count_fits (length (content_of 1 f))) _ a₉.1 in
-      let b₂ = both (eqb (length (content_of 2 f)) (64 * buckets_of f)) _ b₁.1 in
-      let b₃ = both (eqb (length (content_of 3 f)) (8 * filter_words_of f)) _ b₂.1 in
-      let b₄ = both (leb (length (content_of 4 f)) 1_073_741_824) _ b₃.1 in
-      let c₁ = both (eqb (length (content_of 1 f) % 8) 0) _ b₁.0 in
-      let c₂ = both (leb 8 (length (content_of 1 f))) _ c₁.1 in
-      let low : 8 ≤ length (content_of 1 f) = leb-true _ _ c₂.0 in
-      let high : length (content_of 1 f) ≤ 2048 = leb-true _ _ c₂.1 in
-      let some : 1 ≤ length (segment_lengths f) = omega (arith, segments_are) in
-      let few : length (segment_lengths f) ≤ 256 = omega (arith, segments_are) in
+      let a = content_asked f e in
+      let low : 8 ≤ length (content_of 1 f) = leb-true _ _ a.some_segment in
+      let high : length (content_of 1 f) ≤ 2048 = leb-true _ _ a.few_segments in
+      let some : 1 ≤ length (segment_lengths f) = omega (arith, segments_are f) in
+      let few : length (segment_lengths f) ≤ 256 = omega (arith, segments_are f) in
+      let buckets = eq-eqb (buckets_of f) (buckets_of f) refl in
+      let words = eq-eqb (filter_words_of f) (filter_words_of f) refl in
       record {
-        counts_long = eqb-true _ _ a₁.0;
-        flags = rw (a₂.0, a₃.0) a₄.0;
-        numbers =
-            rw (a₅.0, a₆.0, eq-eqb (buckets_of f) (buckets_of f) refl, eq-eqb (filter_words_of f) (filter_words_of f) refl, le-leb _ _ some, le-leb _ _ few, a₇.0, a₈.0)
-            a₉.0;
-        blocks = rw (c₁.0, b₂.0, b₃.0, b₄.0) b₄.1;
+        counts_long = eqb-true _ _ a.counts_long;
+        flags = rw (a.expiry_flag, a.packed_flag) a.tick;
+        numbers = rw (a.setting, a.records, buckets, words, le-leb _ _ some, le-leb _ _ few, a.key_bytes, a.value_bytes) a.header_length;
+        blocks = rw (a.whole_words, a.index, a.filter, a.arena_short) a.adds_up;
       }
 
   pub content_back : ContentTold → content_fits f ≡ true
@@ -109,8 +94,8 @@ module _ (f : List ℕ) where
       let words : length (content_of 1 f) % 8 ≡ 0 = eqb-true _ _ d₁.0 in
       let low : 1 ≤ length (segment_lengths f) = leb-true _ _ b₂.0 in
       let high : length (segment_lengths f) ≤ 256 = leb-true _ _ b₃.0 in
-      let some : 8 ≤ length (content_of 1 f) = omega (arith, segments_are) in
-      let few : length (content_of 1 f) ≤ 2048 = omega (arith, segments_are) in
+      let some : 8 ≤ length (content_of 1 f) = omega (arith, segments_are f) in
+      let few : length (content_of 1 f) ≤ 2048 = omega (arith, segments_are f) in
       rw (
         eq-eqb _ _ t.counts_long,
         a₁.0,

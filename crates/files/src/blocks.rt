@@ -47,6 +47,7 @@ fn kind_in(rest: &[u8]) -> u64
 }
 
 // Whether the block ends in the file.
+#[tactic(auto, unfolding(crate::specs::Blocks::is_whole))]
 fn is_whole(rest: &[u8]) -> bool
     ensures { result ≡ is_whole rest.now }
 {
@@ -54,6 +55,7 @@ fn is_whole(rest: &[u8]) -> bool
 }
 
 // The part of the file behind the block; nothing where it is not whole.
+#[tactic(auto, using(crate::proofs::Positions::broken_behind, crate::proofs::Positions::whole_room))]
 fn behind(rest: &[u8]) -> &[u8]
     ensures { result.now ≡ behind rest.now }
 {

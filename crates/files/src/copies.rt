@@ -32,8 +32,8 @@ pub(crate) fn put_number(out: &mut [u8], number: u64)
     out.copy_from_slice(&number.to_le_bytes()[..width]);
 }
 
-// Writes words as bytes, to an area of their length. Each goes to its position: nothing is known of chunks
-// that a loop lends to be written.
+// Writes words as bytes, to an area of their length. Each goes to its position: nothing is known of an area
+// that was written to by chunks.
 pub(crate) fn put_words(out: &mut [u8], words: &[u64], mask: u64)
     requires { length out.old ≡ 8 * length words.now }
     ensures { out.new ≡ word_bytes (map (masked_by mask) words.now) }
@@ -44,15 +44,15 @@ pub(crate) fn put_words(out: &mut [u8], words: &[u64], mask: u64)
     }
 }
 
-// Reads as many words as are lent, each from its position: nothing is known of words that a zip lends to be
+// Reads as many words as are lent, each by its index: nothing is known of words that a zip lends to be
 // written. The second part of what it ensures comes of the bytes' type: words of bytes fit 64 bits, so that
 // WHOLE changes none of them.
 pub(crate) fn take_words(bytes: &[u8], mask: u64, words: &mut [u64])
     requires { 8 * length words.old ≤ length bytes.now }
     ensures { (words.new ≡ map (masked_by mask) (words_of (length words.old) bytes.now)) × (map (masked_by (2 ^ 64 - 1)) (words_of (length words.old) bytes.now) ≡ words_of (length words.old) bytes.now) }
 {
+    let (chunks, _) = bytes.as_chunks::<WORD_BYTES>();
     for (i, word) in words.iter_mut().enumerate() {
-        let at = WORD_BYTES * i;
-        *word = number_of(&bytes[at..at + WORD_BYTES]) & mask;
+        *word = u64::from_le_bytes(chunks[i]) & mask;
     }
 }

@@ -189,7 +189,9 @@ fn put_unmarked(out: &mut [u8], packed: bool, buckets: usize, index: &[u64])
 
 // Kind 5: the segments' bytes, one after the other.
 fn put_segments(out: &mut [u8], areas: SegmentAreas<'_>)
-    requires { (length areas.starts.now ≡ length areas.lengths.now) × (segments_inside (length areas.lengths.now) (length areas.arena.now) areas.starts.now areas.lengths.now ≡ true) × (length out.old ≡ 6 + sum_of (length areas.lengths.now) areas.lengths.now) }
+    requires counts { length areas.starts.now ≡ length areas.lengths.now }
+    requires inside { segments_inside (length areas.lengths.now) (length areas.arena.now) areas.starts.now areas.lengths.now ≡ true }
+    requires exact { length out.old ≡ 6 + sum_of (length areas.lengths.now) areas.lengths.now }
     ensures { out.new ≡ block 5 (segment_bytes (length areas.entry.lengths.now) areas.entry.starts.now areas.entry.lengths.now areas.entry.arena.now) }
 {
     let (header, content) = out.split_at_mut(HEADER_BYTES);
@@ -198,7 +200,9 @@ fn put_segments(out: &mut [u8], areas: SegmentAreas<'_>)
 }
 
 fn put_segment_bytes(out: &mut [u8], areas: SegmentAreas<'_>)
-    requires { (length areas.starts.now ≡ length areas.lengths.now) × (segments_inside (length areas.lengths.now) (length areas.arena.now) areas.starts.now areas.lengths.now ≡ true) × (length out.old ≡ sum_of (length areas.lengths.now) areas.lengths.now) }
+    requires counts { length areas.starts.now ≡ length areas.lengths.now }
+    requires inside { segments_inside (length areas.lengths.now) (length areas.arena.now) areas.starts.now areas.lengths.now ≡ true }
+    requires exact { length out.old ≡ sum_of (length areas.lengths.now) areas.lengths.now }
     ensures { out.new ≡ segment_bytes (length areas.entry.lengths.now) areas.entry.starts.now areas.entry.lengths.now areas.entry.arena.now }
 {
     let SegmentAreas {

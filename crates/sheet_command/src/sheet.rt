@@ -22,7 +22,8 @@ const FILTER_WORDS: usize = 32_768;
 // 80 pages: a set of at most 4,000 records is printed, a larger one refused by 10.
 const PAGE_AREA_BYTES: usize = 260_000;
 
-// All areas of the program. Together they have 1.25 MiB, and stand on the stack.
+// All areas of the program, which takes no memory from a heap. Together they have 1.25 MiB, and stand on the
+// stack.
 #[derive(Drop)]
 pub(crate) struct SheetAreas {
     pub file: [u8; FILE_AREA_BYTES],

@@ -1,4 +1,4 @@
-// The sheet command on the paper's example with its last byte lost: refusal 13.
+// The sheet command on the file of sheet_run with its last byte lost: refusal 13.
 #![tactic(auto)]
 
 use std::io;

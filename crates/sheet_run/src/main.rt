@@ -1,4 +1,4 @@
-// The sheet of the paper's example.
+// The sheet of an example file. A program is run on one input, so that the refusal is a program of its own.
 #![tactic(auto)]
 
 use std::io;

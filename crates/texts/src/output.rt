@@ -1,5 +1,6 @@
 // Writing text into an output area. Each function writes from a position on and gives the position
-// after what it wrote, which the next call takes; where the text does not fit it writes nothing.
+// after what it wrote; where the text does not fit it writes nothing. Area and position are not one struct: a
+// caller writes at columns of its own, or keeps both in a struct of its own.
 ghost use Rattle.std.specs.Prelude.{◌≡◌, ◌*◌, ◌<◌, ◌≤◌, drop, length};
 ghost use Rattle.texts.specs.Output.{appended, decimal_text, ended_before, hex_digit, hex_text, output};
 
@@ -47,7 +48,8 @@ pub fn put_hex(out: &mut [u8], at: usize, bytes: &[u8]) -> usize
     end
 }
 
-// The digits of a number end an array; and where they begin.
+// The digits of a number end an array; and where they begin. By hand: what std writes of a number through
+// a formatter is known only where that says Ok.
 fn decimal_digits(value: u64) -> ([u8; DECIMAL_DIGITS], usize)
     ensures { (drop result.1 result.0 ≡ decimal_text value) × (result.1 ≤ 20) × (length result.0 ≡ 20) }
 {
@@ -63,7 +65,7 @@ fn decimal_digits(value: u64) -> ([u8; DECIMAL_DIGITS], usize)
     (digits, 0)
 }
 
-// Fills an area that has two bytes to each.
+// Fills an area that has two bytes to each. By index: nothing is known of pairs that a zip lends to be written.
 fn write_hex(out: &mut [u8], bytes: &[u8])
     requires { length out.old ≡ 2 * length bytes.now }
     ensures { out.new ≡ hex_text bytes.now }
@@ -74,6 +76,7 @@ fn write_hex(out: &mut [u8], bytes: &[u8])
     }
 }
 
+// As a byte: std's from_digit gives an option of a character.
 fn hex_digit(value: u8) -> u8
     requires { value < 16 }
     ensures { result ≡ hex_digit value }

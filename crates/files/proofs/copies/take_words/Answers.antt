@@ -1,19 +1,20 @@
 -- `take_words` meets its contract: the words read and those that are left to read are the words of the bytes. Assumes nothing.
 use mathlib.Core.Path.{◌≡◌, refl, sym, ap, ap₂, ◌∙◌}
 use mathlib.Core.List.{List, [], ◌∷◌, map}
-use Prim.Native.Nat.{ℕ, suc, ◌+◌, ◌-◌, ◌*◌, ◌^◌, ◌≤◌, ◌<◌}
+use Prim.Native.Nat.{ℕ, suc, ◌+◌, ◌-◌, ◌*◌, ◌/◌, ◌^◌, ◌≤◌, ◌<◌}
 use native.Mathlib.Nat.{mod-eq_of_lt}
 use native.Mathlib.Omega.{arith}
 use lib.Bits.{and_mask}
-use lib.ListN.{length, drop, take, length-drop, length-map}
+use lib.ListN.{get_or, length, drop, length-drop, length-map}
 use lib.Seq.{drop-drop, length-take-le}
+use Rattle.std.specs.Int.{from_le_bytes, w64}
 use Rattle.hash_parts.specs.ZeroBytes.{number_of}
 use Rattle.records.specs.Area.{part}
 use Rattle.records.proofs.Area.{begin, complete, next_byte}
 use Rattle.index.specs.Packed.{words_of}
 use Rattle.files.specs.Copies.{masked_by}
-use Rattle.files.proofs.Copying.{over_all, part_lent}
-use Rattle.files.proofs.Passes.{words_of_length}
+use Rattle.files.proofs.Copying.{chunk_at, over_all, word_is}
+use Rattle.index.proofs.PackingLoop.{length_words}
 use Rattle.files.proofs.copies.take_words.Invariants.{Fitting, from}
 use Rattle.files.proofs.copies.take_words.Goals as goal
 
@@ -34,7 +35,7 @@ loop-i-init c =
     let n = length a.words.now in
     let w = words_of n a.bytes.now in
     let e : n - 0 ≡ n = omega arith in
-    let short : length (map (masked_by a.mask) w) ≤ n = omega (arith, length-map w (masked_by a.mask), words_of_length n a.bytes.now) in
+    let short : length (map (masked_by a.mask) w) ≤ n = omega (arith, length-map w (masked_by a.mask), length_words n a.bytes.now) in
     (rw e (begin (map (masked_by a.mask) w) a.words.now short), λ f. rw e at f)
 
 pub loop-i-preserved : goal.loop-i-preserved
@@ -42,15 +43,14 @@ loop-i-preserved c =
     let l = c.loop-i in
     let a = c.args in
     let n = length a.words.now in
-    let w = c.number_of.result in
+    let w = c.from_le_bytes.result in
     let rest = from a.bytes.now n (l.i + 1) in
-    let lent : take (8 * l.i + 8 - 8 * l.i) (drop (8 * l.i) a.bytes.now) ≡ part (8 * l.i) 8 a.bytes.now = part_lent (8 * l.i) (8 * l.i + 8) 8 a.bytes.now refl in
     let eight : length (part (8 * l.i) 8 a.bytes.now) ≡ 8 = length-take-le 8 (drop (8 * l.i) a.bytes.now) (omega (arith, length-drop (8 * l.i) a.bytes.now)) in
-    let one : from a.bytes.now n l.i ≡ w ∷ rest =
-    one_word a.bytes.now n l.i (omega arith) ∙ ap (λ (x : ℕ). x ∷ rest) (sym (c.number_of.ensures.0 ∙ ap number_of lent)) in
-    let small : w < 2 ^ 64 = rw (lent, eight) at c.number_of.ensures.1 in (
+    let chunk = ap (λ (cs : List (List ℕ)). get_or cs l.i []) c.as_chunks.ensures.front ∙ chunk_at (length a.bytes.now / 8) a.bytes.now l.i [] (omega arith) in
+    let value = c.from_le_bytes.ensures ∙ ap (from_le_bytes w64) chunk ∙ word_is (part (8 * l.i) 8 a.bytes.now) eight in
+    let one : from a.bytes.now n l.i ≡ w ∷ rest = one_word a.bytes.now n l.i (omega arith) ∙ ap (λ (x : ℕ). x ∷ rest) (sym value) in (
       next_byte (masked_by a.mask w) (map (masked_by a.mask) rest) l.invariant.0 (ap (map (masked_by a.mask)) one),
-      λ f. l.invariant.1 (rw one (fitting_more w rest small f)),
+      λ f. l.invariant.1 (rw one (fitting_more w rest c.from_le_bytes.type_inv f)),
     )
 
 pub returns : goal.returns
@@ -62,5 +62,5 @@ returns c =
     let whole = map (masked_by a.mask) (words_of n a.bytes.now) in
     let z : n - l.i ≡ 0 = omega arith in
     let none : from a.bytes.now n l.i ≡ [] = ap (λ (k : ℕ). words_of k (drop (8 * l.i) a.bytes.now)) z in
-    let long : length whole ≡ n = length-map (words_of n a.bytes.now) (masked_by a.mask) ∙ words_of_length n a.bytes.now in
+    let long : length whole ≡ n = length-map (words_of n a.bytes.now) (masked_by a.mask) ∙ length_words n a.bytes.now in
     ((complete l.invariant.0 (ap (map (masked_by a.mask)) none)).1 ∙ over_all whole a.words.now (sym long), l.invariant.1 (rw none refl))

@@ -9,12 +9,12 @@ use Rattle.files.specs.Contents.{unmarked_index}
 use Rattle.files.specs.Copies.{masked_by}
 use Rattle.files.proofs.Copying.{front_home, mid_home}
 use Rattle.files.proofs.Loading.{index_two, index_words}
-use Rattle.files.proofs.Passes.{words_of_length}
+use Rattle.index.proofs.PackingLoop.{length_words}
 use Rattle.files.proofs.load.load_index.Goals as goal
 
 -- so many words, masked
 masked_length : (mask n : ℕ) (l : List ℕ) → length (map (masked_by mask) (words_of n l)) ≡ n
-masked_length mask n l = length-map (words_of n l) (masked_by mask) ∙ words_of_length n l
+masked_length mask n l = length-map (words_of n l) (masked_by mask) ∙ length_words n l
 
 pub returns-then-not-packed : goal.returns-then-not-packed
 returns-then-not-packed c =
@@ -46,5 +46,5 @@ returns c =
     omega (arith, length-drop b out, ap length one, over_length controls a.index.now (omega (arith, masked_length 0x7f7f_7f7f_7f7f_7f7f b l))) in
     let some : length (take rest (drop b out)) ≡ rest = length-take-le rest (drop b out) (omega arith) in
     let two : u.new.words ≡ words_of rest tail = rw some at (u.ensures.0 ∙ u.ensures.1) in
-    index_two b rest l tail a.index.now out _ (omega arith) all one (mid_home (words_of rest tail) u.new.words out b rest two (words_of_length rest tail))
+    index_two b rest l tail a.index.now out _ (omega arith) all one (mid_home (words_of rest tail) u.new.words out b rest two (length_words rest tail))
     ∙ ap (λ (p : Bool). over (unmarked_index p b (words_of (8 * b) l)) a.index.now) (sym c.if-not-packed.false)

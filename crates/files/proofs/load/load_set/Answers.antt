@@ -17,7 +17,7 @@ use Rattle.files.specs.Contents.{file_set, starts_by, unmarked_index}
 use Rattle.files.specs.Load.{load_areas_hold}
 use Rattle.files.proofs.Loading.{AreasHold, areas_same, areas_told, blocks_told, load_done, load_short}
 use Rattle.files.proofs.Copying.{front_home, padded_front}
-use Rattle.files.proofs.Passes.{words_of_length}
+use Rattle.index.proofs.PackingLoop.{length_words}
 use Rattle.files.proofs.Reading.{all_words}
 use Rattle.files.proofs.load.load_set.Goals as goal
 use Rattle.files.proofs.load.load_set.Goals.{After-load_lengths, Else-not-lookup_areas_hold}
@@ -64,7 +64,7 @@ segments_are f s e = sym (ap (λ (x : FrozenSegmentCache). x.segments) e)
 lengths_back : (f area : List ℕ) (s : FrozenSegmentCache) → s ≡ file_set f → length (content_of 1 f) / 8 ≤ 256
     → take s.segments (over (padded (all_words (content_of 1 f))) area) ≡ all_words (content_of 1 f)
 lengths_back f area s e few =
-    padded_front (all_words (content_of 1 f)) area s.segments (segments_are f s e) (omega (arith, segments_are f s e, words_of_length (length (content_of 1 f) / 8) (content_of 1 f)))
+    padded_front (all_words (content_of 1 f)) area s.segments (segments_are f s e) (omega (arith, segments_are f s e, length_words (length (content_of 1 f) / 8) (content_of 1 f)))
 
 pub load_index-requires : goal.load_index-requires
 load_index-requires c =
@@ -119,7 +119,7 @@ load_starts-requires c =
     let at = goal.at.load_starts-requires c in
     let t = blocks_told c.args.file.now c.requires.1 in
     let words = front at.After-load_lengths c.requires.0 t.segments in
-    let few = words_of_length (length (content_of 1 c.args.file.now) / 8) (content_of 1 c.args.file.now) in
+    let few = length_words (length (content_of 1 c.args.file.now) / 8) (content_of 1 c.args.file.now) in
     rw words (omega (arith, few, t.segments), (told at.Else-not-lookup_areas_hold).starts_hold, t.adds_up)
 
 -- the bytes in the arena
@@ -150,7 +150,7 @@ returns c =
     (c.load_index.ensures
     ∙ ap₂ (λ (s : FrozenSegmentCache) (l : List ℕ). over (unmarked_index s.config.packed_bucket_index s.buckets (words_of (8 * s.buckets) l)) a.index.now) c.requires.0
     c.content_of.ensures)
-    (front_home (words_of a.set.filter_words c.content_of-filter_bytes.result.now) c.take_words.new.words a.filter.now a.set.filter_words words (words_of_length _ _)
+    (front_home (words_of a.set.filter_words c.content_of-filter_bytes.result.now) c.take_words.new.words a.filter.now a.set.filter_words words (length_words _ _)
     ∙ ap₂ (λ (s : FrozenSegmentCache) (l : List ℕ). over (words_of s.filter_words l) a.filter.now) c.requires.0 c.content_of-filter_bytes.ensures)
     (c.load_starts.ensures ∙ ap (λ (l : List ℕ). over (padded (starts_by 0 l)) a.starts.now) (front at.After-load_lengths c.requires.0 t.segments))
     (loaded at.After-load_lengths)

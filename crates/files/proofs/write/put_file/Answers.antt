@@ -68,12 +68,16 @@ slice_bounds-segments-end c = sym (starts_front (goal.at.slice_bounds-segments-e
 
 pub put_segments-requires : goal.put_segments-requires
 put_segments-requires c =
-    let s = (goal.at.put_segments-requires c).Start in (
-      starts_front s ∙ sym (lengths_front s),
-      rw (lengths_front s) (inside s),
-      rw (lengths_front s, sum_is s)
-          (omega (arith, c.requires.exact, c.split_at_mut-counts.ensures.back_len, c.split_at_mut-out.ensures.back_len, c.split_at_mut-out-2.ensures.back_len, c.split_at_mut-out-3.ensures.back_len)),
-    )
+    let s = (goal.at.put_segments-requires c).Start in
+    let one = c.split_at_mut-counts.ensures.back_len in
+    let two = c.split_at_mut-out.ensures.back_len in
+    let three = c.split_at_mut-out-2.ensures.back_len in
+    let four = c.split_at_mut-out-3.ensures.back_len in
+    record {
+      counts = starts_front s ∙ sym (lengths_front s);
+      inside = rw (lengths_front s) (inside s);
+      exact = rw (lengths_front s, sum_is s) (omega (arith, c.requires.exact, one, two, three, four));
+    }
 
 pub returns : goal.returns
 unfolding file_of

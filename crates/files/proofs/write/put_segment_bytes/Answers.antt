@@ -18,8 +18,8 @@ long : (s : Start) → let a = s.args.areas in length (segment_bytes (length a.l
 long s =
     let a = s.args.areas in
     let n = length a.lengths.now in
-    segments_length a.starts.now a.lengths.now a.arena.now n (le_refl n) (segments_each (length a.arena.now) a.starts.now a.lengths.now n s.requires.1)
-    ∙ sym s.requires.2
+    segments_length a.starts.now a.lengths.now a.arena.now n (le_refl n) (segments_each (length a.arena.now) a.starts.now a.lengths.now n s.requires.inside)
+    ∙ sym s.requires.exact
 
 -- the segment of a turn, and the others
 module _ (c : In-Some) where
@@ -43,7 +43,7 @@ module _ (c : In-Some) where
 
   inside : start + size ≤ length areas.arena.now
   inside =
-      omega (arith, stands.2, stands.3, segments_each (length areas.arena.now) areas.starts.now areas.lengths.now (length areas.lengths.now) c.requires.1 turn stands.1)
+      omega (arith, stands.2, stands.3, segments_each (length areas.arena.now) areas.starts.now areas.lengths.now (length areas.lengths.now) c.requires.inside turn stands.1)
 
   abbrev here : List ℕ
   here = part start size areas.arena.now
@@ -100,5 +100,5 @@ returns c =
     let i = length c.loop-start.yielded in
     let ended = zip_end a.starts.now a.lengths.now c.loop-start.yielded c.into_iter-start-iterator.result _ c.next.new.self _ (search rules) (search rules)
     c.loop-start.yielded_by c.in-None.is c.next.ensures.steps in
-    let none = from_last a.starts.now a.lengths.now a.arena.now i (length a.lengths.now - i) (omega (arith, ended, c.requires.0)) in
+    let none = from_last a.starts.now a.lengths.now a.arena.now i (length a.lengths.now - i) (omega (arith, ended, c.requires.counts)) in
     (complete c.loop-start.invariant none).1 ∙ over_all _ c.args.out.now (sym (long (goal.at.returns c).Start))

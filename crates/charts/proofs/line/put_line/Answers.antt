@@ -1,4 +1,4 @@
--- `put_fields` meets its contract: four texts over a blank line. Assumes nothing.
+-- `put_line` meets its contract: four texts over a blank line. Assumes nothing.
 use mathlib.Core.List.{List}
 use mathlib.Core.Path.{◌≡◌, ap, ◌∙◌}
 use Prim.Native.Nat.{◌-◌, ◌≤◌}
@@ -9,7 +9,7 @@ use Rattle.texts.specs.Output.{decimal_text, hex_text}
 use Rattle.texts.proofs.Spelling.{appended_parts, decimal_short, ended_fits, hex_length_law}
 use Rattle.charts.specs.Line.{blank, deadline_text}
 use Rattle.charts.proofs.Columns.{deadline_short, line_written}
-use Rattle.charts.proofs.line.put_fields.Goals as goal
+use Rattle.charts.proofs.line.put_line.Goals as goal
 
 pub returns : goal.returns
 returns c =
