@@ -1,38 +1,13 @@
 // Settings, states and statistics as words.
 ghost use Rattle.std.specs.Prelude.{◌≡◌};
 ghost use Rattle.std.proofs.Common.{lit<};
-ghost use Rattle.capi.specs.Words.{builder_words, expiry_words, rebuild_words, set_words, setting_words, stats_words};
+ghost use Rattle.capi.specs.Words.{builder_words, rebuild_words, set_words, stats_words};
 
-use crate::words::{BUILDER_WORDS, REBUILD_WORDS, SET_WORDS, SETTING_WORDS, STATS_WORDS, ToWords};
-use hash_parts::setting::{SegmentCacheConfig, SegmentExpiry};
+use crate::words::{BUILDER_WORDS, REBUILD_WORDS, SET_WORDS, STATS_WORDS, ToWords};
 use sets::builder::SegmentCacheBuilder;
 use sets::cache::FrozenSegmentCache;
 use sets::rebuild::SharedSegmentCacheBuilder;
 use sets::stats::SegmentCacheStats;
-
-// The flag, and the tick's seconds and nanoseconds: three zeros without expiry.
-fn expiry_words(expiry: SegmentExpiry) -> [u64; 3]
-    ensures { result ≡ expiry_words expiry }
-{
-    match expiry {
-        SegmentExpiry::None => [0; 3],
-        SegmentExpiry::Relative16 { tick } => [1, tick.secs, u64::from(tick.nanos)],
-    }
-}
-
-fn setting_words(config: SegmentCacheConfig) -> [u64; SETTING_WORDS]
-    ensures { result ≡ setting_words config }
-{
-    let [flag, secs, nanos] = expiry_words(config.expiry);
-    [
-        flag,
-        secs,
-        nanos,
-        u64::from(config.target_occupied_slots),
-        u64::from(config.packed_bucket_index),
-        u64::from(config.negative_filter_bits_per_entry),
-    ]
-}
 
 impl ToWords<BUILDER_WORDS> for SegmentCacheBuilder {
     ghost words_of = { builder_words };
@@ -40,7 +15,7 @@ impl ToWords<BUILDER_WORDS> for SegmentCacheBuilder {
     ghost fits = { lit< tt };
 
     fn to_words(self) -> [u64; BUILDER_WORDS] {
-        let [flag, secs, nanos, occupied, packed, bits] = setting_words(self.config);
+        let [flag, secs, nanos, occupied, packed, bits] = self.config.numbers();
         [
             flag,
             secs,
@@ -65,7 +40,7 @@ impl ToWords<SET_WORDS> for FrozenSegmentCache {
     ghost fits = { lit< tt };
 
     fn to_words(self) -> [u64; SET_WORDS] {
-        let [flag, secs, nanos, occupied, packed, bits] = setting_words(self.config);
+        let [flag, secs, nanos, occupied, packed, bits] = self.config.numbers();
         [
             flag,
             secs,
@@ -92,7 +67,7 @@ impl ToWords<REBUILD_WORDS> for SharedSegmentCacheBuilder {
     ghost fits = { lit< tt };
 
     fn to_words(self) -> [u64; REBUILD_WORDS] {
-        let [flag, secs, nanos, occupied, packed, bits] = setting_words(self.config);
+        let [flag, secs, nanos, occupied, packed, bits] = self.config.numbers();
         [
             flag,
             secs,
