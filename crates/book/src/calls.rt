@@ -3,7 +3,7 @@
 // world, whatever else stands in the world: what the call was answered and what its areas then hold is
 // what `step` leaves, and accepted is what `step` accepts. So the definitions that contracts cite and
 // those that the claim on lists is made of are held together by proof. Areas that a call does not take
-// are lent all the same, for the contract to name them.
+// are lent all the same, for the contract to name them. The arguments are those of the call itself, in its order.
 ghost use Rattle.std.specs.Prelude.{◌≡◌, is_ok};
 ghost use Rattle.sets.specs.Answers.{probe_reply, walk_reply, stats_reply};
 ghost use Rattle.sets.specs.Build.{open_result, after_open, push_result, after_push, finish_result, after_finish};
@@ -212,7 +212,8 @@ pub fn make_reopen(
     )
 }
 
-// Reused push.
+// Reused push. It has the form of `make_push`, but each is the place where one call's contract stands: one function for both
+// would take that contract from its caller.
 #[tactic(auto, using(crate::proofs::Making::make_reuse))]
 pub fn make_reuse(
     builder: &mut SharedSegmentCacheBuilder,

@@ -33,8 +33,9 @@ pub(crate) struct LookupArguments<'a> {
 // hands out for the span.
 pub(crate) type ListAnswer = Option<Result<Option<Span>, SegmentCacheBuildError>>;
 
-// The list from open on, with any arguments and with areas of any content. A refused push leaves its
-// record out; where open or finish is refused there is no set to ask.
+// The list from open on, with any arguments and with areas of any content, which stand one by one: some
+// calls write to an area that others read. A refused push leaves its record out; where open or finish is
+// refused there is no set to ask.
 pub(crate) fn build_and_ask(
     config: SegmentCacheConfig,
     entry_count: usize,

@@ -21,8 +21,8 @@ pub(crate) struct ReuseArguments<'a> {
     pub source: SegmentRecordLocation,
 }
 
-// The list from rebuild open on; the source is any set, in areas of any content. A refused push leaves
-// its record out; where rebuild open or rebuild finish is refused there is no second set to ask.
+// The list from rebuild open on; the source is any set, in areas of any content, which stand one by one as
+// in `build_list`. A refused push leaves its record out; where rebuild open or rebuild finish is refused there is no second set to ask.
 pub(crate) fn rebuild_and_ask(
     source: FrozenSegmentCache,
     source_index: &[u64],
