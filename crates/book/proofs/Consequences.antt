@@ -4,7 +4,6 @@ use mathlib.Core.Path.{◌≡◌, refl, ap₂}
 use mathlib.Core.Bool.{Bool, true, false, cond}
 use mathlib.Core.List.{List, [], ◌∷◌, ◌++◌, map, Forall₂}
 use Prim.Native.Nat.{ℕ, ◌^◌, ◌<◌}
-use native.Mathlib.Omega.{arith}
 use lib.Dec.{eqb, ltb}
 use lib.ListN.{length, take}
 use Rattle.hash_parts.specs.declared.setting.SegmentCacheConfig.{SegmentCacheConfig}
@@ -23,16 +22,16 @@ use Rattle.book.proofs.Theorem.{every_list}
 
 -- the book's rule never says `refused`
 never_ruled : (tick : ℕ) (o : Option Entry) → ruled tick o ≡ denied → ⊥
-never_ruled tick None e = let z : ◌≡◌ {A = ℕ} 0 1 = cc in omega arith
+never_ruled tick None e = cc
 never_ruled tick (Some d) e = go (eqb d.deadline 65535) (ltb tick d.deadline) e
   where
     go : (never before : Bool) → cond never (value d.value) (cond before (value d.value) nothing) ≡ denied → ⊥
-    go true before f = let z : ◌≡◌ {A = ℕ} 0 1 = cc in omega arith
-    go false true f = let z : ◌≡◌ {A = ℕ} 0 1 = cc in omega arith
-    go false false f = let z : ◌≡◌ {A = ℕ} 0 1 = cc in omega arith
+    go true before f = cc
+    go false true f = cc
+    go false false f = cc
 
 never_from : (o : Option ListedSet) (key : List ℕ) (tick : ℕ) → reply_from o key tick ≡ denied → ⊥
-never_from None key tick e = let z : ◌≡◌ {A = ℕ} 0 1 = cc in omega arith
+never_from None key tick e = cc
 never_from (Some l) key tick e = never_ruled tick (first_of key l.list) e
 
 never_replied : (k : Book) (c : Call (Unit {0}) (ℕ × List ℕ)) → Every (λ y. y ≡ denied → ⊥) (replied k c)

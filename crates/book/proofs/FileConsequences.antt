@@ -1,6 +1,7 @@
 -- What the claim on lists of calls gives for files: "Under the mission's premises, loading a written file gives a set with the same
 -- lookups, statistics and index words, marks aside". And the writer refuses no set of a list, and the loader no file of it, but for the areas that are lent.
 -- Assumes nothing.
+use Rattle.std.proofs.lemmas.Option.{none-some}
 use Rattle.std.specs.Prelude.{Option, Some, slice_get}
 use mathlib.Core.Path.{◌≡◌, refl, sym, ap, subst, ◌∙◌}
 use mathlib.Core.Bool.{Bool, true, false, cond}
@@ -44,19 +45,16 @@ use Rattle.book.proofs.Steps.{unopened_holds}
 
 -- ---- of what holds
 
-arena_short : (s : FrozenSegmentCache) (index filter starts lengths arena : ℕ) → areas_hold_lookup s index filter starts lengths arena ≡ true → (s.filled ≤ arena) × (arena ≤ 1_073_741_824)
+held_parts : (s : FrozenSegmentCache) (index filter starts lengths arena : ℕ) → areas_hold_lookup s index filter starts lengths arena ≡ true
+    → (set_fits s ≡ true) × (s.filled ≤ arena) × (arena ≤ 1_073_741_824)
 unfolding areas_hold_lookup areas_hold_set arena_holds
-arena_short s index filter starts lengths arena e =
+held_parts s index filter starts lengths arena e =
     let a = both (areas_hold_set s index starts lengths arena) _ e in
     let b = both (set_fits s) _ a.0 in
     let c = both (leb (8 * s.buckets) index) _ b.1 in
     let d = both (segment_areas_hold starts lengths) _ c.1 in
     let r = both (leb s.filled arena) _ d.1 in
-    (leb-true _ _ r.0, leb-true _ _ r.1)
-
-set_fits_law : (s : FrozenSegmentCache) (index filter starts lengths arena : ℕ) → areas_hold_lookup s index filter starts lengths arena ≡ true → set_fits s ≡ true
-unfolding areas_hold_lookup areas_hold_set
-set_fits_law s index filter starts lengths arena e = (both (set_fits s) _ (both (areas_hold_set s index starts lengths arena) _ e).0).0
+    (b.0, leb-true _ _ r.0, leb-true _ _ r.1)
 
 module _ (H : List ℕ → ℕ) where
   -- the writer refuses with 10 alone, where its area is too short
@@ -65,9 +63,9 @@ module _ (H : List ℕ → ℕ) where
       ≡ cond (leb (file_size s.cache s.areas.lengths) (length out)) (accept (file_size s.cache s.areas.lengths)) (refuse 10 tt)
   unfolding after_write ask_write
   write_answered x arena top s l ok out =
-      let short = arena_short s.cache _ _ _ _ (length arena) ok.passes in
+      let held = held_parts s.cache _ _ _ _ (length arena) ok.passes in
       let sum : leb (sum_of s.cache.segments s.areas.lengths) 1_073_741_824 ≡ true =
-      le-leb (sum_of s.cache.segments s.areas.lengths) 1_073_741_824 (omega (arith, ok.segments.sums, short.0, short.1)) in
+      le-leb (sum_of s.cache.segments s.areas.lengths) 1_073_741_824 (omega (arith, ok.segments.sums, held.1, held.2)) in
       rw (ok.passes, ok.segments.inside, sum) (go (leb (file_size s.cache s.areas.lengths) (length out)))
     where
       left : ℕ → FileWritten
@@ -197,7 +195,7 @@ module _ (H : List ℕ → ℕ) where
 -- ---- of every list of calls
 
 both_of : {A B : Type 0} {P : A → B → Type 0} {o : Option A} {p : Option B} (a : A) → Both P o p → o ≡ Some a → (b : B) × P a b
-both_of a both_none e = absurd (let z : ◌≡◌ {A = ℕ} 0 1 = cc in omega arith)
+both_of a both_none e = absurd (none-some a e)
 both_of {P = P} a (both_some {a = c} {b = b} x) e = let same : c ≡ a = cc in (b, rw same at x)
 
 -- the book before the first open, with any setting
@@ -262,7 +260,7 @@ module _ (empty : List ℕ) (calls : List (Call (List ℕ) ℕ)) where
         let f = filed e.0 _ _ y.0 y.1 in
         let l = loads e.0 e.1 file _ f arena a s' loaded in
         let m = load_made_law file a.index a.filter a.starts a.lengths arena s' loaded in
-        stats_fit e.0 s' s.cache (set_fits_law s' _ _ _ _ _ l.holds.passes) (set_fits_law s.cache _ _ _ _ _ y.1.passes) (ap stats_of (sym m.2) ∙ stats_of_law e.0 file _ f)
+        stats_fit e.0 s' s.cache (held_parts s' _ _ _ _ _ l.holds.passes).0 (held_parts s.cache _ _ _ _ _ y.1.passes).0 (ap stats_of (sym m.2) ∙ stats_of_law e.0 file _ f)
 
     -- the same "index words, marks aside": those in use
     pub same_index : EqualHashes calls → Hashes64 calls → TypedSettings calls

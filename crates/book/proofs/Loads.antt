@@ -1,4 +1,5 @@
 -- A load of a written file keeps the relation: its set holds to the list that was noted at the write. Assumes nothing.
+use Rattle.std.proofs.lemmas.Option.{none-some}
 use Rattle.std.specs.Prelude.{Some}
 use mathlib.Core.Path.{◌≡◌, refl, sym, ap, ap₂, subst, ◌∙◌}
 use mathlib.Core.Bool.{Bool}
@@ -102,7 +103,7 @@ segments_loaded f starts lengths a held =
 -- no entry stands at no location
 nowhere_stored : (s : FrozenSegmentCache) (arena starts lengths : List ℕ) (e : Entry) → stored_in (view_of s) arena starts lengths 0 ≡ Some (stored_of e) → ⊥
 unfolding stored_in record_in
-nowhere_stored s arena starts lengths e q = let z : ◌≡◌ {A = ℕ} 0 1 = cc in omega arith
+nowhere_stored s arena starts lengths e q = none-some (stored_of e) q
 
 module _ (H : List ℕ → ℕ) (bound : (key : List ℕ) → H key < 2 ^ 64) (l : ListedFile) (top : ℕ) (source : FinishedSet) (listed : ListedSet) (arena out : List ℕ)
     (ok : SetHolds H l.expiry arena top source listed) (list : listed.list ≡ l.list)

@@ -84,25 +84,37 @@ gave arena (Err e) = refl
 module _ (s : FinishedSet) (arena : List ℕ) where
   pub make_lookup : (h : ℕ) (key : List ℕ) (tick : ℕ) (r : Result (Option Span) SegmentCacheBuildError) (index : List ℕ)
       → get_result r index ≡ after_get s.cache h key tick s.areas.index s.areas.filter s.areas.starts s.areas.lengths arena
-      → Wherever s arena (λ w j. (set_left w j (with_index s index) (is_ok r) ≡ step w (lookup j key h tick)) × (get_gives arena r ≡ answered w (lookup j key h tick)))
+      → Wherever s arena (λ w j. set_left w j (with_index s index) (is_ok r) ≡ step w (lookup j key h tick))
   make_lookup h key tick r index e current sets files j q =
-      let w : World = world_of arena current sets files in (
-        ap (set_left w j (with_index s index)) (took tt r)
-            ∙ ap (λ (g : Got). set_leaves w j s g.index (is_accepted g.answer)) e
-            ∙ ap (λ (o : Option FinishedSet). lookup_step w j o key h tick) (sym q),
-        gave arena r ∙ ap (λ (g : Got). answer_of arena g.answer ∷ []) e ∙ ap (λ (o : Option FinishedSet). answer_from w o key h tick ∷ []) (sym q),
-      )
+      let w : World = world_of arena current sets files in
+      ap (set_left w j (with_index s index)) (took tt r)
+      ∙ ap (λ (g : Got). set_leaves w j s g.index (is_accepted g.answer)) e
+      ∙ ap (λ (o : Option FinishedSet). lookup_step w j o key h tick) (sym q)
+
+  pub lookup_gives : (h : ℕ) (key : List ℕ) (tick : ℕ) (r : Result (Option Span) SegmentCacheBuildError) (index : List ℕ)
+      → get_result r index ≡ after_get s.cache h key tick s.areas.index s.areas.filter s.areas.starts s.areas.lengths arena
+      → Wherever s arena (λ w j. get_gives arena r ≡ answered w (lookup j key h tick))
+  lookup_gives h key tick r index e current sets files j q =
+      gave arena r
+      ∙ ap (λ (g : Got). answer_of arena g.answer ∷ []) e
+      ∙ ap (λ (o : Option FinishedSet). answer_from (world_of arena current sets files) o key h tick ∷ []) (sym q)
 
   pub make_peek : (h : ℕ) (key : List ℕ) (tick : ℕ) (r : Result (Option Span) SegmentCacheBuildError) (index : List ℕ)
       → get_result r index ≡ after_peek s.cache h key tick s.areas.index s.areas.filter s.areas.starts s.areas.lengths arena
-      → Wherever s arena (λ w j. (set_left w j (with_index s index) (is_ok r) ≡ step w (peek j key h tick)) × (get_gives arena r ≡ answered w (peek j key h tick)))
+      → Wherever s arena (λ w j. set_left w j (with_index s index) (is_ok r) ≡ step w (peek j key h tick))
   make_peek h key tick r index e current sets files j q =
-      let w : World = world_of arena current sets files in (
-        ap (set_left w j (with_index s index)) (took tt r)
-            ∙ ap (λ (g : Got). set_leaves w j s g.index (is_accepted g.answer)) e
-            ∙ ap (λ (o : Option FinishedSet). peek_step w j o key h tick) (sym q),
-        gave arena r ∙ ap (λ (g : Got). answer_of arena g.answer ∷ []) e ∙ ap (λ (o : Option FinishedSet). peeked_from w o key h tick ∷ []) (sym q),
-      )
+      let w : World = world_of arena current sets files in
+      ap (set_left w j (with_index s index)) (took tt r)
+      ∙ ap (λ (g : Got). set_leaves w j s g.index (is_accepted g.answer)) e
+      ∙ ap (λ (o : Option FinishedSet). peek_step w j o key h tick) (sym q)
+
+  pub peek_gives : (h : ℕ) (key : List ℕ) (tick : ℕ) (r : Result (Option Span) SegmentCacheBuildError) (index : List ℕ)
+      → get_result r index ≡ after_peek s.cache h key tick s.areas.index s.areas.filter s.areas.starts s.areas.lengths arena
+      → Wherever s arena (λ w j. get_gives arena r ≡ answered w (peek j key h tick))
+  peek_gives h key tick r index e current sets files j q =
+      gave arena r
+      ∙ ap (λ (g : Got). answer_of arena g.answer ∷ []) e
+      ∙ ap (λ (o : Option FinishedSet). peeked_from (world_of arena current sets files) o key h tick ∷ []) (sym q)
 
   pub make_clear : (h : ℕ) (key : List ℕ) (r : Result Bool SegmentCacheBuildError) (index : List ℕ)
       → take_result r index ≡ after_take s.cache h key s.areas.index s.areas.filter s.areas.starts s.areas.lengths arena

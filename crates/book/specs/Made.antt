@@ -4,6 +4,7 @@
 use Rattle.std.specs.Prelude.{◌≡◌, Bool, true, false, List, [], ◌∷◌, ◌++◌, ℕ, take, set, Option, Some, None, Result, Ok, Err, is_ok, slice_get}
 use Rattle.records.specs.Area.{spanned}
 use Rattle.hash_parts.specs.declared.error.SegmentCacheBuildError.{SegmentCacheBuildError}
+use Rattle.index.specs.declared.view.SegmentAreas.{SegmentAreas}
 use Rattle.records.specs.declared.record.Span.{Span}
 use Rattle.sets.specs.declared.builder.PushedRecord.{PushedRecord}
 use Rattle.sets.specs.declared.builder.SegmentCacheBuilder.{SegmentCacheBuilder}
@@ -19,9 +20,17 @@ use Rattle.book.specs.World.{Areas, Current, idle, building, rebuilding, Finishe
 abbrev pub areas_of : List ℕ → List ℕ → List ℕ → List ℕ → Areas
 areas_of index filter starts lengths = record { index = index; filter = filter; starts = starts; lengths = lengths }
 
+-- the same where starts and lengths are lent together with the arena
+abbrev pub areas_with : List ℕ → List ℕ → SegmentAreas → Areas
+areas_with index filter a = areas_of index filter a.starts.now a.lengths.now
+
 -- a set with its areas
 abbrev pub set_with : FrozenSegmentCache → Areas → FinishedSet
 set_with s a = record { cache = s; areas = a }
+
+-- the same of a set whose segment areas are lent together
+abbrev pub set_lent : FrozenSegmentCache → List ℕ → List ℕ → SegmentAreas → FinishedSet
+set_lent s index filter a = set_with s (areas_with index filter a)
 
 -- a world, by what its arena holds, what is open, which sets are finished and which files were written
 abbrev pub world_of : List ℕ → Current → List FinishedSet → List (List ℕ) → World
@@ -38,6 +47,10 @@ Wherever s arena P = (current : Current) (sets : List FinishedSet) (files : List
 -- the same where it is the newest set
 abbrev pub WhereNewest : FinishedSet → List ℕ → (World → Type 0) → Type 0
 WhereNewest s arena P = (current : Current) (sets : List FinishedSet) (files : List (List ℕ)) → newest sets ≡ Some s → P (world_of arena current sets files)
+
+-- Whatever sets are finished and whatever files there are, where this is open.
+abbrev pub WhereOpen : Current → List ℕ → (World → Type 0) → Type 0
+WhereOpen c arena P = (sets : List FinishedSet) (files : List (List ℕ)) → P (world_of arena c sets files)
 
 -- In any world, wherever a file stands among those that were written.
 abbrev pub WhereWritten : List ℕ → (World → ℕ → Type 0) → Type 0

@@ -3,8 +3,8 @@
 // world, whatever else stands in the world: what the call was answered and what its areas then hold is
 // what `step` leaves, and accepted is what `step` accepts. So the definitions that contracts cite and
 // those that the claim on lists is made of are held together by proof. Areas that a call does not take
-// are lent all the same, for the contract to name them.
-ghost use Rattle.std.specs.Prelude.{◌≡◌, List, ℕ, is_ok};
+// are lent all the same, for the contract to name them. The arguments are those of the call itself, in its order.
+ghost use Rattle.std.specs.Prelude.{◌≡◌, is_ok};
 ghost use Rattle.sets.specs.Answers.{probe_reply, walk_reply, stats_reply};
 ghost use Rattle.sets.specs.Build.{open_result, after_open, push_result, after_push, finish_result, after_finish};
 ghost use Rattle.sets.specs.Lookup.{get_result, after_get, after_peek, take_result, after_take, probe_answer, walk_answer, stats_answer};
@@ -12,8 +12,8 @@ ghost use Rattle.sets.specs.Rebuild.{rebuild_open_result, after_rebuild_open, re
 ghost use Rattle.files.specs.Load.{load_result, after_load};
 ghost use Rattle.files.specs.Write.{write_result, after_write};
 ghost use Rattle.book.specs.Calls.{opening, push, finish, lookup, peek, clear, probe, walk, stats, reopen, reuse, copy, refinish, write, load};
-ghost use Rattle.book.specs.World.{building, rebuilding, FinishedSet, World, step, answered};
-ghost use Rattle.book.specs.Made.{areas_of, set_with, world_of, left, Wherever, WhereNewest, open_left, push_left, finish_left, set_left, get_gives, reopen_left, repush_left, refinish_left, WhereWritten, write_left, load_left};
+ghost use Rattle.book.specs.World.{building, rebuilding, World, step, answered};
+ghost use Rattle.book.specs.Made.{areas_of, areas_with, set_lent, left, Wherever, WhereNewest, WhereOpen, open_left, push_left, finish_left, set_left, get_gives, reopen_left, repush_left, refinish_left, WhereWritten, write_left, load_left};
 
 use files::load::load_file;
 use files::write::write_file;
@@ -37,7 +37,7 @@ pub fn make_open(
     areas: SegmentAreas<'_>,
 ) -> Result<SegmentCacheBuilder, SegmentCacheBuildError>
     ensures filter_after { open_result result index.new filter.new ≡ after_open config entry_count index.old filter.old areas.entry.starts.now areas.entry.lengths.now areas.entry.arena.now }
-    ensures result_after { (w : World) → open_left w areas.entry.arena.now (areas_of index.new filter.new areas.entry.starts.now areas.entry.lengths.now) result ≡ step w (opening config entry_count areas.entry.arena.now index.old filter.old areas.entry.starts.now areas.entry.lengths.now) }
+    ensures result_after { (w : World) → open_left w areas.entry.arena.now (areas_with index.new filter.new areas.entry) result ≡ step w (opening config entry_count areas.entry.arena.now index.old filter.old areas.entry.starts.now areas.entry.lengths.now) }
 {
     SegmentCacheBuilder::try_new(config, entry_count, index, filter, areas)
 }
@@ -57,7 +57,7 @@ pub fn make_push(
     arena: &mut [u8],
 ) -> Result<PushedRecord, SegmentCacheBuildError>
     ensures arena_after { push_result result builder.new index.new filter.new arena.new ≡ after_push builder.old hash key.now value.now ttl index.old filter.old arena.old }
-    ensures result_after { (sets : List FinishedSet) (files : List (List ℕ)) → push_left sets files arena.new (areas_of index.new filter.new starts.now lengths.now) builder.new result ≡ step (world_of arena.old (building builder.old (areas_of index.old filter.old starts.now lengths.now)) sets files) (push key.now value.now hash ttl) }
+    ensures result_after { WhereOpen (building builder.old (areas_of index.old filter.old starts.now lengths.now)) arena.old (λ w. push_left w.sets w.files arena.new (areas_of index.new filter.new starts.now lengths.now) builder.new result ≡ step w (push key.now value.now hash ttl)) }
 {
     builder.push(hash, key, value, ttl, index, filter, arena)
 }
@@ -75,13 +75,13 @@ pub fn make_finish(
     arena: &[u8],
 ) -> Result<FrozenSegmentCache, SegmentCacheBuildError>
     ensures scratch_after { finish_result result builder index.new starts.new lengths.new scratch.new ≡ after_finish builder target index.old starts.old lengths.old scratch.old arena.now }
-    ensures result_after { (sets : List FinishedSet) (files : List (List ℕ)) → finish_left sets files arena.now (areas_of index.new filter.now starts.new lengths.new) builder result ≡ step (world_of arena.now (building builder (areas_of index.old filter.now starts.old lengths.old)) sets files) (finish target scratch.old) }
+    ensures result_after { WhereOpen (building builder (areas_of index.old filter.now starts.old lengths.old)) arena.now (λ w. finish_left w.sets w.files arena.now (areas_of index.new filter.now starts.new lengths.new) builder result ≡ step w (finish target scratch.old)) }
 {
     builder.finish(target, index, starts, lengths, scratch, arena)
 }
 
 // Lookup, in a set anywhere among others; what it gives is what the world answers.
-#[tactic(auto, using(crate::proofs::Making::make_lookup))]
+#[tactic(auto, using(crate::proofs::Making::make_lookup, crate::proofs::Making::lookup_gives))]
 pub fn make_lookup(
     cache: FrozenSegmentCache,
     hash: u64,
@@ -92,13 +92,14 @@ pub fn make_lookup(
     areas: SegmentAreas<'_>,
 ) -> Result<Option<Span>, SegmentCacheBuildError>
     ensures index_after { get_result result index.new ≡ after_get cache hash key.now now_tick index.old filter.now areas.entry.starts.now areas.entry.lengths.now areas.entry.arena.now }
-    ensures wherever { Wherever (set_with cache (areas_of index.old filter.now areas.entry.starts.now areas.entry.lengths.now)) areas.entry.arena.now (λ w j. (set_left w j (set_with cache (areas_of index.new filter.now areas.entry.starts.now areas.entry.lengths.now)) (is_ok result) ≡ step w (lookup j key.now hash now_tick)) × (get_gives areas.entry.arena.now result ≡ answered w (lookup j key.now hash now_tick))) }
+    ensures wherever { Wherever (set_lent cache index.old filter.now areas.entry) areas.entry.arena.now (λ w j. set_left w j (set_lent cache index.new filter.now areas.entry) (is_ok result) ≡ step w (lookup j key.now hash now_tick)) }
+    ensures answer { Wherever (set_lent cache index.old filter.now areas.entry) areas.entry.arena.now (λ w j. get_gives areas.entry.arena.now result ≡ answered w (lookup j key.now hash now_tick)) }
 {
     cache.get_at_tick(hash, key, now_tick, index, filter, areas)
 }
 
 // Peek.
-#[tactic(auto, using(crate::proofs::Making::make_peek))]
+#[tactic(auto, using(crate::proofs::Making::make_peek, crate::proofs::Making::peek_gives))]
 pub fn make_peek(
     cache: FrozenSegmentCache,
     hash: u64,
@@ -109,7 +110,8 @@ pub fn make_peek(
     areas: SegmentAreas<'_>,
 ) -> Result<Option<Span>, SegmentCacheBuildError>
     ensures index_value { get_result result index.now ≡ after_peek cache hash key.now now_tick index.now filter.now areas.entry.starts.now areas.entry.lengths.now areas.entry.arena.now }
-    ensures wherever { Wherever (set_with cache (areas_of index.now filter.now areas.entry.starts.now areas.entry.lengths.now)) areas.entry.arena.now (λ w j. (set_left w j (set_with cache (areas_of index.now filter.now areas.entry.starts.now areas.entry.lengths.now)) (is_ok result) ≡ step w (peek j key.now hash now_tick)) × (get_gives areas.entry.arena.now result ≡ answered w (peek j key.now hash now_tick))) }
+    ensures wherever { Wherever (set_lent cache index.now filter.now areas.entry) areas.entry.arena.now (λ w j. set_left w j (set_lent cache index.now filter.now areas.entry) (is_ok result) ≡ step w (peek j key.now hash now_tick)) }
+    ensures answer { Wherever (set_lent cache index.now filter.now areas.entry) areas.entry.arena.now (λ w j. get_gives areas.entry.arena.now result ≡ answered w (peek j key.now hash now_tick)) }
 {
     cache.peek_at_tick(hash, key, now_tick, index, filter, areas)
 }
@@ -125,7 +127,7 @@ pub fn make_clear(
     areas: SegmentAreas<'_>,
 ) -> Result<bool, SegmentCacheBuildError>
     ensures index_after { take_result result index.new ≡ after_take cache hash key.now index.old filter.now areas.entry.starts.now areas.entry.lengths.now areas.entry.arena.now }
-    ensures wherever { Wherever (set_with cache (areas_of index.old filter.now areas.entry.starts.now areas.entry.lengths.now)) areas.entry.arena.now (λ w j. set_left w j (set_with cache (areas_of index.new filter.now areas.entry.starts.now areas.entry.lengths.now)) (is_ok result) ≡ step w (clear j key.now hash)) }
+    ensures wherever { Wherever (set_lent cache index.old filter.now areas.entry) areas.entry.arena.now (λ w j. set_left w j (set_lent cache index.new filter.now areas.entry) (is_ok result) ≡ step w (clear j key.now hash)) }
 {
     cache.take_accessed(hash, key, index, filter, areas)
 }
@@ -141,8 +143,8 @@ pub fn make_probe(
     filter: &[u64],
     areas: SegmentAreas<'_>,
 ) -> Result<Option<SegmentBaseRecord>, SegmentCacheBuildError>
-    ensures result_value { (probe_reply result ≡ probe_answer cache hash key.now now_tick index.now filter.now areas.entry.starts.now areas.entry.lengths.now areas.entry.arena.now) × (index.now ≡ index.now) }
-    ensures wherever { Wherever (set_with cache (areas_of index.now filter.now areas.entry.starts.now areas.entry.lengths.now)) areas.entry.arena.now (λ w j. left (is_ok result) w ≡ step w (probe j key.now hash now_tick)) }
+    ensures result_value { probe_reply result ≡ probe_answer cache hash key.now now_tick index.now filter.now areas.entry.starts.now areas.entry.lengths.now areas.entry.arena.now }
+    ensures wherever { Wherever (set_lent cache index.now filter.now areas.entry) areas.entry.arena.now (λ w j. left (is_ok result) w ≡ step w (probe j key.now hash now_tick)) }
 {
     cache.probe_hashed_at_tick(hash, key, now_tick, index, filter, areas)
 }
@@ -157,8 +159,8 @@ pub fn make_walk(
     filter: &[u64],
     areas: SegmentAreas<'_>,
 ) -> Result<Option<SegmentBaseRecord>, SegmentCacheBuildError>
-    ensures result_value { (walk_reply result ≡ walk_answer cache from now_tick index.now areas.entry.starts.now areas.entry.lengths.now areas.entry.arena.now) × (index.now ≡ index.now) }
-    ensures wherever { Wherever (set_with cache (areas_of index.now filter.now areas.entry.starts.now areas.entry.lengths.now)) areas.entry.arena.now (λ w j. left (is_ok result) w ≡ step w (walk j from now_tick)) }
+    ensures result_value { walk_reply result ≡ walk_answer cache from now_tick index.now areas.entry.starts.now areas.entry.lengths.now areas.entry.arena.now }
+    ensures wherever { Wherever (set_lent cache index.now filter.now areas.entry) areas.entry.arena.now (λ w j. left (is_ok result) w ≡ step w (walk j from now_tick)) }
 {
     cache.next_physical_entry_at_tick(from, now_tick, index, areas)
 }
@@ -172,7 +174,7 @@ pub fn make_stats(
     areas: SegmentAreas<'_>,
 ) -> Result<SegmentCacheStats, SegmentCacheBuildError>
     ensures result_value { stats_reply result ≡ stats_answer cache }
-    ensures wherever { Wherever (set_with cache (areas_of index.now filter.now areas.entry.starts.now areas.entry.lengths.now)) areas.entry.arena.now (λ w j. left (is_ok result) w ≡ step w (stats j)) }
+    ensures wherever { Wherever (set_lent cache index.now filter.now areas.entry) areas.entry.arena.now (λ w j. left (is_ok result) w ≡ step w (stats j)) }
 {
     cache.stats()
 }
@@ -194,7 +196,7 @@ pub fn make_reopen(
     lengths: &mut [u64],
 ) -> Result<SharedSegmentCacheBuilder, SegmentCacheBuildError>
     ensures lengths_after { rebuild_open_result result source index.new filter.new starts.new lengths.new ≡ after_rebuild_open source source_areas.entry.starts.now source_areas.entry.lengths.now source_areas.entry.arena.now entry_count copied_record_capacity used_source_segments.now source_now_tick index.old filter.old starts.old lengths.old }
-    ensures where_newest { WhereNewest (set_with source (areas_of source_index.now source_filter.now source_areas.entry.starts.now source_areas.entry.lengths.now)) source_areas.entry.arena.now (λ w. reopen_left w (areas_of index.new filter.new starts.new lengths.new) result ≡ step w (reopen entry_count copied_record_capacity used_source_segments.now source_now_tick index.old filter.old starts.old lengths.old)) }
+    ensures where_newest { WhereNewest (set_lent source source_index.now source_filter.now source_areas.entry) source_areas.entry.arena.now (λ w. reopen_left w (areas_of index.new filter.new starts.new lengths.new) result ≡ step w (reopen entry_count copied_record_capacity used_source_segments.now source_now_tick index.old filter.old starts.old lengths.old)) }
 {
     SharedSegmentCacheBuilder::try_new(
         source,
@@ -210,7 +212,8 @@ pub fn make_reopen(
     )
 }
 
-// Reused push.
+// Reused push. It has the form of `make_push`, but each is the place where one call's contract stands: one function for both
+// would take that contract from its caller.
 #[tactic(auto, using(crate::proofs::Making::make_reuse))]
 pub fn make_reuse(
     builder: &mut SharedSegmentCacheBuilder,
@@ -223,7 +226,7 @@ pub fn make_reuse(
     areas: SegmentAreas<'_>,
 ) -> Result<PushedRecord, SegmentCacheBuildError>
     ensures filter_after { reused_result result builder.new index.new filter.new ≡ after_reused builder.old hash key.now value.now source index.old filter.old areas.entry.starts.now areas.entry.lengths.now areas.entry.arena.now }
-    ensures result_after { (sets : List FinishedSet) (files : List (List ℕ)) → repush_left sets files areas.entry.arena.now (areas_of index.new filter.new areas.entry.starts.now areas.entry.lengths.now) builder.new result ≡ step (world_of areas.entry.arena.now (rebuilding builder.old (areas_of index.old filter.old areas.entry.starts.now areas.entry.lengths.now)) sets files) (reuse key.now value.now hash source.location source.header_bytes) }
+    ensures result_after { WhereOpen (rebuilding builder.old (areas_with index.old filter.old areas.entry)) areas.entry.arena.now (λ w. repush_left w.sets w.files areas.entry.arena.now (areas_with index.new filter.new areas.entry) builder.new result ≡ step w (reuse key.now value.now hash source.location source.header_bytes)) }
 {
     builder.push_reused(hash, key, value, source, index, filter, areas)
 }
@@ -243,7 +246,7 @@ pub fn make_copy(
     arena: &mut [u8],
 ) -> Result<PushedRecord, SegmentCacheBuildError>
     ensures arena_after { copied_result result builder.new index.new filter.new arena.new ≡ after_copied builder.old hash key.now value.now ttl index.old filter.old starts.now lengths.now arena.old }
-    ensures result_after { (sets : List FinishedSet) (files : List (List ℕ)) → repush_left sets files arena.new (areas_of index.new filter.new starts.now lengths.now) builder.new result ≡ step (world_of arena.old (rebuilding builder.old (areas_of index.old filter.old starts.now lengths.now)) sets files) (copy key.now value.now hash ttl) }
+    ensures result_after { WhereOpen (rebuilding builder.old (areas_of index.old filter.old starts.now lengths.now)) arena.old (λ w. repush_left w.sets w.files arena.new (areas_of index.new filter.new starts.now lengths.now) builder.new result ≡ step w (copy key.now value.now hash ttl)) }
 {
     builder.push_copied(hash, key, value, ttl, index, filter, starts, lengths, arena)
 }
@@ -260,7 +263,7 @@ pub fn make_refinish(
     arena: &[u8],
 ) -> Result<SharedSegmentCacheBuild, SegmentCacheBuildError>
     ensures scratch_after { rebuild_finish_result result builder index.new starts.new lengths.new scratch.new ≡ after_rebuild_finish builder index.old starts.old lengths.old scratch.old arena.now }
-    ensures result_after { (sets : List FinishedSet) (files : List (List ℕ)) → refinish_left sets files arena.now (areas_of index.new filter.now starts.new lengths.new) builder result ≡ step (world_of arena.now (rebuilding builder (areas_of index.old filter.now starts.old lengths.old)) sets files) (refinish scratch.old) }
+    ensures result_after { WhereOpen (rebuilding builder (areas_of index.old filter.now starts.old lengths.old)) arena.now (λ w. refinish_left w.sets w.files arena.now (areas_of index.new filter.now starts.new lengths.new) builder result ≡ step w (refinish scratch.old)) }
 {
     builder.finish(index, starts, lengths, scratch, arena)
 }
@@ -275,7 +278,7 @@ pub fn make_write(
     file: &mut [u8],
 ) -> Result<usize, SegmentCacheBuildError>
     ensures file_after { write_result result file.new ≡ after_write cache index.now filter.now areas.entry.starts.now areas.entry.lengths.now areas.entry.arena.now file.old }
-    ensures wherever { Wherever (set_with cache (areas_of index.now filter.now areas.entry.starts.now areas.entry.lengths.now)) areas.entry.arena.now (λ w j. write_left w file.new result ≡ step w (write j file.old)) }
+    ensures wherever { Wherever (set_lent cache index.now filter.now areas.entry) areas.entry.arena.now (λ w j. write_left w file.new result ≡ step w (write j file.old)) }
 {
     write_file(cache, index, filter, areas, file)
 }

@@ -1,9 +1,9 @@
 // A whole list of calls as a program makes it: open, two pushes, finish, a lookup. The contract says,
 // for every input, that the answer is the one in `answers` of this list, from nothing on.
 ghost use Rattle.std.specs.Prelude.{◌≡◌, [], ◌∷◌};
-ghost use Rattle.book.specs.Calls.{opening, push, finish, lookup};
+ghost use Rattle.book.specs.Calls.{opening, finish};
 ghost use Rattle.book.specs.World.{unopened, answers};
-ghost use Rattle.book_lists.specs.Gives.{gives};
+ghost use Rattle.book_lists.specs.Gives.{gives, lookup_with, push_with};
 
 use book::calls::{make_finish, make_lookup, make_open, make_push};
 use hash_parts::duration::Duration;
@@ -33,8 +33,9 @@ pub(crate) struct LookupArguments<'a> {
 // hands out for the span.
 pub(crate) type ListAnswer = Option<Result<Option<Span>, SegmentCacheBuildError>>;
 
-// The list from open on, with any arguments and with areas of any content. A refused push leaves its
-// record out; where open or finish is refused there is no set to ask.
+// The list from open on, with any arguments and with areas of any content, which stand one by one: some
+// calls write to an area that others read. A refused push leaves its record out; where open or finish is
+// refused there is no set to ask.
 pub(crate) fn build_and_ask(
     config: SegmentCacheConfig,
     entry_count: usize,
@@ -49,7 +50,7 @@ pub(crate) fn build_and_ask(
     scratch: &mut [u64],
     arena: &mut [u8],
 ) -> ListAnswer
-    ensures { gives arena.new result ≡ answers (unopened arena.old) (opening config entry_count arena.old index.old filter.old starts.old lengths.old ∷ push first.entry.key.now first.entry.value.now first.entry.hash first.entry.ttl ∷ push second.entry.key.now second.entry.value.now second.entry.hash second.entry.ttl ∷ finish target scratch.old ∷ lookup 0 asked.entry.key.now asked.entry.hash asked.entry.now_tick ∷ []) }
+    ensures { gives arena.new result ≡ answers (unopened arena.old) (opening config entry_count arena.old index.old filter.old starts.old lengths.old ∷ push_with first.entry ∷ push_with second.entry ∷ finish target scratch.old ∷ lookup_with 0 asked.entry ∷ []) }
 {
     let areas = SegmentAreas {
         starts,

@@ -1,10 +1,10 @@
 // A whole list of calls with a rebuild: rebuild open of a finished set, a reused push, a copied push,
 // rebuild finish, a lookup in the new set. Its contract is as in `build_list`.
 ghost use Rattle.std.specs.Prelude.{◌≡◌, [], ◌∷◌};
-ghost use Rattle.book.specs.Calls.{reopen, reuse, copy, refinish, lookup};
+ghost use Rattle.book.specs.Calls.{reopen, refinish};
 ghost use Rattle.book.specs.World.{idle, answers};
 ghost use Rattle.book.specs.Made.{areas_of, set_with, world_of};
-ghost use Rattle.book_lists.specs.Gives.{gives};
+ghost use Rattle.book_lists.specs.Gives.{copy_with, gives, lookup_with, reuse_with};
 
 use crate::build_list::{ListAnswer, LookupArguments, PushArguments};
 use book::calls::{make_copy, make_lookup, make_refinish, make_reopen, make_reuse};
@@ -21,8 +21,8 @@ pub(crate) struct ReuseArguments<'a> {
     pub source: SegmentRecordLocation,
 }
 
-// The list from rebuild open on; the source is any set, in areas of any content. A refused push leaves
-// its record out; where rebuild open or rebuild finish is refused there is no second set to ask.
+// The list from rebuild open on; the source is any set, in areas of any content, which stand one by one as
+// in `build_list`. A refused push leaves its record out; where rebuild open or rebuild finish is refused there is no second set to ask.
 pub(crate) fn rebuild_and_ask(
     source: FrozenSegmentCache,
     source_index: &[u64],
@@ -43,7 +43,7 @@ pub(crate) fn rebuild_and_ask(
     scratch: &mut [u64],
     arena: &mut [u8],
 ) -> ListAnswer
-    ensures { gives arena.new result ≡ answers (world_of arena.old idle ((set_with source (areas_of source_index.now source_filter.now source_starts.now source_lengths.now)) ∷ []) []) (reopen entry_count copied_record_capacity used_source_segments.now source_now_tick index.old filter.old starts.old lengths.old ∷ reuse reused.entry.key.now reused.entry.value.now reused.entry.hash reused.entry.source.location reused.entry.source.header_bytes ∷ copy copied.entry.key.now copied.entry.value.now copied.entry.hash copied.entry.ttl ∷ refinish scratch.old ∷ lookup 1 asked.entry.key.now asked.entry.hash asked.entry.now_tick ∷ []) }
+    ensures { gives arena.new result ≡ answers (world_of arena.old idle (set_with source (areas_of source_index.now source_filter.now source_starts.now source_lengths.now) ∷ []) []) (reopen entry_count copied_record_capacity used_source_segments.now source_now_tick index.old filter.old starts.old lengths.old ∷ reuse_with reused.entry ∷ copy_with copied.entry ∷ refinish scratch.old ∷ lookup_with 1 asked.entry ∷ []) }
 {
     let source_areas = SegmentAreas {
         starts: source_starts,

@@ -3,6 +3,7 @@
 use Rattle.std.proofs.Common.{◌≡◌, ℕ, ◌-◌, ◌^◌, ◌≤◌, Bool, true, false, List, [], Some, refl, ap, le-leb}
 use Rattle.std.specs.Prelude.{option_map}
 use native.Mathlib.Nat.{min-eq_left}
+use Rattle.hash_parts.specs.Setting.{setting_before, tick_nanos}
 use Rattle.hash_parts.specs.declared.setting.SegmentCacheConfig.{SegmentCacheConfig}
 use Rattle.hash_parts.specs.declared.setting.SegmentExpiry.{SegmentExpiry}
 use Rattle.hash_parts.specs.declared.setting.SegmentExpiry.TheVariants as setting
@@ -11,7 +12,7 @@ use Rattle.sets.specs.declared.cache.FrozenSegmentCache.{FrozenSegmentCache}
 use Rattle.sets.specs.declared.rebuild.SharedSegmentCacheBuilder.{SharedSegmentCacheBuilder}
 use Rattle.sets.specs.declared.stats.SegmentCacheStats.{SegmentCacheStats}
 use Rattle.capi.specs.Words.{builder_in, builder_of, builder_words, rebuild_in, rebuild_of, rebuild_words, set_in, set_of, set_words}
-use Rattle.capi.specs.Words.{setting_alone, setting_among, setting_before, setting_form, setting_in, stats_in, stats_words, tick_nanos}
+use Rattle.capi.specs.Words.{setting_alone, setting_among, setting_form, setting_in, stats_in, stats_words}
 
 abbrev made : SegmentExpiry → ℕ → Bool → ℕ → SegmentCacheConfig
 made e occupied packed bits =

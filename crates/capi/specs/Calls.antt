@@ -2,6 +2,7 @@
 -- Assumes nothing.
 use Rattle.std.specs.Prelude.{◌≡◌, Bool, cond, List, [], ◌∷◌, ℕ, ◌+◌, ◌-◌, ◌%◌, ◌^◌, Option, Some, None, Result, Ok, Err, replicate, eqb, length}
 use Rattle.hash_parts.specs.Error.{error_number}
+use Rattle.hash_parts.specs.Setting.{flag_of}
 use Rattle.hash_parts.specs.declared.duration.SegmentRemainingTtl.{SegmentRemainingTtl}
 use Rattle.hash_parts.specs.declared.duration.SegmentRemainingTtl.TheVariants.{Never, Finite}
 use Rattle.hash_parts.specs.declared.error.SegmentCacheBuildError.{SegmentCacheBuildError}
@@ -18,7 +19,7 @@ use Rattle.sets.specs.declared.builder.SegmentCacheBuilder.{SegmentCacheBuilder}
 use Rattle.sets.specs.declared.cache.FrozenSegmentCache.{FrozenSegmentCache}
 use Rattle.sets.specs.declared.cache.SegmentBaseRecord.{SegmentBaseRecord}
 use Rattle.sets.specs.declared.stats.SegmentCacheStats.{SegmentCacheStats}
-use Rattle.capi.specs.Words.{builder_in, builder_words, flag_of, lifetime_in, set_in, set_words, setting_alone, stats_in, stats_words, stored}
+use Rattle.capi.specs.Words.{builder_in, builder_words, lifetime_in, set_in, set_words, setting_alone, stats_in, stats_words, stored}
 
 -- what words give, where they have the form; else what is left without it
 abbrev pub on_loaded : {S A : Type 0} → Option S → (S → A) → A → A

@@ -1,5 +1,6 @@
 -- Settings, states, lifetimes and statistics as words. Assumes nothing.
 use Rattle.std.specs.Prelude.{Bool, true, cond, List, [], ◌∷◌, ℕ, ◌-◌, ◌^◌, min, Option, Some, None, option_map, eqb, leb, length, get_or}
+use Rattle.hash_parts.specs.Setting.{setting_before}
 use Rattle.hash_parts.specs.declared.duration.Duration.{Duration}
 use Rattle.hash_parts.specs.declared.setting.SegmentCacheConfig.{SegmentCacheConfig}
 use Rattle.hash_parts.specs.declared.setting.SegmentExpiry.{SegmentExpiry}
@@ -64,38 +65,6 @@ ask_widths w = (tick_nanos_fit (get_or w 0 0) (get_or w 2 0), 9) ∷ (leb (get_o
 -- a setting that is lent by itself
 abbrev pub setting_alone : List ℕ → Option SegmentCacheConfig
 setting_alone w = setting_among 6 w
-
-abbrev pub flag_of : Bool → ℕ
-flag_of b = cond b 1 0
-
-abbrev pub expiry_flag : SegmentExpiry → ℕ
-expiry_flag setting.None = 0
-expiry_flag (setting.Relative16 tick) = 1
-
-abbrev pub tick_secs : SegmentExpiry → ℕ
-tick_secs setting.None = 0
-tick_secs (setting.Relative16 tick) = tick.secs
-
-abbrev pub tick_nanos : SegmentExpiry → ℕ
-tick_nanos setting.None = 0
-tick_nanos (setting.Relative16 tick) = tick.nanos
-
-abbrev pub expiry_words : SegmentExpiry → List ℕ
-expiry_words e = expiry_flag e ∷ tick_secs e ∷ tick_nanos e ∷ []
-
--- the words of a setting, before other words
-abbrev pub setting_before : SegmentCacheConfig → List ℕ → List ℕ
-setting_before c rest =
-    expiry_flag c.expiry
-    ∷ tick_secs c.expiry
-    ∷ tick_nanos c.expiry
-    ∷ c.target_occupied_slots
-    ∷ flag_of c.packed_bucket_index
-    ∷ c.negative_filter_bits_per_entry
-    ∷ rest
-
-abbrev pub setting_words : SegmentCacheConfig → List ℕ
-setting_words c = setting_before c []
 
 -- ---- a builder: 13 words
 

@@ -1,4 +1,4 @@
-// Opening and finishing a set, and the sizes of areas.
+// Opening and finishing a set, and the sizes of areas. C lends each area by itself, so each is an argument of its own.
 ghost use Rattle.std.specs.Prelude.{◌≡◌};
 ghost use Rattle.std.proofs.Common.{lit<};
 ghost use Rattle.capi.specs.Calls.{area_numbers, exported_area_words, exported_finish, exported_open, finish_words, open_words, told};

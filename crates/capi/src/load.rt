@@ -1,11 +1,11 @@
 // Settings, states, lifetimes and statistics from lent words. Words of a wrong number, a flag above 1
 // and filter bits above 255 give nothing; nanoseconds and an occupancy that are too wide are capped,
 // for their own questions to refuse.
-ghost use Rattle.std.specs.Prelude.{◌≡◌, ◌≤◌, OnSome, length};
+ghost use Rattle.std.specs.Prelude.{◌≡◌, ◌≤◌, length};
 ghost use Rattle.sets.specs.Questions.{check_number, first_no};
 ghost use Rattle.capi.specs.Calls.{answered};
 ghost use Rattle.capi.specs.Records.{setting_fitting};
-ghost use Rattle.capi.specs.Words.{ask_widths, builder_in, expiry_of, lifetime_in, nanos_capped, rebuild_in, set_in, setting_alone, setting_among, setting_in, stats_in};
+ghost use Rattle.capi.specs.Words.{ask_widths, builder_in, expiry_of, lifetime_in, nanos_capped, rebuild_in, set_in, setting_alone, setting_in, stats_in};
 
 use crate::words::{
     BUILDER_WORDS, FromWords, REBUILD_WORDS, SET_WORDS, SETTING_WORDS, STATS_WORDS,
@@ -20,20 +20,22 @@ use sets::rebuild::SharedSegmentCacheBuilder;
 use sets::stats::SegmentCacheStats;
 
 // A setting that is lent by itself.
+#[tactic(auto, unfolding(crate::specs::Words::setting_among))]
 impl FromWords for SegmentCacheConfig {
     ghost value_in = { setting_alone };
 
     fn from_words(words: &[u64]) -> Option<Self> {
-        setting_among(words, SETTING_WORDS)
+        front_setting(<&[u64; SETTING_WORDS]>::try_from(words).ok()?)
     }
 }
 
-#[tactic(auto, unfolding(crate::specs::Words::builder_in))]
+#[tactic(auto, unfolding(crate::specs::Words::builder_in, crate::specs::Words::setting_among))]
 impl FromWords for SegmentCacheBuilder {
     ghost value_in = { builder_in };
 
     fn from_words(words: &[u64]) -> Option<Self> {
-        let config = setting_among(words, BUILDER_WORDS)?;
+        let words = <&[u64; BUILDER_WORDS]>::try_from(words).ok()?;
+        let config = front_setting(words)?;
         Some(SegmentCacheBuilder {
             config,
             expected_entries: words[6] as usize,
@@ -47,12 +49,13 @@ impl FromWords for SegmentCacheBuilder {
     }
 }
 
-#[tactic(auto, unfolding(crate::specs::Words::set_in))]
+#[tactic(auto, unfolding(crate::specs::Words::set_in, crate::specs::Words::setting_among))]
 impl FromWords for FrozenSegmentCache {
     ghost value_in = { set_in };
 
     fn from_words(words: &[u64]) -> Option<Self> {
-        let config = setting_among(words, SET_WORDS)?;
+        let words = <&[u64; SET_WORDS]>::try_from(words).ok()?;
+        let config = front_setting(words)?;
         Some(FrozenSegmentCache {
             config,
             entries: words[6] as usize,
@@ -68,12 +71,13 @@ impl FromWords for FrozenSegmentCache {
     }
 }
 
-#[tactic(auto, unfolding(crate::specs::Words::rebuild_in))]
+#[tactic(auto, unfolding(crate::specs::Words::rebuild_in, crate::specs::Words::setting_among))]
 impl FromWords for SharedSegmentCacheBuilder {
     ghost value_in = { rebuild_in };
 
     fn from_words(words: &[u64]) -> Option<Self> {
-        let config = setting_among(words, REBUILD_WORDS)?;
+        let words = <&[u64; REBUILD_WORDS]>::try_from(words).ok()?;
+        let config = front_setting(words)?;
         let kept = KeptSegments {
             w0: words[10],
             w1: words[11],
@@ -121,9 +125,7 @@ impl FromWords for SegmentCacheStats {
     ghost value_in = { stats_in };
 
     fn from_words(words: &[u64]) -> Option<Self> {
-        if words.len() != STATS_WORDS {
-            return None;
-        }
+        let words = <&[u64; STATS_WORDS]>::try_from(words).ok()?;
         Some(SegmentCacheStats {
             entries: words[0] as usize,
             buckets: words[1] as usize,
@@ -137,19 +139,7 @@ impl FromWords for SegmentCacheStats {
     }
 }
 
-// The setting in the first six words, where there are so many in all.
-#[tactic(auto, unfolding(crate::specs::Words::setting_among))]
-fn setting_among(words: &[u64], count: usize) -> Option<SegmentCacheConfig>
-    requires { 6 ≤ count }
-    ensures setting { result ≡ setting_among count words.now }
-    ensures whole { OnSome result (length words.now ≡ count) }
-{
-    if words.len() != count {
-        return None;
-    }
-    front_setting(words)
-}
-
+// The setting in the first six words.
 #[tactic(auto, unfolding(crate::specs::Words::setting_in, crate::specs::Words::setting_form))]
 fn front_setting(words: &[u64]) -> Option<SegmentCacheConfig>
     requires { 6 ≤ length words.now }
@@ -187,21 +177,21 @@ fn expiry_of(flag: u64, secs: u64, nanos: u32) -> SegmentExpiry
 }
 
 // A setting that is lent by itself, with no word that is too wide for it.
-#[tactic(auto, unfolding(crate::specs::Records::setting_fitting))]
+#[tactic(auto, unfolding(crate::specs::Records::setting_fitting, crate::specs::Words::setting_among))]
 pub(crate) fn fitting_setting(words: &[u64]) -> Result<SegmentCacheConfig, SegmentCacheBuildError>
     ensures { answered result ≡ setting_fitting words.now }
 {
-    let Some(config) = setting_among(words, SETTING_WORDS) else {
+    let Ok(words) = <&[u64; SETTING_WORDS]>::try_from(words) else {
         return Err(SegmentCacheBuildError::InvalidState);
     };
+    let config = front_setting(words).ok_or(SegmentCacheBuildError::InvalidState)?;
     check_widths(words)?;
     Ok(config)
 }
 
 // What a setting's words are too wide for: question 2 or 3. Without expiry there is no tick.
 #[tactic(auto, unfolding(crate::specs::Words::ask_widths))]
-fn check_widths(words: &[u64]) -> Result<(), SegmentCacheBuildError>
-    requires { 6 ≤ length words.now }
+fn check_widths(words: &[u64; SETTING_WORDS]) -> Result<(), SegmentCacheBuildError>
     ensures { check_number result ≡ first_no (ask_widths words.now) }
 {
     if words[0] == 1 && words[2] > u64::from(u32::MAX) {

@@ -1,4 +1,4 @@
-// Opening and finishing a rebuild of a set.
+// Opening and finishing a rebuild of a set. C lends each area by itself, so each is an argument of its own.
 ghost use Rattle.std.specs.Prelude.{◌≡◌};
 ghost use Rattle.std.proofs.Common.{lit<};
 ghost use Rattle.capi.specs.Rebuilds.{exported_rebuild_finish, exported_rebuild_open, rebuild_finish_words, rebuild_open_words, totals_words};

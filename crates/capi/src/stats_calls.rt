@@ -1,4 +1,5 @@
-// Statistics of a set, and the numbers worked out of statistics.
+// Statistics of a set, and the numbers worked out of statistics. The exports of a number differ in the method alone: C needs
+// a function by its name for each.
 ghost use Rattle.std.specs.Prelude.{◌≡◌};
 ghost use Rattle.capi.specs.Calls.{exported_number, exported_stats, load_in, overhead_in, retained_in, told};
 

@@ -1,4 +1,5 @@
-// Values as lent words: what C hands to a call, and what a call hands back.
+// Values as lent words: what C hands to a call, and what a call hands back. The traits are the crate's own, since std's
+// TryFrom and From can't be given here to types of other crates.
 ghost use Rattle.std.specs.Prelude.{◌≡◌, ◌<◌, ◌*◌, ◌^◌, ℕ, List, Option};
 ghost use Rattle.capi.specs.Words.{stored};
 

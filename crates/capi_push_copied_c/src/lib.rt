@@ -1,4 +1,5 @@
-// The call of capi_push_copied for C, as a static library: its export calls the function of its name, with the same clauses.
+// The call of capi_push_copied for C, as a static library: its export calls the function of its name, with the same
+// arguments and clauses.
 #![tactic(auto)]
 
 ghost use Rattle.std.specs.Prelude.{◌≡◌};

@@ -26,5 +26,5 @@ returns c =
     let copied = c.make_copy.ensures.result_after (source ∷ []) [] in
     let finished = c.make_refinish.ensures.result_after (source ∷ []) [] in
     let rebuilt = set_with c.in_ok-build.build.cache (areas_of c.make_refinish.new.index c.make_copy.new.filter c.make_refinish.new.starts c.make_refinish.new.lengths) in
-    let asked = c.make_lookup.ensures.wherever idle (source ∷ rebuilt ∷ []) [] 1 refl in
+    let asked = c.make_lookup.ensures.answer idle (source ∷ rebuilt ∷ []) [] 1 refl in
     grind (arith, common_steps)
