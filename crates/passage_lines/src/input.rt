@@ -36,6 +36,7 @@ impl Input {
 
     // A line that is over the limit and not whole is dropped, so that at most a line's bytes stay
     // unread where more input is needed.
+    #[tactic(auto, using(std::proofs::lemmas::Bool::Decides::nat_tests), unfolding(crate::specs::Input::next_line))]
     pub fn next_line(&mut self, block: &[u8]) -> NextLine
         ensures { next result self.new ≡ next_line block.now self.old }
     {
@@ -86,6 +87,7 @@ impl Input {
     }
 
     // Moves the unread bytes to the front of the block, so that more input can be read after them.
+    #[tactic(auto, using(crate::proofs::Lines::part_length, std::proofs::lemmas::Bool::Decides::nat_tests), unfolding(crate::specs::Input::kept_unread))]
     pub fn keep_unread(&mut self, block: &mut [u8])
         ensures { kept self.new block.new ≡ kept_unread block.old self.old }
     {
