@@ -14,6 +14,7 @@ use records::record::value_slice;
 
 // What a line does and prints. The areas for key and value hold their bytes while the line is answered. By a
 // match: each command has fields of its own, which one type of closures would have to hold all.
+#[tactic(auto, unfolding(crate::specs::Answer::line_step, crate::specs::Stage::answer_text, passage_lines::specs::Reply::reply_text))]
 pub(crate) fn answer_line(
     stage: &mut Stage,
     line: &[u8],
@@ -82,6 +83,7 @@ fn get_line(
 
 // Writes the line of an answer from a position on, and gives the position after it, which the next call takes;
 // where the line does not fit it writes nothing.
+#[tactic(auto, unfolding(crate::specs::Stage::answer_text))]
 pub(crate) fn put_answer(out: &mut [u8], at: usize, answer: Answer, arena: &[u8]) -> usize
     ensures { output result out.new ≡ appended at (answer_text arena.now answer) out.old }
 {
