@@ -12,7 +12,8 @@ fn vector(rt: &impl Print, value: usize) -> io::Result<()> {
     let Ok(n) = write_varint(&mut out, value) else {
         return println!(rt; "refused");
     };
-    show::prefix(rt, value, &out, n)?;
+    print!(rt; "{value}:")?;
+    show::bytes(rt, out.get(..n).unwrap_or(&[]))?;
     show_read(rt, &out)
 }
 

@@ -1,9 +1,8 @@
 // Answering a line of the input.
 ghost use Rattle.std.specs.Prelude.{◌≡◌, length, unwrap_or};
-ghost use Rattle.passage_lines.specs.Hex.{bytes_of_hex};
 ghost use Rattle.texts.specs.Output.{appended, output};
-ghost use Rattle.passage.specs.Answer.{get_bytes, line_step, put_bytes, within};
-ghost use Rattle.passage.specs.Stage.{after_getting, after_putting, answer_text, answered_by};
+ghost use Rattle.passage.specs.Answer.{get_text, line_step, put_texts};
+ghost use Rattle.passage.specs.Stage.{answer_text, answered_by};
 
 use crate::areas::{Areas, KeyAndValue};
 use crate::stage::{Answer, BAD, Stage};
@@ -13,8 +12,9 @@ use passage_lines::hex::decode_hex;
 use passage_lines::reply::{put_reply, put_value};
 use records::record::value_slice;
 
-// What a line does and prints. The areas for key and value hold their bytes while the line is
-// answered.
+// What a line does and prints. The areas for key and value hold their bytes while the line is answered. By a
+// match: each command has fields of its own, which one type of closures would have to hold all.
+#[tactic(auto, unfolding(crate::specs::Answer::line_step, crate::specs::Stage::answer_text, passage_lines::specs::Reply::reply_text))]
 pub(crate) fn answer_line(
     stage: &mut Stage,
     line: &[u8],
@@ -58,7 +58,7 @@ fn put_line(
     bytes: &mut KeyAndValue,
     areas: &mut Areas,
 ) -> Option<Answer>
-    ensures { answered_by stage.new (unwrap_or result BAD) areas.new ≡ after_putting areas.old (put_bytes stage.old hash ttl areas.old.index areas.old.filter areas.old.arena (within (length bytes.old.key) (bytes_of_hex key_text.now)) (within (length bytes.old.value) (bytes_of_hex value_text.now))) }
+    ensures { answered_by stage.new (unwrap_or result BAD) areas.new ≡ put_texts stage.old hash ttl key_text.now value_text.now (length bytes.old.key) (length bytes.old.value) areas.old }
 {
     let key_len = decode_hex(key_text, &mut bytes.key)?;
     let value_len = decode_hex(value_text, &mut bytes.value)?;
@@ -75,14 +75,15 @@ fn get_line(
     bytes: &mut KeyAndValue,
     areas: &mut Areas,
 ) -> Option<Answer>
-    ensures { answered_by stage (unwrap_or result BAD) areas.new ≡ after_getting stage areas.old (get_bytes stage hash tick areas.old.index areas.old.filter areas.old.starts areas.old.lengths areas.old.arena (within (length bytes.old.key) (bytes_of_hex key_text.now))) }
+    ensures { answered_by stage (unwrap_or result BAD) areas.new ≡ get_text stage hash tick key_text.now (length bytes.old.key) areas.old }
 {
     let key_len = decode_hex(key_text, &mut bytes.key)?;
     Some(stage.get(hash, &bytes.key[..key_len], tick, areas))
 }
 
-// Writes the line of an answer from a position on, and gives the position after it; where the line
-// does not fit it writes nothing.
+// Writes the line of an answer from a position on, and gives the position after it, which the next call takes;
+// where the line does not fit it writes nothing.
+#[tactic(auto, unfolding(crate::specs::Stage::answer_text))]
 pub(crate) fn put_answer(out: &mut [u8], at: usize, answer: Answer, arena: &[u8]) -> usize
     ensures { output result out.new ≡ appended at (answer_text arena.now answer) out.old }
 {

@@ -33,6 +33,7 @@ pub(crate) enum Stage {
 }
 
 impl Stage {
+    #[tactic(auto, using(crate::proofs::Turns::open_out, crate::proofs::Turns::open_slots), unfolding(crate::specs::Stage::answer_text, crate::specs::Stage::open_step, passage_lines::specs::Reply::reply_text))]
     pub(crate) fn open(
         &mut self,
         records: usize,
@@ -65,6 +66,7 @@ impl Stage {
         }
     }
 
+    #[tactic(auto, using(crate::proofs::Turns::put_out), unfolding(crate::specs::Stage::answer_text, crate::specs::Stage::put_step, passage_lines::specs::Reply::reply_text))]
     pub(crate) fn put(
         &mut self,
         hash: u64,
@@ -92,6 +94,7 @@ impl Stage {
         }
     }
 
+    #[tactic(auto, using(crate::proofs::Turns::close_out), unfolding(crate::specs::Stage::answer_text, crate::specs::Stage::close_step, passage_lines::specs::Reply::reply_text))]
     pub(crate) fn close(&mut self, target: usize, areas: &mut Areas) -> Answer
         ensures { answered_by self.new result areas.new ≡ after_closing areas.old (close_step self.old target areas.old.index areas.old.starts areas.old.lengths areas.old.scratch areas.old.arena) }
     {
@@ -114,6 +117,7 @@ impl Stage {
         }
     }
 
+    #[tactic(auto, using(crate::proofs::Turns::get_out), unfolding(crate::specs::Stage::answer_text, crate::specs::Stage::get_step, passage_lines::specs::Reply::reply_text))]
     pub(crate) fn get(self, hash: u64, key: &[u8], tick: u64, areas: &mut Areas) -> Answer
         ensures { answered_by self result areas.new ≡ after_getting self areas.old (get_step self hash key.now tick areas.old.index areas.old.filter areas.old.starts areas.old.lengths areas.old.arena) }
     {

@@ -17,8 +17,7 @@ use Rattle.passage_lines.specs.declared.reply.Word.TheVariants.{Open, Put, Close
 
 -- ---- a piece more
 
--- what was written where it fits
--- a text more
+-- a text more, where all of it fits
 pub next_text : {whole rest area out out' : List ℕ} {at n : ℕ} (s : List ℕ) → Writing whole (s ++ rest) area out at
     → output n out' ≡ appended at s out → Writing whole rest area out' n
 next_text {rest = rest} {out = out} {out' = out'} {at = at} {n = n} s w q =

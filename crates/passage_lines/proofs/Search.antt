@@ -1,9 +1,9 @@
 -- Laws of looking for a byte. Assumes nothing.
-use Rattle.std.proofs.Common.{◌≡◌, ℕ, suc, ◌+◌, ◌≤◌, ◌<◌, Bool, true, false, cond, eqb, ltb, Option, Some, None, List, [], ◌∷◌, length, take, drop, unwrap_or, refl, sym, ap, arith, length-drop}
+use Rattle.std.proofs.Common.{◌≡◌, ℕ, suc, ◌+◌, ◌≤◌, ◌<◌, Bool, true, false, cond, eqb, ltb, Option, Some, None, List, [], ◌∷◌, length, take, unwrap_or, refl, sym, ap, arith}
 use Rattle.std.specs.List.{position, position_or_len}
 use Rattle.std.proofs.lemmas.List.Recursion.{is_position_or_len}
 use borrow.Author.Tests.{ltb-true, ltb-false}
-use Rattle.passage_lines.specs.Bytes.{before, first_from}
+use Rattle.passage_lines.specs.Bytes.{before}
 
 module _ (byte : ℕ) where
   -- what stands before the byte is the front
@@ -24,10 +24,6 @@ module _ (byte : ℕ) where
       go : (t : Bool) → length (before byte s) ≤ length s → length (cond t [] (c ∷ before byte s)) ≤ suc (length s)
       go true e = omega arith
       go false e = omega arith
-
-  pub first_within : (s : List ℕ) (at : ℕ) → at ≤ length s → (at ≤ first_from byte s at) × (first_from byte s at ≤ length s)
-  unfolding first_from
-  first_within s at h = (omega arith, omega (arith, before_within (drop at s), length-drop at s))
 
   -- ---- what stands before the byte, by where it was found
 

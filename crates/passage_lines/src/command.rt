@@ -47,7 +47,8 @@ pub fn parse_line(line: &[u8]) -> Command
     parse_fields(Fields::of(line)).unwrap_or(Command::Bad)
 }
 
-// What the fields of a line ask for, the first of which is its word.
+// What the fields of a line ask for, the first of which is its word. It is compared by `==`: of a pattern that is
+// a byte string a proof knows the length alone.
 #[tactic(auto, unfolding(crate::specs::Command::word_form))]
 fn parse_fields(mut fields: Fields) -> Option<Command>
     ensures { unwrap_or result Command.Bad ≡ command_in (fields_left fields.entry) }
@@ -76,7 +77,7 @@ fn parse_open(mut fields: Fields) -> Option<Command>
     parse_setting(fields, records as usize)
 }
 
-#[tactic(auto, unfolding(crate::specs::Command::next, crate::specs::Command::done, crate::specs::Command::setting_form))]
+#[tactic(auto, using(crate::proofs::Numbers::number_limit), unfolding(crate::specs::Command::next, crate::specs::Command::done, crate::specs::Command::setting_form))]
 fn parse_setting(mut fields: Fields, records: usize) -> Option<Command>
     ensures { unwrap_or result Command.Bad ≡ setting_form records (fields_left fields.entry) }
 {

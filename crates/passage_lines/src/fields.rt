@@ -24,6 +24,7 @@ pub(crate) struct Fields<'a> {
 impl<'a> Fields<'a> {
     ghost use Rattle.passage_lines.specs.Fields.{fields_left};
 
+    #[tactic(auto, using(crate::proofs::Splitting::fields_all))]
     pub(crate) fn of(line: &'a [u8]) -> Fields<'a>
         ensures { fields_left result ≡ fields_of line.now }
     {

@@ -16,6 +16,7 @@ fn byte_of_hex(high: u8, low: u8) -> Option<u8>
 }
 
 // Whether a text is an even number of digits.
+#[tactic(auto, using(crate::proofs::Digits::is_hex_law, std::proofs::lemmas::Bool::Decides::nat_tests))]
 fn is_hex(text: &[u8]) -> bool
     ensures { result ≡ is_hex text.now }
 {
@@ -35,6 +36,7 @@ pub(crate) fn hex_length(text: &[u8]) -> Option<usize>
 
 // Writes the bytes that a text spells to the front of an area, and gives how many they are. Where the
 // text spells none, or the area is too short, nothing is written.
+#[tactic(auto, using(crate::proofs::Digits::bytes_length, crate::proofs::Digits::decoded_in, crate::proofs::Digits::decoded_short, crate::proofs::Digits::decoded_bad))]
 pub fn decode_hex(text: &[u8], out: &mut [u8]) -> Option<usize>
     ensures { decode_result result out.new ≡ decoded text.now out.old }
 {

@@ -1,5 +1,5 @@
 // Lines of an input that is read in blocks.
-ghost use Rattle.std.specs.Prelude.{◌≡◌, ◌+◌, ◌<◌, ◌≤◌, ◌^◌};
+ghost use Rattle.std.specs.Prelude.{◌≡◌, ◌+◌, ◌<◌, ◌≤◌, ◌^◌, length};
 ghost use Rattle.passage_lines.specs.Input.{kept, kept_unread, next, next_before, next_line};
 
 use crate::bytes::find_byte;
@@ -36,6 +36,7 @@ impl Input {
 
     // A line that is over the limit and not whole is dropped, so that at most a line's bytes stay
     // unread where more input is needed.
+    #[tactic(auto, using(std::proofs::lemmas::Bool::Decides::nat_tests), unfolding(crate::specs::Input::next_line))]
     pub fn next_line(&mut self, block: &[u8]) -> NextLine
         ensures { next result self.new ≡ next_line block.now self.old }
     {
@@ -86,8 +87,10 @@ impl Input {
     }
 
     // Moves the unread bytes to the front of the block, so that more input can be read after them.
+    #[tactic(auto, using(crate::proofs::Lines::part_length, std::proofs::lemmas::Bool::Decides::nat_tests), unfolding(crate::specs::Input::kept_unread))]
     pub fn keep_unread(&mut self, block: &mut [u8])
-        ensures { kept self.new block.new ≡ kept_unread block.old self.old }
+        ensures kept_after { kept self.new block.new ≡ kept_unread block.old self.old }
+        ensures end_inside { self.new.end ≤ length block.old }
     {
         if self.end > block.len() || self.at > self.end {
             *self = Input::EMPTY;

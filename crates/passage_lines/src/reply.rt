@@ -52,8 +52,8 @@ pub enum Reply {
 // each, and the line feed.
 const REPLY_BYTES: usize = 64;
 
-// Writes the line of a reply from a position on, and gives the position after it; where the line
-// does not fit it writes nothing.
+// Writes the line of a reply from a position on, and gives the position after it, which the next call takes;
+// where the line does not fit it writes nothing.
 pub fn put_reply(out: &mut [u8], at: usize, reply: Reply) -> usize
     ensures { output result out.new ≡ appended at (reply_text reply) out.old }
 {
@@ -62,6 +62,8 @@ pub fn put_reply(out: &mut [u8], at: usize, reply: Reply) -> usize
     put_text(out, at, &line[0..end])
 }
 
+// By a match, which has the pieces of every line in one place.
+#[tactic(auto, using(crate::proofs::Replies::accepted_line, crate::proofs::Replies::accepted_short, crate::proofs::Replies::refused_line, crate::proofs::Replies::refused_short, texts::proofs::Spelling::appended_parts), unfolding(crate::specs::Reply::reply_text))]
 fn write_reply(line: &mut [u8], reply: Reply) -> usize
     requires { length line.old ≡ 64 }
     ensures { (result ≡ length (reply_text reply)) × (result ≤ 64) × (line.new ≡ over (reply_text reply) line.old) }
@@ -92,6 +94,7 @@ fn write_line(line: &mut [u8], word: Word, numbers: &[usize]) -> usize
 }
 
 // Writes the line of a value that was found, as put_reply does.
+#[tactic(auto, using(crate::proofs::Replies::value_length, texts::proofs::Spelling::appended_in, texts::proofs::Spelling::appended_out))]
 pub fn put_value(out: &mut [u8], at: usize, value: &[u8]) -> usize
     ensures { output result out.new ≡ appended at (value_text value.now) out.old }
 {

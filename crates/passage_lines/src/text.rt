@@ -20,6 +20,7 @@ pub(crate) fn digit(character: u8, base: u64) -> Option<u64>
 }
 
 // One digit or more, for a number of at most max. `str::parse` takes a sign too.
+#[tactic(auto, using(std::proofs::lemmas::Bool::Decides::nat_tests, crate::proofs::Numbers::in_limit, crate::proofs::Numbers::number_bad, crate::proofs::Numbers::number_next, crate::proofs::Numbers::number_none, crate::proofs::Numbers::number_past, crate::proofs::Numbers::number_start, crate::proofs::Numbers::spelled_end))]
 pub(crate) fn parse_number(text: &[u8], base: u64, max: u64) -> Option<u64>
     requires { (0 < base) × (base ≤ 16) }
     ensures { result ≡ number_in base max text.now }
@@ -39,6 +40,7 @@ pub(crate) fn parse_number(text: &[u8], base: u64, max: u64) -> Option<u64>
 }
 
 // Seconds, a point and nine digits.
+#[tactic(auto, using(crate::proofs::Numbers::number_limit, crate::proofs::Numbers::duration_short, crate::proofs::Numbers::duration_no_point, crate::proofs::Numbers::duration_is))]
 pub(crate) fn parse_duration(text: &[u8]) -> Option<Duration>
     ensures { result ≡ duration_of text.now }
 {

@@ -1,4 +1,5 @@
 // The program passage on refused lines: 1 to 4, 6, 8 and 10.
+// A program is run on one input, so each input has a program: all of passage but the call stands in its crate.
 #![tactic(auto)]
 
 fn main(rt: HostRuntime) {

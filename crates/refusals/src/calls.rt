@@ -1,6 +1,7 @@
 //! The calls of a case. A build announces seven records, in areas that they need. The source of a rebuild has one
 //! record of five bytes at 0: two of header, key "a", value "AB". Only a reused push reads it; the other calls
-//! have an arena of zeros.
+//! have an arena of zeros. Areas are arrays and arguments come one by one, as C has them: the program asks the
+//! calls that are made for C, and needs no memory but its own.
 ghost use Rattle.std.specs.Prelude.{◌<◌, ◌↔◌, IsOk};
 
 use crate::case::{Case, Word};
@@ -36,24 +37,31 @@ pub(crate) enum Calls {
     RebuildFinish,
 }
 
+impl Calls {
+    /// In the order of their numbers.
+    const ALL: [Calls; 10] = [
+        Calls::Open,
+        Calls::Push,
+        Calls::Finish,
+        Calls::Set,
+        Calls::Stats,
+        Calls::RebuildOpen,
+        Calls::Rebuild,
+        Calls::PushReused,
+        Calls::PushCopied,
+        Calls::RebuildFinish,
+    ];
+}
+
 impl TryFrom<u64> for Calls {
     type Error = anyhow::Error;
 
     ghost try_from_gives = { λ number result. IsOk result ↔ (number < 10) };
 
     fn try_from(number: u64) -> anyhow::Result<Calls> {
-        match number {
-            0 => Ok(Calls::Open),
-            1 => Ok(Calls::Push),
-            2 => Ok(Calls::Finish),
-            3 => Ok(Calls::Set),
-            4 => Ok(Calls::Stats),
-            5 => Ok(Calls::RebuildOpen),
-            6 => Ok(Calls::Rebuild),
-            7 => Ok(Calls::PushReused),
-            8 => Ok(Calls::PushCopied),
-            9 => Ok(Calls::RebuildFinish),
-            _ => bail!("no calls have number {number}"),
+        match Calls::ALL.get(number as usize) {
+            Some(calls) => Ok(*calls),
+            None => bail!("no calls have number {number}"),
         }
     }
 }

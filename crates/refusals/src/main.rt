@@ -5,7 +5,7 @@
 
 use crate::calls::Calls;
 use crate::case::{Case, Word};
-use std::io::Read;
+use show::input::read_text;
 
 mod calls;
 mod case;
@@ -13,16 +13,8 @@ mod case;
 const TABLE_BYTES: usize = 16_384;
 
 fn main(rt: HostRuntime) -> anyhow::Result<()> {
-    run(&rt, &mut rt.stdin(), &mut [0; TABLE_BYTES])
-}
-
-fn run(
-    rt: &impl Print,
-    input: &mut impl Read,
-    table: &mut [u8; TABLE_BYTES],
-) -> anyhow::Result<()> {
-    let length = show::input::read_full(input, table);
-    ask_all(rt, str::from_utf8(&table[..length])?)
+    let mut table = [0; TABLE_BYTES];
+    ask_all(&rt, read_text(&mut rt.stdin(), &mut table)?)
 }
 
 /// A line that begins with `#` is a comment. One named `=` has the words that pass for the lines below it.
@@ -42,6 +34,7 @@ fn ask_all(rt: &impl Print, table: &str) -> anyhow::Result<()> {
     Ok(())
 }
 
+/// By a match and not by a table of closures: what the calls answer has one, three or six numbers.
 fn ask(rt: &impl Print, name: &str, case: Case) -> anyhow::Result<()> {
     match Calls::try_from(case.word(Word::Calls))? {
         Calls::Open => show(rt, name, &[case.open()]),

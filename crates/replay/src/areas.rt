@@ -1,4 +1,5 @@
-//! The areas of the sets, and the calls that are lent them.
+//! The areas of the sets, and the calls that are lent them. Areas are arrays and arguments come one by one, as C
+//! has them: the program asks the calls that are made for C, and needs no memory but its own.
 ghost use Rattle.std.specs.Prelude.{◌<◌, length};
 ghost use Rattle.replay.specs.declared.line.TheConstants.{TOLD};
 
@@ -38,7 +39,8 @@ pub(crate) struct Areas {
 }
 
 /// Makes the call of a line on the areas of the set that it makes or asks, by the line's first number: one that
-/// an open makes, or one of three rebuilds. A rebuild is opened from the areas that the second number says.
+/// an open makes, or one of three rebuilds. A rebuild is opened from the areas that the second number says. A match
+/// suits it: calls are given other things, which closures in a table would have to take all.
 pub(crate) fn make_call(line: &Line, sets: &mut [Areas; 4], arena: &mut Arena) -> Told {
     let made = line.numbers[0] as usize % 4;
     let areas = &mut sets[made];
@@ -194,7 +196,8 @@ impl Areas {
     }
 
     /// The second number is the hash, or the slot at which a walk goes on, and the third the tick. A line that
-    /// is no lookup is told what no call answers.
+    /// is no lookup is told what no call answers. By a match: take and walk are given other things than the rest, and
+    /// get and take an index to mark.
     fn look_up<const WORDS: usize>(&mut self, line: &Line, arena: &Arena) -> Told
         requires { WORDS < TOLD }
     {

@@ -5,6 +5,7 @@
 use crate::areas::{Areas, make_call};
 use crate::line::Line;
 use crate::tally::Tally;
+use show::input::read_text;
 use std::io::{self, Read};
 
 mod areas;
@@ -18,9 +19,9 @@ fn main(rt: HostRuntime) -> anyhow::Result<()> {
     run(&rt, &mut rt.stdin(), &mut [0; LIST_BYTES])
 }
 
+/// Apart from main, since a proof there would write out so long a list.
 fn run(rt: &impl Print, input: &mut impl Read, list: &mut [u8; LIST_BYTES]) -> anyhow::Result<()> {
-    let length = show::input::read_full(input, list);
-    replay(rt, str::from_utf8(&list[..length])?)?;
+    replay(rt, read_text(input, list)?)?;
     Ok(())
 }
 

@@ -185,7 +185,10 @@ pub extern "C" fn test_split_record_segments(
     starts: &mut [u64],
     lengths: &mut [u64],
 ) -> u64
-    ensures { (result ≡ code_of (2 ^ 32) (split index.old buckets filled target starts.old lengths.old).answer) × (index.new ≡ (split index.old buckets filled target starts.old lengths.old).index) × (starts.new ≡ (split index.old buckets filled target starts.old lengths.old).starts) × (lengths.new ≡ (split index.old buckets filled target starts.old lengths.old).lengths) }
+    ensures result_after { result ≡ code_of (2 ^ 32) (split index.old buckets filled target starts.old lengths.old).answer }
+    ensures index_after { index.new ≡ (split index.old buckets filled target starts.old lengths.old).index }
+    ensures starts_after { starts.new ≡ (split index.old buckets filled target starts.old lengths.old).starts }
+    ensures lengths_after { lengths.new ≡ (split index.old buckets filled target starts.old lengths.old).lengths }
 {
     let answer = index::segments::split_record_segments(
         index, buckets, filled, target, starts, lengths,

@@ -1,5 +1,6 @@
-// The port's lower calls for the differential test, as C functions on numbers and slices. An
-// answer that does not fit one number goes to lent words, and only if all of it fits there.
+// The port's lower calls for the differential test, as C functions on numbers and slices: C has no structs
+// or options of the port's, so each area and count is a parameter of its own. An answer that does not fit one
+// number goes to lent words, and only if all of it fits there.
 #![tactic(auto)]
 
 pub mod index_calls;
@@ -251,7 +252,8 @@ pub extern "C" fn test_append_record(
     expires_at: u16,
     out: &mut [u64],
 ) -> u64
-    ensures { (told result out.new ≡ lent (outcome_told (written (record_bytes (expiry_of on 1 0) key.now value.now expires_at) rest.old).answer) out.old) × (rest.new ≡ (written (record_bytes (expiry_of on 1 0) key.now value.now expires_at) rest.old).area) }
+    ensures result_after { told result out.new ≡ lent (outcome_told (written (record_bytes (expiry_of on 1 0) key.now value.now expires_at) rest.old).answer) out.old }
+    ensures area_after { rest.new ≡ (written (record_bytes (expiry_of on 1 0) key.now value.now expires_at) rest.old).area }
 {
     let expiry = expiry_of(on, 1, 0);
     let bytes = records::record::append_record(rest, expiry, key, value, expires_at);

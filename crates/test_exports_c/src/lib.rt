@@ -176,7 +176,8 @@ pub extern "C" fn test_append_record(
     expires_at: u16,
     out: &mut [u64],
 ) -> u64
-    ensures { (told result out.new ≡ lent (outcome_told (written (record_bytes (expiry_of on 1 0) key.now value.now expires_at) rest.old).answer) out.old) × (rest.new ≡ (written (record_bytes (expiry_of on 1 0) key.now value.now expires_at) rest.old).area) }
+    ensures result_after { told result out.new ≡ lent (outcome_told (written (record_bytes (expiry_of on 1 0) key.now value.now expires_at) rest.old).answer) out.old }
+    ensures area_after { rest.new ≡ (written (record_bytes (expiry_of on 1 0) key.now value.now expires_at) rest.old).area }
 {
     test_exports::test_append_record(rest, on, key, value, expires_at, out)
 }

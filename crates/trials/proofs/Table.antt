@@ -1,4 +1,4 @@
--- The paper's trials marked P, as one table of tests on the definitions that the contracts cite; worked values of long durations.
+-- Worked trials, as one table of tests on the definitions that the contracts cite; worked values of long durations.
 -- Assumes nothing.
 use Rattle.std.specs.Prelude.{Some}
 use mathlib.Core.Path.{◌≡◌}

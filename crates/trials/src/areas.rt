@@ -135,7 +135,7 @@ impl<const INDEX: usize, const FILTER: usize, const ARENA: usize> TrialAreas<IND
 
 // A line of bytes in hexadecimal, each with a space before it.
 pub(crate) fn show_bytes(rt: &impl Print, bytes: &[u8]) -> io::Result<()> {
-    show::front(rt, bytes, bytes.len())?;
+    show::bytes(rt, bytes)?;
     println!(rt; "")
 }
 

@@ -1,4 +1,4 @@
-// The paper's example through the calls of builder and set: the arena's bytes, the answers, and the index;
+// A worked example through the calls of builder and set: the arena's bytes, the answers, and the index;
 // then the set as a file.
 use crate::areas::{TrialAreas, show_bytes};
 use crate::file;

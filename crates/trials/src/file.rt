@@ -42,7 +42,8 @@ fn write(
     show_number(rt, "written", written)
 }
 
-// One line for each of the five blocks.
+// One line for each of the five blocks: the array's length shows that they lie in it, which bounds in a list
+// would not.
 fn show_blocks(rt: &impl Print, file: &[u8; FILE_BYTES]) -> io::Result<()> {
     show_bytes(rt, &file[0..50])?;
     show_bytes(rt, &file[50..64])?;

@@ -1,14 +1,15 @@
-// The paper's trials, run: each line says what was asked and what came out.
+// Worked trials of the sets, run: each line says what was asked and what came out.
 #![tactic(auto)]
 
 mod areas;
 mod example;
 mod file;
 mod orders;
+mod refusals;
 mod seventeen;
 mod targets;
 
-use crate::areas::show_number;
+use crate::areas::{show_bytes, show_number};
 use hash_parts::duration::{Duration, encode_expiry_at_tick, lives_at_tick};
 use hash_parts::hash::{hash_tag, packed_control_tag, packed_secondary_tag, reduce_hash};
 use hash_parts::setting::SegmentExpiry;
@@ -22,9 +23,8 @@ fn prefix(rt: &impl Print, length: usize) -> io::Result<()> {
     let Ok(count) = write_varint(&mut out, length) else {
         return println!(rt; "refused");
     };
-    print!(rt; "length ")?;
-    show::prefix(rt, length, &out, count)?;
-    println!(rt; "")
+    print!(rt; "length {length}:")?;
+    show_bytes(rt, out.get(..count).unwrap_or(&[]))
 }
 
 fn lifetime(rt: &impl Print, secs: u64, nanos: u32) -> io::Result<()> {
@@ -74,5 +74,6 @@ fn main(rt: HostRuntime) -> io::Result<()> {
     example::run(&rt)?;
     targets::run(&rt)?;
     orders::run(&rt)?;
-    seventeen::run(&rt)
+    seventeen::run(&rt)?;
+    refusals::run(&rt)
 }

@@ -1,16 +1,11 @@
 -- `next_line` meets its contract: the line feed is looked for in what is unread. Assumes nothing.
 use Rattle.std.proofs.Common.{◌≡◌, ◌+◌, ◌-◌, [], length, sym, ◌∙◌, arith}
-use Rattle.std.proofs.lemmas.Bool.Decides.{nat_tests}
 use borrow.Author.Tests.{le-ltb}
 use Rattle.records.specs.Area.{part}
 use Rattle.passage_lines.specs.Input.{next_line}
 use Rattle.passage_lines.proofs.Lines.{feed_at, part_length}
 use Rattle.passage_lines.proofs.Search.{before_found, before_none}
 use Rattle.passage_lines.proofs.input.Input.next_line.Goals as goal
-
-pub returns-in_default : goal.returns-in_default
-unfolding next_line
-returns-in_default c = let h = c.in_default.ensures.lookup.0 in grind (arith, nat_tests)
 
 pub returns-in-Some-find_byte : goal.returns-in-Some-find_byte
 unfolding next_line
