@@ -17,11 +17,11 @@ use Rattle.sets.proofs.Counts.{both}
 use Rattle.sets.proofs.WalkList.{entries_hit, entries_miss, entries_none}
 use Rattle.charts.specs.Line.{Row}
 use Rattle.charts.specs.Sheet.{chart_rows, row_count, row_fits, row_of, rows_fit}
-use Rattle.charts.specs.declared.sheet.Chart.{Chart}
+use Rattle.sets.specs.declared.lookup.SetRecords.{SetRecords}
 
 -- ---- the rows of a chart from a slot on
 
-module _ (c : Chart) where
+module _ (c : SetRecords) where
   -- what stands in each slot
   abbrev pub reads : ℕ → Option RecordRef
   reads = entry_at (record_in c.view c.areas.arena.now c.areas.starts.now c.areas.lengths.now) c.index.packed c.index.buckets c.index.words.now

@@ -13,7 +13,7 @@ use Rattle.sets.specs.Questions.{all, decided, first_no}
 use Rattle.sets.specs.Walk.{entries_in, entries_of}
 use Rattle.sets.specs.declared.cache.FrozenSegmentCache.{FrozenSegmentCache}
 use Rattle.charts.specs.Line.{Row, pages_for, sheet}
-use Rattle.charts.specs.declared.sheet.Chart.{Chart}
+use Rattle.sets.specs.declared.lookup.SetRecords.{SetRecords}
 
 -- ---- the rows of a set: "lapsed records are printed too", so that no tick is given
 
@@ -78,8 +78,8 @@ after_sheet s index starts lengths arena page =
 abbrev pub rows_in : (ℕ → Option RecordRef) → Bool → ℕ → List ℕ → List ℕ → List Row
 rows_in read packed buckets index arena = map (row_of arena) (entries_in read packed buckets index)
 
--- those of a chart
-abbrev pub chart_rows : Chart → List Row
+-- those of a set whose records are at hand
+abbrev pub chart_rows : SetRecords → List Row
 chart_rows c =
     rows_in (record_in c.view c.areas.arena.now c.areas.starts.now c.areas.lengths.now) c.index.packed c.index.buckets c.index.words.now c.areas.arena.now
 

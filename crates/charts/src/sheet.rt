@@ -2,16 +2,15 @@
 ghost use Rattle.std.specs.Prelude.{◌≡◌, true, ◌+◌, ◌*◌, ◌<◌, ◌≤◌, length};
 ghost use Rattle.records.specs.Area.{over, pasted};
 ghost use Rattle.charts.specs.Line.{line, lines, pages_for, sheet};
-ghost use Rattle.charts.specs.Sheet.{after_sheet, chart_rows, pages_answer, row_count, row_fits, row_of, rows_fit, rows_of, sheet_reply, sheet_result};
+ghost use Rattle.charts.specs.Sheet.{after_sheet, chart_rows, pages_answer, row_count, row_fits, row_of, rows_fit, sheet_reply, sheet_result};
 
 use crate::line::{LINE_BYTES, put_blanks, put_line};
 use hash_parts::error::SegmentCacheBuildError;
-use index::find::FinishedIndex;
-use index::view::{SegmentAreas, SegmentView};
+use index::view::SegmentAreas;
 use index::word::BUCKET_SLOTS;
 use records::record::{RecordRef, value_slice};
 use sets::cache::FrozenSegmentCache;
-use sets::lookup::entry_at;
+use sets::lookup::SetRecords;
 
 // The lines of a page, and its bytes.
 const PAGE_LINES: usize = 50;
@@ -37,7 +36,7 @@ pub fn sheet_pages(
     if !set.areas_hold(index.len(), starts.len(), lengths.len(), arena.len()) {
         return Err(SegmentCacheBuildError::InvalidState);
     }
-    let rows = Chart::of(set, index, areas).count_rows()?;
+    let rows = count_rows(set.records(index, areas))?;
     Ok(rows.div_ceil(PAGE_LINES))
 }
 
@@ -54,76 +53,55 @@ pub fn print_sheet(
     if page.len() / PAGE_BYTES < pages {
         return Err(SegmentCacheBuildError::AreaTooShort);
     }
-    Chart::of(set, index, areas).write_sheet(pages, page);
+    write_sheet(set.records(index, areas), pages, page);
     Ok(pages)
 }
 
-// What a sheet is made of: the index that the walk goes through, and the records that it names.
-#[derive(Clone, Copy)]
-struct Chart<'a> {
-    view: SegmentView,
-    index: FinishedIndex<'a>,
-    areas: SegmentAreas<'a>,
+// The first pass: counts the rows, and asks of each whether it fits.
+fn count_rows(chart: SetRecords<'_>) -> Result<usize, SegmentCacheBuildError>
+    requires { 8 * chart.index.buckets ≤ length chart.index.words.now }
+    ensures { result ≡ row_count 0 (chart_rows chart.entry) }
+{
+    let mut rows = 0;
+    for slot in 0..chart.index.buckets * BUCKET_SLOTS {
+        let Some(entry) = chart.entry_at(slot) else {
+            continue;
+        };
+        if !entry_fits(chart.areas.arena, entry) {
+            return Err(SegmentCacheBuildError::FieldTooLong);
+        }
+        rows += 1;
+    }
+    Ok(rows)
 }
 
-impl<'a> Chart<'a> {
-    fn of(set: FrozenSegmentCache, index: &'a [u64], areas: SegmentAreas<'a>) -> Self
-        ensures rows { chart_rows result ≡ rows_of set index.now areas.entry.starts.now areas.entry.lengths.now areas.entry.arena.now }
-        ensures index { (result.index.words.now ≡ index.now) × (result.index.buckets ≡ set.buckets) }
-    {
-        Self {
-            view: set.view(),
-            index: set.finished_index(index),
-            areas,
-        }
-    }
+// The second pass: a line to each row, and blank lines to the end of the last page.
+fn write_sheet(chart: SetRecords<'_>, pages: usize, page: &mut [u8])
+    requires slots { (8 * chart.index.buckets ≤ length chart.index.words.now) × (8 * chart.index.buckets ≤ 100000000) }
+    requires fit { rows_fit (chart_rows chart) ≡ true }
+    requires room { (pages ≡ pages_for (length (chart_rows chart))) × (3250 * pages ≤ length page.old) }
+    ensures { page.new ≡ over (sheet (chart_rows chart.entry)) page.old }
+{
+    let rows = write_rows(chart, page);
+    let at = rows * LINE_BYTES;
+    put_blanks(&mut page[at..], pages * PAGE_LINES - rows);
+}
 
-    // The first pass: counts the rows, and asks of each whether it fits.
-    fn count_rows(self) -> Result<usize, SegmentCacheBuildError>
-        requires { 8 * self.index.buckets ≤ length self.index.words.now }
-        ensures { result ≡ row_count 0 (chart_rows self.entry) }
-    {
-        let mut rows = 0;
-        for slot in 0..self.index.buckets * BUCKET_SLOTS {
-            let Some(entry) = entry_at(self.view, self.index, slot, self.areas) else {
-                continue;
-            };
-            if !entry_fits(self.areas.arena, entry) {
-                return Err(SegmentCacheBuildError::FieldTooLong);
-            }
-            rows += 1;
-        }
-        Ok(rows)
+fn write_rows(chart: SetRecords<'_>, page: &mut [u8]) -> usize
+    requires slots { (8 * chart.index.buckets ≤ length chart.index.words.now) × (8 * chart.index.buckets ≤ 100000000) }
+    requires fit { rows_fit (chart_rows chart) ≡ true }
+    requires room { 65 * length (chart_rows chart) ≤ length page.old }
+    ensures count { let rows = chart_rows chart.entry in (result ≡ length rows) × (65 * result ≡ length (lines (length rows) rows)) }
+    ensures page_after { let rows = chart_rows chart.entry in page.new ≡ over (lines (length rows) rows) page.old }
+{
+    let mut rows = 0;
+    for slot in 0..chart.index.buckets * BUCKET_SLOTS {
+        let Some(entry) = chart.entry_at(slot) else {
+            continue;
+        };
+        rows = put_entry(page, rows, slot, entry, chart.areas.arena);
     }
-
-    // The second pass: a line to each row, and blank lines to the end of the last page.
-    fn write_sheet(self, pages: usize, page: &mut [u8])
-        requires slots { (8 * self.index.buckets ≤ length self.index.words.now) × (8 * self.index.buckets ≤ 100000000) }
-        requires fit { rows_fit (chart_rows self) ≡ true }
-        requires room { (pages ≡ pages_for (length (chart_rows self))) × (3250 * pages ≤ length page.old) }
-        ensures { page.new ≡ over (sheet (chart_rows self.entry)) page.old }
-    {
-        let rows = self.write_rows(page);
-        let at = rows * LINE_BYTES;
-        put_blanks(&mut page[at..], pages * PAGE_LINES - rows);
-    }
-
-    fn write_rows(self, page: &mut [u8]) -> usize
-        requires slots { (8 * self.index.buckets ≤ length self.index.words.now) × (8 * self.index.buckets ≤ 100000000) }
-        requires fit { rows_fit (chart_rows self) ≡ true }
-        requires room { 65 * length (chart_rows self) ≤ length page.old }
-        ensures count { let rows = chart_rows self.entry in (result ≡ length rows) × (65 * result ≡ length (lines (length rows) rows)) }
-        ensures page_after { let rows = chart_rows self.entry in page.new ≡ over (lines (length rows) rows) page.old }
-    {
-        let mut rows = 0;
-        for slot in 0..self.index.buckets * BUCKET_SLOTS {
-            let Some(entry) = entry_at(self.view, self.index, slot, self.areas) else {
-                continue;
-            };
-            rows = put_entry(page, rows, slot, entry, self.areas.arena);
-        }
-        rows
-    }
+    rows
 }
 
 // Whether key and value fit their columns.

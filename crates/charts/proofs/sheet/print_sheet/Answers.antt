@@ -49,8 +49,8 @@ returns-then-page-pages c =
 pub write_sheet-requires : goal.write_sheet-requires
 write_sheet-requires c =
     let k = told (goal.at.write_sheet-requires c).After-sheet_pages c.in_ok-pages.pages c.in_ok-pages.was in
-    let chart = c.of.ensures in
-    rw (chart.rows, chart.index.0, chart.index.1) (record { slots = slots_few _ _ _ _ _ k.0; fit = k.1; room = (k.2, omega (arith, c.if-page-pages.false)) })
+    let r = c.records.ensures in
+    rw (r.view, r.index.0, r.index.1, r.index.2, r.areas.0, r.areas.1, r.areas.2) (record { slots = slots_few _ _ _ _ _ k.0; fit = k.1; room = (k.2, omega (arith, c.if-page-pages.false)) })
 
 pub returns : goal.returns
 returns c =
@@ -58,6 +58,7 @@ returns c =
     let a = c.args in
     let k = told at.After-sheet_pages c.in_ok-pages.pages c.in_ok-pages.was in
     let short : 3250 * pages_for (length (rows at.After-sheet_pages)) ≤ length a.page.now = omega (arith, c.if-page-pages.false, k.2) in
-    let page = rw c.of.ensures.rows at c.write_sheet.ensures in
+    let r = c.records.ensures in
+    let page = rw (r.view, r.index.0, r.index.1, r.index.2, r.areas.0, r.areas.1, r.areas.2) at c.write_sheet.ensures in
     ap₂ (λ (m : ℕ) (l : List ℕ). sheet_result (Ok m) l) k.2 page
     ∙ sheet_fits a.set a.index.now a.areas.starts.now a.areas.lengths.now a.areas.arena.now k.0 k.1 a.page.now short

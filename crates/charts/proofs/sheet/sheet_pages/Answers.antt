@@ -21,7 +21,7 @@ held c = answered_yes c.areas_hold.ensures c.if-not-areas_hold.false
 -- the rows that were counted are the set's
 counted : (c : After-count_rows) → let a = c.args in
     c.count_rows.result ≡ row_count 0 (rows_of a.set a.index.now a.areas.starts.now a.areas.lengths.now a.areas.arena.now)
-counted c = c.count_rows.ensures ∙ ap (row_count 0) c.of.ensures.rows
+counted c = let r = c.records.ensures in c.count_rows.ensures ∙ rw (r.view, r.index.0, r.index.1, r.index.2, r.areas.0, r.areas.1, r.areas.2)
 
 pub returns-then-not-areas_hold : goal.returns-then-not-areas_hold
 unfolding pages_answer ask_pages
@@ -29,8 +29,8 @@ returns-then-not-areas_hold c = rw (answered_no c.areas_hold.ensures c.if-not-ar
 
 pub count_rows-requires : goal.count_rows-requires
 count_rows-requires c =
-    let i = c.of.ensures.index in
-    rw (i.0, i.1) (slots_few _ _ _ _ _ (held (goal.at.count_rows-requires c).Else-not-areas_hold)).0
+    let i = c.records.ensures.index in
+    rw (i.0, i.2) (slots_few _ _ _ _ _ (held (goal.at.count_rows-requires c).Else-not-areas_hold)).0
 
 pub returns-in_err-rows : goal.returns-in_err-rows
 unfolding pages_answer ask_pages

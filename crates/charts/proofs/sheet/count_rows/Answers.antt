@@ -7,20 +7,20 @@ use Rattle.std.specs.Prelude.{Some}
 use Rattle.records.specs.declared.record.RecordRef.{RecordRef}
 use Rattle.charts.specs.Sheet.{row_count}
 use Rattle.charts.proofs.Rows.{count_fits, count_long, count_none, reads, rows_all, rows_from, rows_hit, rows_miss, rows_none, shown}
-use Rattle.charts.proofs.sheet.Chart.count_rows.Goals as goal
-use Rattle.charts.proofs.sheet.Chart.count_rows.Goals.{At-loop-slot}
+use Rattle.charts.proofs.sheet.count_rows.Goals as goal
+use Rattle.charts.proofs.sheet.count_rows.Goals.{At-loop-slot}
 
 -- of a slot whose record was read
-hit : (l : At-loop-slot) (r : RecordRef) → l.loop-slot.slot < l.args.self.index.buckets * 8 → Some r ≡ reads l.args.self l.loop-slot.slot
-    → rows_from l.args.self l.loop-slot.slot ≡ shown l.args.self l.loop-slot.slot r ∷ rows_from l.args.self (l.loop-slot.slot + 1)
-hit l r below e = rows_hit l.args.self l.loop-slot.slot r (omega arith) (sym e)
+hit : (l : At-loop-slot) (r : RecordRef) → l.loop-slot.slot < l.args.chart.index.buckets * 8 → Some r ≡ reads l.args.chart l.loop-slot.slot
+    → rows_from l.args.chart l.loop-slot.slot ≡ shown l.args.chart l.loop-slot.slot r ∷ rows_from l.args.chart (l.loop-slot.slot + 1)
+hit l r below e = rows_hit l.args.chart l.loop-slot.slot r (omega arith) (sym e)
 
 pub loop-slot-init : goal.loop-slot-init
-loop-slot-init c = (ap (row_count 0) (rows_all c.args.self), omega arith)
+loop-slot-init c = (ap (row_count 0) (rows_all c.args.chart), omega arith)
 
 pub loop-slot-preserved-in_default : goal.loop-slot-preserved-in_default
 loop-slot-preserved-in_default c =
-    let missed = rows_miss c.args.self c.loop-slot.slot (omega arith) (sym c.entry_at.ensures ∙ c.in_default.is) in
+    let missed = rows_miss c.args.chart c.loop-slot.slot (omega arith) (sym c.entry_at.ensures ∙ c.in_default.is) in
     (ap (row_count c.loop-slot.rows) (sym missed) ∙ c.loop-slot.invariant.0, omega (arith, c.loop-slot.invariant.1))
 
 pub returns-then-not-entry_fits : goal.returns-then-not-entry_fits
@@ -42,5 +42,5 @@ overflow_add-rows c = omega (arith, c.loop-slot.invariant.1)
 
 pub returns : goal.returns
 returns c =
-    let none = rows_none c.args.self c.loop-slot.slot (omega arith) in
+    let none = rows_none c.args.chart c.loop-slot.slot (omega arith) in
     sym (count_none c.loop-slot.rows) ∙ ap (row_count c.loop-slot.rows) (sym none) ∙ c.loop-slot.invariant.0
