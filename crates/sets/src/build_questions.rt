@@ -1,6 +1,6 @@
 // The questions of a build, which only read. Every number of a state and of the areas lent to it is
 // free: sums are made only after what bounds them was asked.
-ghost use Rattle.std.specs.Prelude.{◌≡◌, ◌≤◌, take};
+ghost use Rattle.std.specs.Prelude.{◌≡◌, ◌≤◌, length, take};
 ghost use Rattle.sets.specs.Questions.{check_number, first_no};
 ghost use Rattle.sets.specs.Build.{areas_hold_builder, ask_finish, builder_fits};
 ghost use Rattle.sets.specs.BuildPlans.{plan_push, plan_record, planned};
@@ -14,6 +14,7 @@ use hash_parts::duration::{Duration, encode_expiry_at_tick};
 use hash_parts::error::SegmentCacheBuildError;
 use index::build::find_build_slot;
 use index::segments::locations_inside;
+use index::view::SegmentAreas;
 use index::word::BUCKET_SLOTS;
 use records::record::Records;
 
@@ -109,17 +110,16 @@ impl SegmentCacheBuilder {
         self,
         target: usize,
         index: &[u64],
-        starts_len: usize,
-        lengths_len: usize,
+        areas: SegmentAreas<'_>,
         scratch_len: usize,
-        arena_len: usize,
     ) -> Result<(), SegmentCacheBuildError>
-        ensures { check_number result ≡ first_no (take 6 (ask_finish self target index.now starts_len lengths_len scratch_len arena_len)) }
+        ensures { check_number result ≡ first_no (take 6 (ask_finish self target index.now
+            (length areas.entry.starts.now) (length areas.entry.lengths.now) scratch_len (length areas.entry.arena.now))) }
     {
-        if !self.areas_hold(index.len(), arena_len) {
+        if !self.areas_hold(index.len(), areas.arena.len()) {
             return Err(SegmentCacheBuildError::InvalidState);
         }
-        if !segment_areas_hold(starts_len, lengths_len) {
+        if !segment_areas_hold(areas.starts.len(), areas.lengths.len()) {
             return Err(SegmentCacheBuildError::InvalidState);
         }
         if self.inserted_entries != self.expected_entries {

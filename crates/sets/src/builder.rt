@@ -118,14 +118,12 @@ impl SegmentCacheBuilder {
     ) -> Result<FrozenSegmentCache, SegmentCacheBuildError>
         ensures { finish_result result self index.new starts.new lengths.new scratch.new ≡ after_finish self target index.old starts.old lengths.old scratch.old arena.now }
     {
-        self.check_finish(
-            target,
-            index,
-            starts.len(),
-            lengths.len(),
-            scratch.len(),
-            arena.len(),
-        )?;
+        let areas = SegmentAreas {
+            starts,
+            lengths,
+            arena,
+        };
+        self.check_finish(target, index, areas, scratch.len())?;
         let buckets = self.bucket_count;
         let segments = split_record_segments(index, buckets, self.filled, target, starts, lengths)?;
         pack_index(self.config.packed_bucket_index, index, buckets, scratch);

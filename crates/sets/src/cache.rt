@@ -237,8 +237,8 @@ impl FrozenSegmentCache {
         Ok(())
     }
 
-    // Whether all five areas hold what a lookup reads. By their lengths: a caller that has them lent to be
-    // written asks as well.
+    // Whether all five areas hold what a lookup reads. By their lengths, which are all that it asks: a caller
+    // may have no more of them.
     #[tactic(auto, unfolding(crate::specs::Lookup::areas_hold_lookup))]
     pub fn lookup_areas_hold(
         self,
