@@ -77,6 +77,7 @@ fn content_in(rest: &[u8]) -> &[u8]
 }
 
 // The content of the block that stands where that of a kind belongs.
+#[tactic(auto, unfolding(crate::specs::Blocks::content_of))]
 pub(crate) fn content_of(file: &[u8], kind: BlockKind) -> &[u8]
     ensures { result.now ≡ content_of (kind_number kind - 1) file.now }
 {
@@ -88,6 +89,7 @@ pub(crate) fn content_of(file: &[u8], kind: BlockKind) -> &[u8]
 }
 
 // Whether no block runs past the file's end and nothing follows the fifth.
+#[tactic(auto, using(crate::proofs::Positions::none_left, crate::proofs::Positions::some_left), unfolding(crate::specs::Blocks::frames_well))]
 pub(crate) fn frames_well(file: &[u8]) -> bool
     ensures { result ≡ frames_well 5 file.now }
 {

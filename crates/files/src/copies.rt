@@ -24,6 +24,7 @@ pub(crate) fn number_of(bytes: &[u8]) -> u64
 }
 
 // Writes the lowest bytes of a number, as many as are lent.
+#[tactic(auto, using(crate::proofs::Copying::front_bytes))]
 pub(crate) fn put_number(out: &mut [u8], number: u64)
     requires { length out.old ≤ 8 }
     ensures { out.new ≡ bytes_of (length out.old) number }

@@ -27,6 +27,7 @@ pub struct FileNeeds {
 }
 
 // The least lengths that a load takes. An area may be longer.
+#[tactic(auto, using(crate::proofs::Loading::asked_set, crate::proofs::Loading::few_buckets, crate::proofs::Loading::needs_is, crate::proofs::Loading::asked_refused, crate::proofs::Loading::needs_refused))]
 pub fn file_needs(file: &[u8]) -> Result<FileNeeds, SegmentCacheBuildError>
     ensures { needs_reply result ≡ needs_answer file.now }
 {
@@ -42,6 +43,7 @@ pub fn file_needs(file: &[u8]) -> Result<FileNeeds, SegmentCacheBuildError>
 
 // Loads a file: its words and bytes go to the front of the areas, marks cleared. Each area is lent to be
 // written, and so by itself: a struct of areas lends them to be read.
+#[tactic(auto, using(crate::proofs::Loading::asked_set, crate::proofs::Loading::asked_refused, crate::proofs::Loading::load_refused))]
 pub fn load_file(
     file: &[u8],
     index: &mut [u64],
