@@ -1,5 +1,5 @@
--- What a list of calls gives that ends with its only lookup: the answer of src/build_list.rt as the claim counts answers.
--- Assumes nothing.
+-- The calls of a list by the arguments that its program is given, and what a list gives that ends with its only lookup: the answer of
+-- src/build_list.rt as the claim counts answers. Assumes nothing.
 use Rattle.std.specs.Prelude.{List, [], ◌∷◌, ℕ, Option, Some, None, Result, Ok, Err}
 use Rattle.hash_parts.specs.declared.error.SegmentCacheBuildError.{SegmentCacheBuildError}
 use Rattle.records.specs.Area.{spanned}
@@ -9,7 +9,7 @@ use Rattle.book_lists.specs.declared.build_list.LookupArguments.{LookupArguments
 use Rattle.book_lists.specs.declared.build_list.PushArguments.{PushArguments}
 use Rattle.book_lists.specs.declared.rebuild_list.ReuseArguments.{ReuseArguments}
 
--- ---- the calls with the arguments that a list is given
+-- ---- the calls
 
 abbrev pub push_with : PushArguments → Call (List ℕ) ℕ
 push_with p = push p.key.now p.value.now p.hash p.ttl

@@ -6,12 +6,12 @@ ghost use Rattle.std.specs.Prelude.{◌≡◌};
 ghost use Rattle.capi.specs.Calls.{exported_push, push_words};
 
 use capi::answers::{PLACE_WORDS, tell_push};
-use capi::words::{BUILDER_WORDS, FromWords, MALFORMED};
+use capi::words::{FromWords, MALFORMED};
 use hash_parts::duration::Duration;
 use sets::builder::SegmentCacheBuilder;
 
 // The two words of the place: slot and location.
-#[tactic(auto, using(capi::proofs::Replies::push_back), unfolding(capi::specs::Calls::exported_push))]
+#[tactic(auto, using(capi::proofs::Replies::push_back), unfolding(capi::specs::Calls::exported_push, capi::specs::Words::builder_in, capi::specs::Words::setting_among))]
 #[unsafe(no_mangle)]
 pub extern "C" fn segment_cache_push(
     builder: &mut [u64],
@@ -26,9 +26,6 @@ pub extern "C" fn segment_cache_push(
 ) -> u64
     ensures { push_words result builder.new index.new filter.new arena.new place.new ≡ exported_push builder.old hash key.now value.now lifetime.now index.old filter.old arena.old place.old }
 {
-    if builder.len() != BUILDER_WORDS {
-        return MALFORMED;
-    }
     if place.len() != PLACE_WORDS {
         return MALFORMED;
     }

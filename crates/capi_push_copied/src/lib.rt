@@ -7,12 +7,12 @@ ghost use Rattle.capi.specs.Calls.{push_words};
 ghost use Rattle.capi.specs.Rebuilds.{exported_copied};
 
 use capi::answers::{PLACE_WORDS, tell_push};
-use capi::words::{FromWords, MALFORMED, REBUILD_WORDS};
+use capi::words::{FromWords, MALFORMED};
 use hash_parts::duration::Duration;
 use sets::rebuild::SharedSegmentCacheBuilder;
 
 // The two words of the place: slot and location in the rebuild.
-#[tactic(auto, using(capi::proofs::Replies::rebuild_push_back), unfolding(capi::specs::Rebuilds::exported_copied))]
+#[tactic(auto, using(capi::proofs::Replies::rebuild_push_back), unfolding(capi::specs::Rebuilds::exported_copied, capi::specs::Words::rebuild_in, capi::specs::Words::setting_among))]
 #[unsafe(no_mangle)]
 pub extern "C" fn segment_cache_push_copied(
     rebuild: &mut [u64],
@@ -29,9 +29,6 @@ pub extern "C" fn segment_cache_push_copied(
 ) -> u64
     ensures { push_words result rebuild.new index.new filter.new arena.new place.new ≡ exported_copied rebuild.old hash key.now value.now lifetime.now index.old filter.old starts.now lengths.now arena.old place.old }
 {
-    if rebuild.len() != REBUILD_WORDS {
-        return MALFORMED;
-    }
     if place.len() != PLACE_WORDS {
         return MALFORMED;
     }

@@ -6,13 +6,13 @@ ghost use Rattle.std.specs.Prelude.{◌≡◌};
 ghost use Rattle.capi.specs.Rebuilds.{exported_reused, reused_words};
 
 use capi::answers::{PLACE_WORDS, tell_push};
-use capi::words::{FromWords, MALFORMED, REBUILD_WORDS};
+use capi::words::{FromWords, MALFORMED};
 use index::view::SegmentAreas;
 use sets::rebuild::{SegmentRecordLocation, SharedSegmentCacheBuilder};
 
 // Location and header bytes are those of the record in the source; the two words of the place are
 // slot and location in the rebuild.
-#[tactic(auto, using(capi::proofs::Replies::rebuild_push_back), unfolding(capi::specs::Rebuilds::exported_reused))]
+#[tactic(auto, using(capi::proofs::Replies::rebuild_push_back), unfolding(capi::specs::Rebuilds::exported_reused, capi::specs::Words::rebuild_in, capi::specs::Words::setting_among))]
 #[unsafe(no_mangle)]
 pub extern "C" fn segment_cache_push_reused(
     rebuild: &mut [u64],
@@ -30,9 +30,6 @@ pub extern "C" fn segment_cache_push_reused(
 ) -> u64
     ensures { reused_words result rebuild.new index.new filter.new place.new ≡ exported_reused rebuild.old hash key.now value.now location header_bytes index.old filter.old starts.now lengths.now arena.now place.old }
 {
-    if rebuild.len() != REBUILD_WORDS {
-        return MALFORMED;
-    }
     if place.len() != PLACE_WORDS {
         return MALFORMED;
     }
