@@ -1,5 +1,5 @@
 // Answering a line of the input.
-ghost use Rattle.std.specs.Prelude.{◌≡◌, length, unwrap_or};
+ghost use Rattle.std.specs.Prelude.{◌≡◌, ◌≤◌, length, unwrap_or};
 ghost use Rattle.texts.specs.Output.{appended, output};
 ghost use Rattle.passage.specs.Answer.{get_text, line_step, put_texts};
 ghost use Rattle.passage.specs.Stage.{answer_text, answered_by};
@@ -85,7 +85,8 @@ fn get_line(
 // where the line does not fit it writes nothing.
 #[tactic(auto, unfolding(crate::specs::Stage::answer_text))]
 pub(crate) fn put_answer(out: &mut [u8], at: usize, answer: Answer, arena: &[u8]) -> usize
-    ensures { output result out.new ≡ appended at (answer_text arena.now answer) out.old }
+    ensures line_after { output result out.new ≡ appended at (answer_text arena.now answer) out.old }
+    ensures end_inside { at ≤ length out.old → result ≤ length out.old }
 {
     match answer {
         Answer::Line(reply) => put_reply(out, at, reply),

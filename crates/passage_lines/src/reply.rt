@@ -54,8 +54,10 @@ const REPLY_BYTES: usize = 64;
 
 // Writes the line of a reply from a position on, and gives the position after it, which the next call takes;
 // where the line does not fit it writes nothing.
+#[tactic(auto, unfolding(texts::specs::Output::appended))]
 pub fn put_reply(out: &mut [u8], at: usize, reply: Reply) -> usize
-    ensures { output result out.new ≡ appended at (reply_text reply) out.old }
+    ensures line_after { output result out.new ≡ appended at (reply_text reply) out.old }
+    ensures end_inside { at ≤ length out.old → result ≤ length out.old }
 {
     let mut line = [0u8; REPLY_BYTES];
     let end = write_reply(&mut line, reply);
@@ -94,9 +96,10 @@ fn write_line(line: &mut [u8], word: Word, numbers: &[usize]) -> usize
 }
 
 // Writes the line of a value that was found, as put_reply does.
-#[tactic(auto, using(crate::proofs::Replies::value_length, texts::proofs::Spelling::appended_in, texts::proofs::Spelling::appended_out))]
+#[tactic(auto, using(crate::proofs::Replies::value_length, texts::proofs::Spelling::appended_in, texts::proofs::Spelling::appended_out), unfolding(texts::specs::Output::appended))]
 pub fn put_value(out: &mut [u8], at: usize, value: &[u8]) -> usize
-    ensures { output result out.new ≡ appended at (value_text value.now) out.old }
+    ensures line_after { output result out.new ≡ appended at (value_text value.now) out.old }
+    ensures end_inside { at ≤ length out.old → result ≤ length out.old }
 {
     let room = out.len().saturating_sub(at);
     if room < 8 || (room - 7) / 2 < value.len() {
