@@ -17,7 +17,7 @@ pub const MAX_RECORD_SEGMENTS: usize = 256;
 const NO_START: u64 = LOCATIONS;
 
 // Splits the records under an index. Where there would be more than 256 segments only the first 256
-// starts are written.
+// starts are written. Areas that a call writes to stand one by one: no two calls write to the same.
 pub fn split_record_segments(
     index: &mut [u64],
     buckets: usize,

@@ -16,7 +16,8 @@ pub struct SegmentView {
 }
 
 // The areas that hold the records of a finished set: where each segment starts in the arena, how many
-// bytes it has, and the arena. Reading asks of each place whether it is inside, so there is nothing that they must fit.
+// bytes it has, and the arena. A caller lends them, and the view is the state's, so they stay two. Reading asks of each
+// place whether it is inside, so there is nothing that they must fit.
 #[derive(Clone, Copy)]
 pub struct SegmentAreas<'a> {
     pub starts: &'a [u64],
