@@ -183,7 +183,8 @@ impl SegmentCacheBuilder {
 
 // The packed layout, where the setting asks for it.
 pub(crate) fn pack_index(packed: bool, index: &mut [u64], buckets: usize, scratch: &mut [u64])
-    ensures { (index.new ≡ (if packed then packed_index buckets index.old scratch.old else index.old)) × (scratch.new ≡ (if packed then packed_scratch buckets index.old scratch.old else scratch.old)) }
+    ensures index { index.new ≡ (if packed then packed_index buckets index.old scratch.old else index.old) }
+    ensures scratch { scratch.new ≡ (if packed then packed_scratch buckets index.old scratch.old else scratch.old) }
 {
     if packed {
         finish_packed_index(index, buckets, scratch);

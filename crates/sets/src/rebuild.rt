@@ -259,7 +259,8 @@ impl SharedSegmentCacheBuilder {
         filter: &mut [u64],
     )
         requires { slot < length index.old }
-        ensures { (index.new ≡ slice_set index.old slot (word_of (tag_of hash) location)) × (filter.new ≡ displaced_marked filter.old self.filter_words hash slot self.bucket_count) }
+        ensures index { index.new ≡ slice_set index.old slot (word_of (tag_of hash) location) }
+        ensures filter { filter.new ≡ displaced_marked filter.old self.filter_words hash slot self.bucket_count }
     {
         index[slot] = encode_index_word(hash_tag(hash), location as u64);
         mark_displaced(filter, self.filter_words, hash, slot, self.bucket_count);

@@ -20,4 +20,4 @@ returns c =
     let w = c.split_record_segments in
     let asked = sym c.check_finish.ensures ∙ ap check_number c.in_ok-check_finish.was in
     let split = ap (λ (r : Result ℕ SegmentCacheBuildError). split_result r w.new.index w.new.starts w.new.lengths) (sym c.in_ok-segments.was) ∙ w.ensures in
-    split_made _ _ _ _ _ _ _ _ _ _ _ _ _ _ asked split c.into_cache.ensures c.pack_index.ensures.0 c.pack_index.ensures.1
+    split_made _ _ _ _ _ _ _ _ _ _ _ _ _ _ asked split c.into_cache.ensures c.pack_index.ensures.index c.pack_index.ensures.scratch
