@@ -47,7 +47,8 @@ pub fn file_bytes(
     )
 }
 
-// Writes the set to the front of the file area, marks cleared, and says how many bytes the file has.
+// Writes the set to the front of the file area, marks cleared, and says how many bytes the file has. Index, filter
+// and areas come one by one, as the lookups of a set take them.
 pub fn write_file(
     set: FrozenSegmentCache,
     index: &[u64],
