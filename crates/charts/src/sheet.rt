@@ -21,6 +21,7 @@ const PAGE_BYTES: usize = PAGE_LINES * LINE_BYTES;
 const FIELD_BYTES: usize = 12;
 
 // How many pages a set's sheet has. A page takes 3,250 bytes.
+#[tactic(auto, using(crate::proofs::Asked::count_passed, crate::proofs::Asked::count_refused, crate::proofs::Asked::slots_few), unfolding(crate::specs::Sheet::pages_answer, crate::specs::Sheet::ask_pages))]
 pub fn sheet_pages(
     set: FrozenSegmentCache,
     index: &[u64],

@@ -2,10 +2,9 @@
 use mathlib.Core.Path.{◌≡◌, refl, sym, ◌∙◌}
 use mathlib.Core.Bool.{Bool, true, false, cond}
 use mathlib.Core.List.{List, [], ◌∷◌}
-use Prim.Native.Nat.{ℕ, zero, suc, ◌+◌, ◌≤◌, ◌<◌}
-use native.Mathlib.Decide.{dec_le}
+use Prim.Native.Nat.{ℕ, suc, ◌+◌, ◌≤◌, ◌<◌}
 use native.Mathlib.Omega.{arith}
-use borrow.Author.Tests.{eqb-true, le-leb, lt-leb, leb-true, leb-false, ne_eqb}
+use borrow.Author.Tests.{eqb-true, leb-true, leb-false, ne_eqb}
 use lib.Dec.{eqb, leb}
 use lib.ListN.{length, drop_of_length-le}
 use Rattle.sets.proofs.Counts.{both}
@@ -14,19 +13,6 @@ use Rattle.files.specs.Blocks.{behind, frames_well, is_whole, kind_in, kinds_fro
 -- ---- g is the file from the block on
 
 module _ (g : List ℕ) where
-  pub whole_short : length g < 6 → is_whole g ≡ false
-  unfolding is_whole
-  whole_short h = rw (lt-leb 6 (length g) h)
-
-  -- the test as the code makes it, of what is left behind the header
-  pub whole_by_rest : (rest : ℕ) → 6 + rest ≡ length g → leb (size_in g) rest ≡ is_whole g
-  unfolding is_whole
-  whole_by_rest rest e = rw (le-leb 6 (length g) (omega arith)) (go (dec_le (size_in g) rest))
-    where
-      go : Dec (size_in g ≤ rest) → leb (size_in g) rest ≡ leb (6 + size_in g) (length g)
-      go (yes h) = rw (le-leb (size_in g) rest h, le-leb (6 + size_in g) (length g) (omega arith))
-      go (no h) = rw (lt-leb (size_in g) rest (omega arith), lt-leb (6 + size_in g) (length g) (omega arith))
-
   pub whole_room : is_whole g ≡ true → 6 + size_in g ≤ length g
   unfolding is_whole
   whole_room e = leb-true _ _ (both (leb 6 (length g)) (leb (6 + size_in g) (length g)) e).1
@@ -60,11 +46,6 @@ module _ (g : List ℕ) where
   -- a block of a file that is framed well is whole
   pub framed_whole : (n : ℕ) → 0 < length g → frames_well (suc n) g ≡ true → (is_whole g ≡ true) × (frames_well n (behind g) ≡ true)
   framed_whole n h e = both (is_whole g) (frames_well n (behind g)) (sym (frames_next n h) ∙ e)
-
-pub frames_none : (n : ℕ) → frames_well n [] ≡ true
-unfolding frames_well
-frames_none zero = refl
-frames_none (suc n) = refl
 
 pub frames_last : (g : List ℕ) → frames_well 0 g ≡ eqb (length g) 0
 unfolding frames_well

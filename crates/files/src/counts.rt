@@ -116,6 +116,7 @@ impl<'a> Counts<'a> {
     }
 
     // The set that the file tells of.
+    #[tactic(auto, using(crate::proofs::Told::set_is))]
     pub(crate) fn set(self) -> FrozenSegmentCache
         ensures { result ≡ file_set self.entry.file.now }
     {

@@ -47,7 +47,8 @@ pub fn file_bytes(
     )
 }
 
-// Writes the set to the front of the file area, marks cleared, and says how many bytes the file has.
+// Writes the set to the front of the file area, marks cleared, and says how many bytes the file has. Index, filter
+// and areas come one by one, as the lookups of a set take them.
 pub fn write_file(
     set: FrozenSegmentCache,
     index: &[u64],
@@ -110,6 +111,7 @@ fn put_file(
 }
 
 // Kind 1: the numbers of the setting and the counts.
+#[tactic(auto, using(crate::proofs::Pieces::block_made, crate::proofs::Pieces::counts_long, crate::proofs::Pieces::counts_same))]
 fn put_counts(out: &mut [u8], set: FrozenSegmentCache)
     requires { length out.old ≡ 50 }
     ensures { out.new ≡ block 1 (count_bytes set) }
@@ -153,6 +155,7 @@ fn put_numbers(out: &mut [u8], numbers: &[u64])
 }
 
 // A block of words, as they are.
+#[tactic(auto, using(crate::proofs::Pieces::block_made, crate::proofs::Pieces::whole_bytes, crate::proofs::Low::word_bytes_length))]
 fn put_block(out: &mut [u8], kind: BlockKind, words: &[u64])
     requires { length out.old ≡ 6 + 8 * length words.now }
     ensures { out.new ≡ block (kind_number kind) (word_bytes words.now) }
@@ -174,6 +177,7 @@ fn put_index(out: &mut [u8], packed: bool, buckets: usize, index: &[u64])
 
 // The index without its marks. In the packed layout these stand in the control words, the first of the
 // index.
+#[tactic(auto, using(crate::proofs::Pieces::words_unmarked))]
 fn put_unmarked(out: &mut [u8], packed: bool, buckets: usize, index: &[u64])
     requires { (length out.old ≡ 64 * buckets) × (length index.now ≡ 8 * buckets) }
     ensures { out.new ≡ word_bytes (unmarked_index packed buckets index.now) }

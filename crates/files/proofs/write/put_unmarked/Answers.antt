@@ -1,11 +1,8 @@
 -- `put_unmarked` meets its contract: all words with one mask, or control words and references with one each. Assumes nothing.
 use Rattle.std.proofs.Common.{◌∙◌, ◌++◌, List, ℕ, ap₂}
 use Rattle.std.proofs.lemmas.List.{take_rest}
-use Rattle.files.proofs.Pieces.{packed_unmarked_bytes, words_unmarked}
+use Rattle.files.proofs.Pieces.{packed_unmarked_bytes}
 use Rattle.files.proofs.write.put_unmarked.Goals as goal
-
-pub returns-then-not-packed : goal.returns-then-not-packed
-returns-then-not-packed c = c.put_words.ensures ∙ rw c.if-not-packed.true (words_unmarked c.args.buckets c.args.index.now)
 
 pub returns : goal.returns
 returns c =
