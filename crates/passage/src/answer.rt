@@ -49,6 +49,7 @@ pub(crate) fn answer_line(
 }
 
 // None where key or value has no room, which is bad.
+#[tactic(auto, unfolding(crate::specs::Stage::answer_text, passage_lines::specs::Reply::reply_text))]
 fn put_line(
     stage: &mut Stage,
     hash: u64,
@@ -67,6 +68,7 @@ fn put_line(
     Some(stage.put(hash, key, value, ttl, areas))
 }
 
+#[tactic(auto, unfolding(crate::specs::Stage::answer_text, passage_lines::specs::Reply::reply_text))]
 fn get_line(
     stage: Stage,
     hash: u64,
