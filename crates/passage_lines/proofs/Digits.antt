@@ -5,11 +5,11 @@ use Rattle.std.specs.List.{list_all}
 use Rattle.std.specs.Option.{is_some}
 use native.Mathlib.Numerals.{add-two}
 use borrow.Author.Tests.{le-leb, lt-leb}
-use lib.ListN.{take, drop_of_length-le}
+use lib.ListN.{drop_of_length-le}
 use lib.Seq.{take_at}
 use Rattle.records.specs.Area.{over}
 use Rattle.passage_lines.specs.Text.{digit_in, digit_of}
-use Rattle.passage_lines.specs.Hex.{byte_of_hex, in_front, bytes_of_hex, spells, is_hex, bytes_in, hex_bytes, decode_result, decoded_to, decoded, front_of, within}
+use Rattle.passage_lines.specs.Hex.{byte_of_hex, in_front, bytes_of_hex, spells, is_hex, bytes_in, hex_bytes, decode_result, decoded, front_of, within}
 
 -- ---- a text spells bytes where it is an even number of digits
 
