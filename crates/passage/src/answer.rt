@@ -13,7 +13,7 @@ use passage_lines::reply::{put_reply, put_value};
 use records::record::value_slice;
 
 // What a line does and prints. The areas for key and value hold their bytes while the line is answered. By a
-// match: each command has fields of its own, which one type of closures would have to hold all.
+// match: each command has fields of its own, and closures in one table would have to take all of them.
 #[tactic(auto, unfolding(crate::specs::Answer::line_step, crate::specs::Stage::answer_text, passage_lines::specs::Reply::reply_text))]
 pub(crate) fn answer_line(
     stage: &mut Stage,
