@@ -1,20 +1,15 @@
 -- What a line of the input does and prints.
 -- Assumes nothing.
-use Rattle.std.specs.Prelude.{ℕ, cond, Option, Some, None, List, leb, length}
+use Rattle.std.specs.Prelude.{ℕ, Option, Some, None, List}
 use Rattle.hash_parts.specs.declared.duration.Duration.{Duration}
 use Rattle.records.specs.Area.{spanned}
 use Rattle.passage_lines.specs.Command.{command_of}
-use Rattle.passage_lines.specs.Hex.{bytes_of_hex}
+use Rattle.passage_lines.specs.Hex.{bytes_of_hex, within}
 use Rattle.passage_lines.specs.declared.command.Command.{Command}
 use Rattle.passage_lines.specs.declared.command.Command.TheVariants.{Open, Put, Close, Get, Bad}
 use Rattle.passage.specs.Stage.{bad_text, Answered, answered, open_step, after_opening, Putting, putting, put_step, after_putting, close_step, after_closing, Getting, get_step, after_getting}
 use Rattle.passage.specs.declared.areas.Areas.{Areas}
 use Rattle.passage.specs.declared.stage.Stage.{Stage}
-
--- the bytes that a part of a line spells, where an area of so many bytes has room for them
-abbrev pub within : ℕ → Option (List ℕ) → Option (List ℕ)
-within room None = None
-within room (Some s) = cond (leb (length s) room) (Some s) None
 
 -- a put with key and value, and a get with a key
 abbrev pub put_bytes : Stage → ℕ → Option Duration → List ℕ → List ℕ → List ℕ → Option (List ℕ) → Option (List ℕ) → Putting

@@ -13,7 +13,7 @@ use passage_lines::reply::{put_reply, put_value};
 use records::record::value_slice;
 
 // What a line does and prints. The areas for key and value hold their bytes while the line is answered. By a
-// match: each command has fields of its own, which one type of closures would have to hold all.
+// match: each command has fields of its own, and closures in one table would have to take all of them.
 #[tactic(auto, unfolding(crate::specs::Answer::line_step, crate::specs::Stage::answer_text, passage_lines::specs::Reply::reply_text))]
 pub(crate) fn answer_line(
     stage: &mut Stage,
@@ -49,6 +49,7 @@ pub(crate) fn answer_line(
 }
 
 // None where key or value has no room, which is bad.
+#[tactic(auto, unfolding(crate::specs::Stage::answer_text, passage_lines::specs::Reply::reply_text))]
 fn put_line(
     stage: &mut Stage,
     hash: u64,
@@ -67,6 +68,7 @@ fn put_line(
     Some(stage.put(hash, key, value, ttl, areas))
 }
 
+#[tactic(auto, unfolding(crate::specs::Stage::answer_text, passage_lines::specs::Reply::reply_text))]
 fn get_line(
     stage: Stage,
     hash: u64,

@@ -1,5 +1,5 @@
 // The program passage on lines of other forms, a line over the limit, and a last line without line feed.
-// A program is run on one input, so each input has a program: all of passage but the call stands in its crate.
+// A program is run on one input, so each input has a program of its own, and each of them calls passage.
 #![tactic(auto)]
 
 fn main(rt: HostRuntime) {

@@ -6,9 +6,10 @@ use Rattle.std.specs.Option.{is_some}
 use native.Mathlib.Numerals.{add-two}
 use borrow.Author.Tests.{le-leb, lt-leb}
 use lib.ListN.{drop_of_length-le}
+use lib.Seq.{take_at}
 use Rattle.records.specs.Area.{over}
 use Rattle.passage_lines.specs.Text.{digit_in, digit_of}
-use Rattle.passage_lines.specs.Hex.{byte_of_hex, in_front, bytes_of_hex, spells, is_hex, bytes_in, hex_bytes, decode_result, decoded_to, decoded}
+use Rattle.passage_lines.specs.Hex.{byte_of_hex, in_front, bytes_of_hex, spells, is_hex, bytes_in, hex_bytes, decode_result, decoded, front_of, within}
 
 -- ---- a text spells bytes where it is an even number of digits
 
@@ -117,26 +118,44 @@ module _ (text : List ℕ) (q : is_hex text ≡ true) where
 
   -- ---- decoding into an area
 
-  decoded_by : (area : List ℕ) → decoded text area ≡ decoded_to area (Some (hex_bytes text))
-  unfolding is_hex hex_bytes decoded
-  decoded_by area = go (bytes_of_hex text) q
+  spelled_by : bytes_of_hex text ≡ Some (hex_bytes text)
+  unfolding is_hex hex_bytes
+  spelled_by = go (bytes_of_hex text) q
     where
-      go : (o : Option (List ℕ)) → spells o ≡ true → decoded_to area o ≡ decoded_to area (Some (bytes_in o))
+      go : (o : Option (List ℕ)) → spells o ≡ true → o ≡ Some (bytes_in o)
       go None p = cc
       go (Some s) p = refl
 
   pub decoded_in : (area out : List ℕ) (n : ℕ) → n ≡ length text / 2 → n ≤ length area → out ≡ over (hex_bytes text) area → decode_result (Some n) out ≡ decoded text area
+  unfolding decoded
   decoded_in area out n e h o =
       let l : n ≡ length (hex_bytes text) = omega (arith, bytes_length) in
-      rw (decoded_by area, o, l, le-leb (length (hex_bytes text)) (length area) (omega arith))
+      rw (spelled_by, o, l, le-leb (length (hex_bytes text)) (length area) (omega arith))
+
+  pub front_in : (area out : List ℕ) (n : ℕ) → n ≡ length text / 2 → n ≤ length area → out ≡ over (hex_bytes text) area → front_of (Some n) out ≡ within (length area) (bytes_of_hex text)
+  front_in area out n e h o =
+      let l : length (hex_bytes text) ≡ n = omega (arith, bytes_length) in
+      rw (spelled_by, o, take_at (hex_bytes text) (drop (length (hex_bytes text)) area) n l, le-leb (length (hex_bytes text)) (length area) (omega arith))
 
   pub decoded_short : (area : List ℕ) → length area < length text / 2 → decode_result None area ≡ decoded text area
-  decoded_short area h = rw (decoded_by area, lt-leb (length (hex_bytes text)) (length area) (omega (arith, bytes_length)))
+  unfolding decoded
+  decoded_short area h = rw (spelled_by, lt-leb (length (hex_bytes text)) (length area) (omega (arith, bytes_length)))
 
-pub decoded_bad : (text area : List ℕ) → is_hex text ≡ false → decode_result None area ≡ decoded text area
-unfolding is_hex decoded
-decoded_bad text area q = go (bytes_of_hex text) q
-  where
-    go : (o : Option (List ℕ)) → spells o ≡ false → decode_result None area ≡ decoded_to area o
-    go None p = refl
-    go (Some s) p = cc
+  pub front_short : (area : List ℕ) → length area < length text / 2 → front_of None area ≡ within (length area) (bytes_of_hex text)
+  front_short area h = rw (spelled_by, lt-leb (length (hex_bytes text)) (length area) (omega (arith, bytes_length)))
+
+module _ (text area : List ℕ) (q : is_hex text ≡ false) where
+  spelled_none : bytes_of_hex text ≡ None
+  unfolding is_hex
+  spelled_none = go (bytes_of_hex text) q
+    where
+      go : (o : Option (List ℕ)) → spells o ≡ false → o ≡ None
+      go None p = refl
+      go (Some s) p = cc
+
+  pub decoded_bad : decode_result None area ≡ decoded text area
+  unfolding decoded
+  decoded_bad = rw spelled_none
+
+  pub front_bad : front_of None area ≡ within (length area) (bytes_of_hex text)
+  front_bad = rw spelled_none

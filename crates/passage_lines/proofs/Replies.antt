@@ -1,13 +1,12 @@
 -- Laws of the lines of the output: how long they are, and writing them piece by piece. Assumes nothing.
-use mathlib.Core.Path.{◌≡◌, refl, sym, ap}
+use mathlib.Core.Path.{◌≡◌, refl, ap}
 use mathlib.Core.List.{List, [], ◌∷◌, ◌++◌, append_assoc}
-use Prim.Native.Nat.{ℕ, ◌+◌, ◌*◌, ◌-◌, ◌^◌, ◌≤◌, ◌<◌, max}
+use Prim.Native.Nat.{ℕ, ◌+◌, ◌*◌, ◌^◌, ◌≤◌, ◌<◌, max}
 use native.Mathlib.Omega.{arith}
 use native.Mathlib.Numerals.{add-one}
-use lib.ListN.{length, get_or, take, drop, length-append, drop_of_length-le}
-use lib.Seq.{take_at, drop-cons}
+use lib.ListN.{length, get_or, drop, length-append, drop_of_length-le}
+use lib.Seq.{drop-cons}
 use Rattle.std.specs.List.{flat_map}
-use Rattle.records.specs.Area.{over}
 use Rattle.records.proofs.Area.{Writing, fits, next}
 use Rattle.texts.specs.Output.{decimal_text, output, appended}
 use Rattle.texts.proofs.Spelling.{appended_parts, decimal_small, decimal_twenty, hex_length_law}
@@ -64,10 +63,3 @@ bytes_length (b ∷ s) = omega (arith, hex_length_law (b ∷ s))
 pub value_length : (value : List ℕ) → length (value_text value) ≡ 7 + max 1 (2 * length value)
 unfolding value_text
 value_length value = omega (arith, bytes_length value, length-append (bytes_text value) line_feed)
-
--- ---- the front of an area holds what was written to it
-
-pub over_front : (s area line : List ℕ) (n : ℕ) → n ≡ length s → line ≡ over s area → take (n - 0) line ≡ s
-over_front s area line n e f =
-    let z : n - 0 ≡ n = omega arith in
-    rw (f, z) (take_at s (drop (length s) area) n (sym e))

@@ -1,7 +1,7 @@
 -- Bytes as hexadecimal text, in small letters: "Hash, key and value hexadecimal in small letters, `-` for no
 -- bytes".
 -- Assumes nothing.
-use Rattle.std.specs.Prelude.{ℕ, ◌+◌, ◌*◌, Bool, true, false, cond, Option, Some, None, List, [], ◌∷◌, eqb, leb, ltb, length, bytes_eq, codes}
+use Rattle.std.specs.Prelude.{ℕ, ◌+◌, ◌*◌, Bool, true, false, cond, Option, Some, None, List, [], ◌∷◌, eqb, leb, ltb, length, take, bytes_eq, codes}
 use Rattle.records.specs.Area.{over}
 use Rattle.passage_lines.specs.Text.{digit_of}
 
@@ -48,6 +48,16 @@ decoded_to area (Some s) = cond (leb (length s) (length area)) (record { count =
 
 unfoldable pub decoded : List ℕ → List ℕ → Decoded
 decoded text area = decoded_to area (bytes_of_hex text)
+
+-- the bytes that a text spells, where an area of so many bytes has room for them
+abbrev pub within : ℕ → Option (List ℕ) → Option (List ℕ)
+within room None = None
+within room (Some s) = cond (leb (length s) room) (Some s) None
+
+-- the bytes at the front of an area, as many as were written
+abbrev pub front_of : Option ℕ → List ℕ → Option (List ℕ)
+front_of None area = None
+front_of (Some n) area = Some (take n area)
 
 -- ---- for private functions alone: the bytes of a text that spells some
 

@@ -1,7 +1,7 @@
 // Bytes in hexadecimal, small letters.
-ghost use Rattle.std.specs.Prelude.{◌≡◌, true, ◌*◌, ◌≤◌, length};
+ghost use Rattle.std.specs.Prelude.{◌≡◌, true, ◌*◌, ◌≤◌, length, IfSome};
 ghost use Rattle.records.specs.Area.{over};
-ghost use Rattle.passage_lines.specs.Hex.{byte_of_hex, decode_result, decoded, hex_bytes, hex_length, is_hex};
+ghost use Rattle.passage_lines.specs.Hex.{byte_of_hex, bytes_of_hex, decode_result, decoded, front_of, hex_bytes, hex_length, is_hex, within};
 
 use crate::text::digit;
 
@@ -36,9 +36,11 @@ pub(crate) fn hex_length(text: &[u8]) -> Option<usize>
 
 // Writes the bytes that a text spells to the front of an area, and gives how many they are. Where the
 // text spells none, or the area is too short, nothing is written.
-#[tactic(auto, using(crate::proofs::Digits::bytes_length, crate::proofs::Digits::decoded_in, crate::proofs::Digits::decoded_short, crate::proofs::Digits::decoded_bad))]
+#[tactic(auto, using(crate::proofs::Digits::bytes_length, crate::proofs::Digits::decoded_in, crate::proofs::Digits::decoded_short, crate::proofs::Digits::decoded_bad, crate::proofs::Digits::front_in, crate::proofs::Digits::front_short, crate::proofs::Digits::front_bad))]
 pub fn decode_hex(text: &[u8], out: &mut [u8]) -> Option<usize>
-    ensures { decode_result result out.new ≡ decoded text.now out.old }
+    ensures area_after { decode_result result out.new ≡ decoded text.now out.old }
+    ensures front_after { front_of result out.new ≡ within (length out.old) (bytes_of_hex text.now) }
+    ensures count_inside { IfSome result (λ n. n ≤ length out.new) }
 {
     let count = text.len() / 2;
     if !is_hex(text) || out.len() < count {

@@ -1,5 +1,5 @@
 // The program passage with 257 records: refusal 5, and refusal 7 for targets that make 257 segments.
-// A program is run on one input, so each input has a program: all of passage but the call stands in its crate.
+// A program is run on one input, so each input has a program of its own, and each of them calls passage.
 #![tactic(auto)]
 
 fn main(rt: HostRuntime) {

@@ -39,8 +39,8 @@ pub(crate) struct Areas {
 }
 
 /// Makes the call of a line on the areas of the set that it makes or asks, by the line's first number: one that
-/// an open makes, or one of three rebuilds. A rebuild is opened from the areas that the second number says. A match
-/// suits it: calls are given other things, which closures in a table would have to take all.
+/// an open makes, or one of three rebuilds. A rebuild is opened from the areas that the second number says. By a
+/// match: the calls take different arguments, and closures in one table would have to take all of them.
 pub(crate) fn make_call(line: &Line, sets: &mut [Areas; 4], arena: &mut Arena) -> Told {
     let made = line.numbers[0] as usize % 4;
     let areas = &mut sets[made];
@@ -196,8 +196,8 @@ impl Areas {
     }
 
     /// The second number is the hash, or the slot at which a walk goes on, and the third the tick. A line that
-    /// is no lookup is told what no call answers. By a match: take and walk are given other things than the rest, and
-    /// get and take an index to mark.
+    /// is no lookup is told what no call answers. By a match: take and walk have fewer arguments than the others, and
+    /// get and take mark the index.
     fn look_up<const WORDS: usize>(&mut self, line: &Line, arena: &Arena) -> Told
         requires { WORDS < TOLD }
     {

@@ -19,7 +19,7 @@ fn main(rt: HostRuntime) -> anyhow::Result<()> {
     run(&rt, &mut rt.stdin(), &mut [0; LIST_BYTES])
 }
 
-/// Apart from main, since a proof there would write out so long a list.
+/// Apart from main, where a proof has the million elements of the array before it and runs out of stack.
 fn run(rt: &impl Print, input: &mut impl Read, list: &mut [u8; LIST_BYTES]) -> anyhow::Result<()> {
     replay(rt, read_text(input, list)?)?;
     Ok(())
