@@ -1,5 +1,6 @@
 // A finished set and its answers. The state is plain data that no call changes; marks stand in the
-// lent index.
+// lent index, which get and take_accessed write to: so it is no part of the areas that are only read. A
+// key and its hash stay two arguments, as callers have them.
 ghost use Rattle.std.specs.Prelude.{◌≡◌, length};
 ghost use Rattle.sets.specs.Answers.{probe_reply, stats_reply, walk_reply};
 ghost use Rattle.sets.specs.Questions.{check_number, first_no};
