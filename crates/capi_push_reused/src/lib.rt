@@ -1,5 +1,6 @@
 // One call for C in a library of its own, where nothing else calls what it calls: so the compiler makes one
-// piece of code of it. C lends each area by itself, so each is an argument of its own.
+// piece of code of it. C lends each area by itself, so each is an argument of its own. Line by line, and not by `ask_mut`: it
+// writes to several areas, which a closure can't say of what it borrows.
 #![tactic(auto)]
 
 ghost use Rattle.std.specs.Prelude.{◌≡◌};

@@ -1,5 +1,6 @@
 // One call for C in a library of its own, where nothing else calls what it calls: so the compiler makes one
-// piece of code of it. C lends each area by itself, so each is an argument of its own.
+// piece of code of it. For that capi_get has a like body, of another method: a function of both would have two callers.
+// C lends each area by itself, so each is an argument of its own.
 #![tactic(auto)]
 
 ghost use Rattle.std.specs.Prelude.{◌≡◌};

@@ -15,7 +15,7 @@ use sets::lookup::SetRecords;
 // The lines of a page, and its bytes.
 const PAGE_LINES: usize = 50;
 
-const PAGE_BYTES: usize = PAGE_LINES * LINE_BYTES;
+pub const PAGE_BYTES: usize = PAGE_LINES * LINE_BYTES;
 
 // The columns of key and value show so many bytes.
 const FIELD_BYTES: usize = 12;
@@ -88,6 +88,7 @@ fn write_sheet(chart: SetRecords<'_>, pages: usize, page: &mut [u8])
     put_blanks(&mut page[at..], pages * PAGE_LINES - rows);
 }
 
+// The walk of count_rows once more: that asks and counts, and this writes.
 fn write_rows(chart: SetRecords<'_>, page: &mut [u8]) -> usize
     requires slots { (8 * chart.index.buckets ≤ length chart.index.words.now) × (8 * chart.index.buckets ≤ 100000000) }
     requires fit { rows_fit (chart_rows chart) ≡ true }

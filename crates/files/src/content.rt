@@ -8,12 +8,11 @@ use crate::blocks::{BlockKind, content_of, frames_well, kinds_in_order};
 use crate::copies::{WORD_BYTES, number_of};
 use crate::counts::Counts;
 use hash_parts::error::SegmentCacheBuildError;
+use sets::areas::MAX_ARENA_BYTES;
 use sets::cache::FrozenSegmentCache;
 
 // A bucket's eight words in the index block.
 pub(crate) const BUCKET_BYTES: usize = 64;
-
-pub(crate) const MAX_ARENA_BYTES: usize = 1_073_741_824;
 
 // The questions of a file, each over the whole of it; and the set that it holds, as it will be once loaded.
 #[tactic(auto, unfolding(crate::specs::Plan::file_asked, crate::specs::Contents::ask_file))]

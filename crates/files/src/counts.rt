@@ -29,7 +29,7 @@ enum Count {
 }
 
 impl Count {
-    // The byte at which the number begins, and how many it has.
+    // The byte at which the number begins, and how many it has: beside WIDTHS, so that no sum is made for a place.
     fn place(self) -> (usize, usize)
         ensures { (result.0 ≡ sum (take (place_of self) widths)) × (result.1 ≡ get_or widths (place_of self) 0) }
     {

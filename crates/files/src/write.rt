@@ -10,13 +10,13 @@ ghost use Rattle.files.specs.Kinds.{kind_number};
 ghost use Rattle.files.specs.Write.{after_write, ask_write, count_bytes, file_of, file_size, segment_bytes, size_answer, size_reply, write_result};
 
 use crate::blocks::{BlockKind, HEADER_BYTES, put_header};
-use crate::content::{BUCKET_BYTES, MAX_ARENA_BYTES};
+use crate::content::BUCKET_BYTES;
 use crate::copies::{UNMARKED_CONTROL, UNMARKED_WORD, WHOLE, WORD_BYTES, put_number, put_words};
 use crate::counts::{COUNT_BYTES, WIDTHS};
 use hash_parts::error::SegmentCacheBuildError;
 use index::view::SegmentAreas;
 use index::word::BUCKET_SLOTS;
-use sets::areas::sum_of;
+use sets::areas::{MAX_ARENA_BYTES, sum_of};
 use sets::cache::FrozenSegmentCache;
 use sets::rebuild_questions::source_holds;
 

@@ -1,6 +1,6 @@
 // Why a call is refused.
-ghost use Rattle.std.specs.Prelude.{◌≡◌};
-ghost use Rattle.hash_parts.specs.Error.{error_number};
+ghost use Rattle.std.specs.Prelude.{◌≡◌, Some};
+ghost use Rattle.hash_parts.specs.Error.{error_number, error_sentence};
 
 use std::error::Error;
 use std::fmt;
@@ -54,6 +54,8 @@ impl SegmentCacheBuildError {
 }
 
 impl fmt::Display for SegmentCacheBuildError {
+    ghost output = { λ e. Some (error_sentence e) };
+
     fn fmt<W: fmt::Write>(&self, f: &mut fmt::Formatter<W>) -> fmt::Result {
         f.write_str(match self {
             Self::InvalidBucketOccupancy => "a bucket is to hold from one to seven records",

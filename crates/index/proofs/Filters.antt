@@ -136,7 +136,7 @@ mark_grows f n g h l t = go (dec_le n 0) (dec_le n (length f))
         ∙ eq-eqb _ _ (words_kept f i (filter_mask g) below (filter_word n h) (filter_mask h) had)
     go (no p) (no q) = ap (λ (k : List ℕ). filter_has k n h) (marked_short f n g (omega arith)) ∙ t
 
--- ---- Document 01's trial: hash 0 has word 0, whatever their count, and bits 0, 1 and 2
+-- ---- a trial: hash 0 has word 0, whatever their count, and bits 0, 1 and 2
 
 pub filter_zero : (n : ℕ) → filter_word n 0 ≡ 0
 unfolding filter_word mixed_hash rotated first_bucket

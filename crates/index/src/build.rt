@@ -18,7 +18,8 @@ pub fn bucket_count(records: usize, occupied: u8) -> usize
     records.div_ceil(occupied as usize).max(1)
 }
 
-// Clears the first words of an area; one that is shorter is left alone.
+// Clears the first words of an area; one that is shorter is left alone. So the count is no length of a slice: what is
+// done where the area is shorter is promised too.
 pub fn clear_words(words: &mut [u64], count: usize)
     ensures { words.new ≡ cleared words.old count }
 {

@@ -64,7 +64,7 @@ fn bit(i: u64) -> u64
 }
 
 // Marks a hash. Without words, or with more than the area has, nothing is marked. The area is lent to be
-// written, so it is no NegativeFilter, which only reads.
+// written, so it is no NegativeFilter, which only reads; and what is done where it is shorter is promised too.
 pub fn mark_negative_filter(filter: &mut [u64], words: usize, hash: u64)
     ensures { filter.new ≡ filter_marked filter.old words hash }
 {

@@ -11,6 +11,7 @@ use crate::word::{
 };
 use hash_parts::error::SegmentCacheBuildError;
 
+// Starts are a slice lent to each call, and so each asks what they are: an array is a list of any length in a clause.
 pub const MAX_RECORD_SEGMENTS: usize = 256;
 
 // Above every location: where the search for the lowest begins, so also its answer where there is none.

@@ -1,5 +1,5 @@
 // The lines of the output that wait to be written.
-ghost use Rattle.std.specs.Prelude.{◌≤◌};
+ghost use Rattle.std.specs.Prelude.{◌≡◌, ◌≤◌};
 
 use crate::answer::put_answer;
 use crate::stage::Answer;
@@ -35,7 +35,9 @@ impl Output {
     }
 
     // Writes what waits, and tells whether it could be written.
-    pub(crate) fn write<W: Write>(&mut self, writer: &mut W) -> bool {
+    pub(crate) fn write<W: Write>(&mut self, writer: &mut W) -> bool
+        ensures { self.new.waiting ≡ 0 }
+    {
         let written = writer.write_all(&self.area[..self.waiting]);
         self.waiting = 0;
         written.is_ok()

@@ -50,7 +50,7 @@ pub fn decode_hex(text: &[u8], out: &mut [u8]) -> Option<usize>
     Some(count)
 }
 
-// By an index: a proof knows nothing of what is written through an adapter of `iter_mut`.
+// By an index: nothing is known of bytes that a zip with the pairs of digits lends to be written.
 fn write_bytes(out: &mut [u8], text: &[u8])
     requires { (is_hex text.now ≡ true) × (length text.now ≤ 2 * length out.old) }
     ensures { out.new ≡ over (hex_bytes text.now) out.old }

@@ -53,7 +53,8 @@ pub fn encoded_record_bytes(
 }
 
 // Writes a record to the front of an arena's rest, which is lent from the first free byte, and says
-// how many bytes it wrote: none where the record does not fit, which a push asks before.
+// how many bytes it wrote: none where the record does not fit, which a push asks before. A number and no Option: a
+// call that could not fail stays one.
 pub fn append_record(
     rest: &mut [u8],
     expiry: SegmentExpiry,

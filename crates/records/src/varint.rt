@@ -25,8 +25,8 @@ pub fn write_varint(output: &mut [u8], value: usize) -> Result<usize, SegmentCac
     Ok(put_varint(output, value))
 }
 
-// Writes a number where there is room for it. The loop follows the number: an iterator over the bytes would
-// ask for their count first.
+// Writes a number where there is room for it. The loop follows the number: with the bytes counted ahead it would be no
+// shorter.
 pub(crate) fn put_varint(output: &mut [u8], value: usize) -> usize
     requires { length (uleb128 value) ≤ length output.old }
     ensures { (result ≡ length (uleb128 value)) × (output.new ≡ over (uleb128 value) output.old) }

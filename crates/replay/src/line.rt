@@ -112,10 +112,13 @@ impl<'a> Line<'a> {
     }
 }
 
-/// The bytes that a field spells so many times, at the front of an area, and the rest of the area.
+/// The bytes that a field spells so many times in small hexadecimal, at the front of an area, and the rest of the area.
 fn bytes<'a>(field: &str, times: usize, area: &'a mut [u8]) -> Option<(&'a [u8], &'a mut [u8])> {
     if field == "-" {
         return Some((&[], area));
+    }
+    if field.bytes().any(|digit| digit.is_ascii_uppercase()) {
+        return None;
     }
     let length = field.len() / 2;
     let (bytes, rest) = area.split_at_mut_checked(length.checked_mul(times)?)?;

@@ -47,7 +47,7 @@ module _ (view : SegmentView) (arena starts lengths : List ℕ) where
       go true h e = ltb-true _ _ h
       go false h e = absurd (let z : ◌≡◌ {A = ℕ} 0 1 = cc in omega arith)
 
-  -- Document 02, Change 1: where it ends is "counted as its own is". By question 1 a set has at most 256 segments and its arena at most 2^30 bytes: then the
+  -- Where it ends is "counted as its own is". By question 1 a set has at most 256 segments and its arena at most 2^30 bytes: then the
   -- sum does not wrap, and the end has the segment of the location.
   pub read_end : (location : ℕ) (x : RecordRef) → record_in view arena starts lengths (suc location) ≡ Some x → view.segments ≤ 256 → length arena ≤ 2 ^ 30
       → (x.end ≡ location + x.key_offset + x.key.len + x.value.len) × (x.end / 2 ^ 32 ≡ location / 2 ^ 32)

@@ -10,6 +10,9 @@ use index::build::bucket_count;
 use index::segments::MAX_RECORD_SEGMENTS;
 use index::word::BUCKET_SLOTS;
 
+// No arena is longer.
+pub const MAX_ARENA_BYTES: usize = 1_073_741_824;
+
 // Words of 64 bits.
 #[derive(Clone, Copy, Debug, PartialEq, Eq)]
 pub struct AreaWords {

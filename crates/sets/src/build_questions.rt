@@ -83,7 +83,8 @@ impl SegmentCacheBuilder {
         self.plan_record(slot, key.len(), value_bytes, ttl, arena.len())
     }
 
-    // The last of them: the deadline, and room in the arena.
+    // The last of them: the deadline, and room in the arena. Apart, since behind more than five early returns LLVM would
+    // not inline it.
     #[tactic(auto, using(crate::proofs::Appends::room, crate::proofs::Decides::decided_refused, crate::proofs::Decides::own_refused), unfolding(crate::specs::BuildPlans::plan_record, crate::specs::BuildPlans::ask_record))]
     fn plan_record(
         self,

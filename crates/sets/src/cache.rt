@@ -238,8 +238,8 @@ impl FrozenSegmentCache {
         Ok(())
     }
 
-    // Whether all five areas hold what a lookup reads. By their lengths, which are all that it asks: a caller
-    // may have no more of them.
+    // Whether all five areas hold what a lookup reads. Public, and by their lengths, which are all that it asks: slices
+    // would ask more of a caller.
     #[tactic(auto, unfolding(crate::specs::Lookup::areas_hold_lookup))]
     pub fn lookup_areas_hold(
         self,

@@ -132,8 +132,8 @@ pub(crate) fn kept_count(flags: &[u8]) -> usize
     flags.iter().filter(|&&flag| flag != 0).count()
 }
 
-// Writes the words whose flag keeps them to the front of an area, in order. Their place is counted:
-// nothing is known of what is written through an adapter of the area.
+// Writes the words whose flag keeps them to the front of an area, in order. Their place is counted: only some flags
+// take one, and nothing is known of words that a zip lends to be written.
 pub(crate) fn copy_kept(flags: &[u8], words: &[u64], area: &mut [u64])
     requires { (length flags.now ≤ length words.now) × (kept_count flags.now ≤ length area.old) }
     ensures { area.new ≡ over (chosen flags.now words.now) area.old }

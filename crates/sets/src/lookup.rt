@@ -57,7 +57,8 @@ pub(crate) fn base_record(
     }
 }
 
-// The records of a finished set, as the slots of its index name them.
+// The records of a finished set, as the slots of its index name them. Of any areas: so what goes through all slots asks
+// whether the words are enough, and no invariant can say it.
 #[derive(Clone, Copy)]
 pub struct SetRecords<'a> {
     pub view: SegmentView,

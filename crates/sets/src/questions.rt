@@ -7,6 +7,7 @@ ghost use Rattle.hash_parts.specs.Duration.{ceil_div};
 ghost use Rattle.records.specs.Record.{record_size};
 ghost use Rattle.sets.specs.Questions.{arena_holds, ask_counts, ask_open, check_number, counts_fit, first_no, lifetime_fits, most_records, nanoseconds_fit, occupancy_fits, open_areas_hold, scratch_holds, segment_areas_hold, setting_fits, target_fits, tick_runs};
 
+use crate::areas::MAX_ARENA_BYTES;
 use hash_parts::duration::Duration;
 use hash_parts::error::SegmentCacheBuildError;
 use hash_parts::setting::{SegmentCacheConfig, SegmentExpiry};
@@ -18,8 +19,6 @@ use index::word::BUCKET_SLOTS;
 use records::record::encoded_record_bytes;
 
 pub(crate) const MAX_RECORDS: usize = 1_048_576;
-
-pub(crate) const MAX_ARENA_BYTES: usize = 1_073_741_824;
 
 const MAX_SEGMENT_TARGET: usize = 100_663_296;
 

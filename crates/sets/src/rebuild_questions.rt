@@ -171,7 +171,8 @@ impl SharedSegmentCacheBuilder {
         self.plan_room(expires_at, hash, key_bytes, value_bytes, index, arena_len)
     }
 
-    // The last of them: room in the arena, a segment number, and a slot.
+    // The last of them: room in the arena, a segment number, and a slot. Apart, since behind more than five early returns
+    // LLVM would not inline it.
     #[tactic(auto, using(crate::proofs::Appends::room, crate::proofs::Decides::decided_refused, crate::proofs::Decides::own_refused), unfolding(crate::specs::RebuildPlans::plan_room, crate::specs::RebuildPlans::ask_room))]
     fn plan_room(
         self,

@@ -3,11 +3,10 @@ ghost use Rattle.std.specs.Prelude.{◌≤◌, length};
 ghost use Rattle.sheet_command.specs.Command.{page_bytes};
 
 use crate::sheet::SheetAreas;
+use charts::sheet::PAGE_BYTES;
 use hash_parts::error::SegmentCacheBuildError;
 use std::io;
 use std::io::Read;
-
-const PAGE_BYTES: usize = 3_250;
 
 // Prints the sheet of the file that the reader gives. A read that fails is taken for the end: what was cut
 // off a file is then missed by the load.
