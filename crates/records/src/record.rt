@@ -100,7 +100,9 @@ fn put_bytes(out: &mut [u8], bytes: &[u8]) -> usize
     requires { length bytes.now ≤ length out.old }
     ensures { (result ≡ length bytes.now) × (out.new ≡ over bytes.now out.old) }
 {
-    out[..bytes.len()].copy_from_slice(bytes);
+    for (i, byte) in bytes.iter().enumerate() {
+        out[i] = *byte;
+    }
     bytes.len()
 }
 

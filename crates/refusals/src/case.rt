@@ -1,8 +1,6 @@
 //! The words of a case.
 ghost use Rattle.std.specs.Prelude.{◌≤◌, length};
 
-use anyhow::Context;
-
 /// The first words are the state's, in the order of the exported calls: six of a setting, 13 of a builder, 15 of
 /// a set, 22 of a rebuild. The others, named by `Word`, say what is lent and given to the calls.
 #[derive(Clone, Copy)]
@@ -56,14 +54,21 @@ impl Default for Case {
 }
 
 impl Case {
-    /// The case with changes, each the number of a word, `=` and its value.
-    pub(crate) fn changed(mut self, changes: &str) -> anyhow::Result<Case> {
-        for change in changes.split_whitespace() {
-            let (place, value) = change.split_once('=').context("a change with no =")?;
-            let word = self.words.get_mut(place.parse::<usize>()?);
-            *word.context("no such word")? = value.parse::<u64>()?;
+    /// The case with changes, each the number of a word, `=` and its value, with blanks between them. A number past those of
+    /// the words counts on from the first.
+    pub(crate) fn changed(mut self, changes: &[u8]) -> Case {
+        let mut rest = changes;
+        // Each change takes a byte or more.
+        for _ in 0..changes.len() {
+            if rest.is_empty() {
+                break;
+            }
+            let (place, behind) = cut(rest, b'=');
+            let (value, next) = cut(behind, b' ');
+            self.words[number(place) as usize % 47] = number(value);
+            rest = next;
         }
-        Ok(self)
+        self
     }
 
     pub(crate) fn word(&self, word: Word) -> u64 {
@@ -103,4 +108,19 @@ impl Case {
     pub(crate) fn lifetime(&self) -> [u64; 2] {
         [self.word(Word::Seconds), self.word(Word::Nanoseconds)]
     }
+}
+
+/// What stands before the first such byte, and behind it: all and nothing, where there is none.
+pub(crate) fn cut(text: &[u8], byte: u8) -> (&[u8], &[u8]) {
+    match text.iter().position(|b| *b == byte) {
+        Some(at) => (&text[..at], &text[at + 1..]),
+        None => (text, &[]),
+    }
+}
+
+/// The characters 0 to 9 are the numbers 48 to 57. A number past 64 bits wraps.
+fn number(digits: &[u8]) -> u64 {
+    digits.iter().fold(0u64, |value, digit| {
+        value.wrapping_mul(10).wrapping_add(u64::from(digit % 16))
+    })
 }

@@ -4,38 +4,42 @@
 #![tactic(auto)]
 
 use crate::calls::Calls;
-use crate::case::{Case, Word};
-use show::input::read_text;
+use crate::case::{Case, Word, cut};
+use show::input::read_full;
+use std::io;
 
 mod calls;
 mod case;
 
 const TABLE_BYTES: usize = 16_384;
 
-fn main(rt: HostRuntime) -> anyhow::Result<()> {
+fn main(rt: HostRuntime) -> io::Result<()> {
     let mut table = [0; TABLE_BYTES];
-    ask_all(&rt, read_text(&mut rt.stdin(), &mut table)?)
+    let length = read_full(&mut rt.stdin(), &mut table);
+    ask_all(&rt, &table[..length])
 }
 
-/// A line that begins with `#` is a comment. One named `=` has the words that pass for the lines below it.
-fn ask_all(rt: &impl Print, table: &str) -> anyhow::Result<()> {
+/// A line that begins with `#` is a comment. One that begins with `=` has the words that pass for the lines below it. The changes
+/// of a line begin two bytes behind the start of its colon, whatever the byte between is.
+fn ask_all(rt: &impl Print, table: &[u8]) -> io::Result<()> {
     let mut passing = Case::default();
-    for line in table.lines() {
-        if line.is_empty() || line.starts_with('#') {
+    for line in table.split(|byte| *byte == b'\n') {
+        if line.is_empty() || line.starts_with(b"#") {
             continue;
         }
-        let (name, changes) = line.split_once(':').unwrap_or((line, ""));
-        if name == "=" {
-            passing = Case::default().changed(changes)?;
+        let (name, changes) = cut(line, b':');
+        let changes = changes.get(1..).unwrap_or(&[]);
+        if line.starts_with(b"=") {
+            passing = Case::default().changed(changes);
         } else {
-            ask(rt, name, passing.changed(changes)?)?;
+            ask(rt, name, passing.changed(changes))?;
         }
     }
     Ok(())
 }
 
 /// By a match and not by a table of closures: what the calls answer has one, three or six numbers.
-fn ask(rt: &impl Print, name: &str, case: Case) -> anyhow::Result<()> {
+fn ask(rt: &impl Print, name: &[u8], case: Case) -> io::Result<()> {
     let Ok(calls) = Calls::try_from(case.word(Word::Calls)) else {
         return show(rt, name, &[u64::MAX]);
     };
@@ -53,11 +57,10 @@ fn ask(rt: &impl Print, name: &str, case: Case) -> anyhow::Result<()> {
     }
 }
 
-fn show(rt: &impl Print, name: &str, answers: &[u64]) -> anyhow::Result<()> {
-    print!(rt; "{name}")?;
+fn show(rt: &impl Print, name: &[u8], answers: &[u64]) -> io::Result<()> {
+    rt.write_all(name)?;
     for answer in answers {
         print!(rt; " {answer}")?;
     }
-    println!(rt)?;
-    Ok(())
+    println!(rt)
 }

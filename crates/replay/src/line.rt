@@ -1,5 +1,5 @@
 //! A line of the list: the name of a call, key and value in hexadecimal (`-` for no bytes), numbers in
-//! decimal, `=`, and the Rust's answer in numbers as well.
+//! decimal, `=`, and the Rust's answer in numbers as well. It is read as bytes, which need not be text.
 ghost use Rattle.std.specs.Prelude.{◌≤◌, length};
 
 use capi::answers::RECORD_WORDS;
@@ -45,9 +45,9 @@ impl Kind {
         (Kind::Unreadable, "unreadable lines"),
     ];
 
-    fn named(text: &str) -> Option<Kind> {
+    fn named(text: &[u8]) -> Option<Kind> {
         for (kind, name) in &Kind::ALL {
-            if *name == text {
+            if name.as_bytes() == text {
                 return Some(*kind);
             }
         }
@@ -60,6 +60,19 @@ pub(crate) type Told = [u64; TOLD];
 
 pub(crate) const TOLD: usize = 1 + RECORD_WORDS;
 
+/// Where words stand in a line: the call's from 1 on, a `=` and the answer's behind it. What the line lacks is 0.
+type Words = [u64; WORDS];
+
+const WORDS: usize = ANSWER + TOLD;
+
+const ANSWER: usize = 10;
+
+/// 1 where there is one `=`.
+const EQUALS: usize = 9;
+
+/// Not 0 where there is anything but numbers.
+const STRANGE: usize = 0;
+
 #[derive(Clone, Copy)]
 pub(crate) struct Line<'a> {
     pub(crate) kind: Kind,
@@ -71,36 +84,26 @@ pub(crate) struct Line<'a> {
     pub(crate) answer: Told,
 }
 
-const UNREADABLE: Line<'static> = Line {
-    kind: Kind::Unreadable,
-    key: &[],
-    value: &[],
-    numbers: [0; 8],
-    answer: [0; TOLD],
-};
-
 impl<'a> Line<'a> {
     /// The line of a text; its key and its value are written to the area.
-    pub(crate) fn read(text: &str, area: &'a mut [u8]) -> Line<'a> {
-        Line::parse(text, area).unwrap_or(UNREADABLE)
-    }
-
-    fn parse(text: &str, area: &'a mut [u8]) -> Option<Line<'a>> {
-        let (call, answer) = text.split_once(" = ")?;
-        let mut fields = call.splitn(4, ' ');
-        let kind = Kind::named(fields.next()?)?;
-        let (key, area) = bytes(fields.next()?, 1, area)?;
-        let part = fields.next()?;
-        let numbers = decimals(fields.next()?)?;
-        // A large value is a part that is repeated, as often as the third number says.
-        let (value, _) = bytes(part, numbers[2] as usize, area)?;
-        Some(Line {
+    pub(crate) fn read(text: &[u8], area: &'a mut [u8]) -> Line<'a> {
+        let (name, fields) = cut(text, b' ');
+        let (key, fields) = cut(fields, b' ');
+        let (value, fields) = cut(fields, b' ');
+        let words = words(fields);
+        let mut numbers = [0; 8];
+        let mut answer = [0; TOLD];
+        numbers.copy_from_slice(&words[1..EQUALS]);
+        answer.copy_from_slice(&words[ANSWER..]);
+        let call = call(name, key, value, &words, area);
+        let (kind, key, value) = call.unwrap_or((Kind::Unreadable, &[], &[]));
+        Line {
             kind,
             key,
             value,
             numbers,
-            answer: decimals(answer)?,
-        })
+            answer,
+        }
     }
 
     /// A lifetime is two words, or none.
@@ -112,12 +115,38 @@ impl<'a> Line<'a> {
     }
 }
 
+/// The call that a line names, its key and its value; none where the line cannot be read.
+fn call<'a>(
+    name: &[u8],
+    key: &[u8],
+    value: &[u8],
+    words: &Words,
+    area: &'a mut [u8],
+) -> Option<(Kind, &'a [u8], &'a [u8])> {
+    if words[STRANGE] != 0 || words[EQUALS] != 1 {
+        return None;
+    }
+    let (key, area) = bytes(key, 1, area)?;
+    // A large value is a part that is repeated, as often as the third number says.
+    let (value, _) = bytes(value, words[3] as usize, area)?;
+    Some((Kind::named(name)?, key, value))
+}
+
+/// What stands before such a byte, and behind it: all and nothing, where there is none.
+fn cut(text: &[u8], byte: u8) -> (&[u8], &[u8]) {
+    match text.iter().position(|b| *b == byte) {
+        Some(at) => (&text[..at], &text[at + 1..]),
+        None => (text, &[]),
+    }
+}
+
 /// The bytes that a field spells so many times in small hexadecimal, at the front of an area, and the rest of the area.
-fn bytes<'a>(field: &str, times: usize, area: &'a mut [u8]) -> Option<(&'a [u8], &'a mut [u8])> {
-    if field == "-" {
+/// Of a field that comes no time nothing is asked.
+fn bytes<'a>(field: &[u8], times: usize, area: &'a mut [u8]) -> Option<(&'a [u8], &'a mut [u8])> {
+    if field == b"-".as_slice() || times == 0 {
         return Some((&[], area));
     }
-    if field.bytes().any(|digit| digit.is_ascii_uppercase()) {
+    if field.len() % 2 != 0 || field.iter().any(|digit| digit.is_ascii_uppercase()) {
         return None;
     }
     let length = field.len() / 2;
@@ -128,14 +157,24 @@ fn bytes<'a>(field: &str, times: usize, area: &'a mut [u8]) -> Option<(&'a [u8],
     Some((bytes, rest))
 }
 
-/// Numbers, with zeros behind them; none where there are more.
-fn decimals<const N: usize>(text: &str) -> Option<[u64; N]> {
-    let mut words = text.split_whitespace();
-    let mut numbers = [0; N];
-    for number in &mut numbers {
-        if let Some(word) = words.next() {
-            *number = word.parse().ok()?;
-        }
+/// Each blank begins the next word, and a digit goes to the word before it; a word past 64 bits wraps. More words than there are
+/// places go on at the first.
+fn words(text: &[u8]) -> Words {
+    let mut words: Words = [0; WORDS];
+    let mut place = 1;
+    for &character in text {
+        place = match character {
+            b'0'..=b'9' => place,
+            b' ' => place % WORDS + 1,
+            b'=' => EQUALS,
+            _ => STRANGE,
+        };
+        let word: &mut u64 = &mut words[place % WORDS];
+        *word = match character {
+            b'0'..=b'9' => word.wrapping_mul(10).wrapping_add(u64::from(character - b'0')),
+            b' ' => *word,
+            _ => 1,
+        };
     }
-    words.next().is_none().then_some(numbers)
+    words
 }

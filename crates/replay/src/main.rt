@@ -5,7 +5,7 @@
 use crate::areas::{Areas, make_call};
 use crate::line::Line;
 use crate::tally::Tally;
-use show::input::read_text;
+use show::input::read_full;
 use std::io::{self, Read};
 
 mod areas;
@@ -15,24 +15,26 @@ mod tally;
 
 const LIST_BYTES: usize = 1_048_576;
 
-fn main(rt: HostRuntime) -> anyhow::Result<()> {
+fn main(rt: HostRuntime) -> io::Result<()> {
     run(&rt, &mut rt.stdin(), &mut [0; LIST_BYTES])
 }
 
-/// Apart from main, where a proof has the million elements of the array before it and runs out of stack.
-fn run(rt: &impl Print, input: &mut impl Read, list: &mut [u8; LIST_BYTES]) -> anyhow::Result<()> {
-    replay(rt, read_text(input, list)?)?;
-    Ok(())
+/// Apart from main, where a proof has the million elements of the array before it and runs out of stack. A last line with no
+/// line feed goes on to the end of the area, whose zeros are no numbers, so that a list that was cut off is not taken for whole.
+fn run(rt: &impl Print, input: &mut impl Read, list: &mut [u8; LIST_BYTES]) -> io::Result<()> {
+    let length = read_full(input, list);
+    let whole = list[..length].ends_with(b"\n");
+    replay(rt, &list[..if whole { length } else { LIST_BYTES }])
 }
 
 /// A line that begins with `#` says how the list was made.
-fn replay(rt: &impl Print, list: &str) -> io::Result<()> {
+fn replay(rt: &impl Print, list: &[u8]) -> io::Result<()> {
     let mut bytes = [0; 32_768];
     let mut arena = [0; 131_072];
     let mut sets = [Areas::EMPTY; 4];
     let mut tally = Tally::START;
-    for (at, text) in list.lines().enumerate() {
-        if text.is_empty() || text.starts_with('#') {
+    for (at, text) in list.split(|byte| *byte == b'\n').enumerate() {
+        if text.is_empty() || text.starts_with(b"#") {
             continue;
         }
         let line = Line::read(text, &mut bytes);
