@@ -1,4 +1,5 @@
 pub mod Area
+pub mod Chunks
 pub mod Parts
 pub mod Prefix
 pub mod Steps

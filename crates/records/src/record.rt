@@ -171,10 +171,35 @@ impl Records<'_> {
     }
 }
 
+// The most bytes that are compared in place.
+const SHORT_BYTES: usize = 64;
+
+// Most keys are short: they are compared in place, since the library's comparison is a call. Longer bytes are worth it.
 pub fn same_bytes(a: &[u8], b: &[u8]) -> bool
     ensures { result ≡ same_bytes a.now b.now }
 {
-    a == b
+    if a.len() > SHORT_BYTES {
+        return a == b;
+    }
+    a.len() == b.len() && same_words(a, b)
+}
+
+// The bytes behind the last whole eight, and then eight at a time.
+fn same_words(a: &[u8], b: &[u8]) -> bool
+    requires { length a.now ≡ length b.now }
+    ensures { result ≡ same_bytes a.now b.now }
+{
+    let (words, rest) = a.as_chunks::<8>();
+    let (other_words, other_rest) = b.as_chunks::<8>();
+    same_each(rest, other_rest) && words.iter().zip(other_words).all(|(x, y)| x == y)
+}
+
+// One by one.
+fn same_each(a: &[u8], b: &[u8]) -> bool
+    requires { length a.now ≡ length b.now }
+    ensures { result ≡ same_bytes a.now b.now }
+{
+    a.iter().zip(b).all(|(x, y)| x == y)
 }
 
 // The bytes of a value, where they stand in the arena; no bytes for a span that leaves it.
