@@ -1,7 +1,7 @@
 // Durations of whole seconds and nanoseconds, deadlines in ticks and the time that is left.
-ghost use Rattle.std.specs.Prelude.{◌≡◌, ◌<◌, ◌==◌, Option};
+ghost use Rattle.std.specs.Prelude.{◌≡◌, ◌^◌, ◌<◌, ◌==◌, min, Option};
 ghost use Rattle.hash_parts.specs.Outcome.{outcome_of};
-ghost use Rattle.hash_parts.specs.Duration.{nanos_of, deadline_at, encoded_expiry, lives_at, product, remaining};
+ghost use Rattle.hash_parts.specs.Duration.{nanos_of, ceil_div, deadline_at, encoded_expiry, lives_at, product, remaining};
 
 use crate::error::SegmentCacheBuildError;
 use crate::setting::SegmentExpiry;
@@ -79,17 +79,52 @@ pub fn encode_expiry_at_tick(
 }
 
 // The lifetime in ticks of so many nanoseconds, rounded up, after tick base.
-#[tactic(auto, using(crate::proofs::Deadlines::rounded_up), unfolding(crate::specs::Duration::deadline_at))]
+#[tactic(auto, unfolding(crate::specs::Duration::deadline_at))]
 fn deadline_at(base: u64, lifetime: Duration, tick: u128) -> Result<u16, SegmentCacheBuildError>
-    requires { 0 < tick }
+    requires { (0 < tick) × (tick < 2 ^ 94) }
     ensures { outcome_of result ≡ deadline_at base (nanos_of lifetime) tick }
 {
-    let ticks = lifetime.as_nanos().div_ceil(tick);
-    let deadline = base as u128 + ticks;
+    let deadline = base as u128 + ticks_of(lifetime.as_nanos(), tick) as u128;
     if deadline > MAX_EXPIRY_TICK {
         return Err(SegmentCacheBuildError::ExpiryOutOfRange);
     }
     Ok(deadline as u16)
+}
+
+// A lifetime in ticks, rounded up; past the last deadline only that it is more. Where both have 64 bits they are divided; a
+// division of 128 would be a call of the compiler's own library.
+#[tactic(auto, using(crate::proofs::Deadlines::rounded_up, crate::proofs::Deadlines::ticks_once))]
+fn ticks_of(lifetime: u128, tick: u128) -> u64
+    requires { (0 < tick) × (tick < 2 ^ 94) }
+    ensures { min result 65535 ≡ min (ceil_div lifetime tick) 65535 }
+{
+    if let (Ok(lifetime), Ok(tick)) = (u64::try_from(lifetime), u64::try_from(tick)) {
+        return lifetime.div_ceil(tick);
+    }
+    if lifetime <= tick {
+        return u64::from(lifetime > 0);
+    }
+    search_ticks(lifetime, tick)
+}
+
+// The same of a lifetime that is longer than the tick, and one more than the last deadline for all above it: halves the range in
+// which the answer lies, at most 16 times.
+#[tactic(auto, using(crate::proofs::Deadlines::search_ends))]
+fn search_ticks(lifetime: u128, tick: u128) -> u64
+    requires { (0 < tick) × (tick < lifetime) × (tick < 2 ^ 94) }
+    ensures { result ≡ min (ceil_div lifetime tick) 65535 }
+{
+    let mut short: u64 = 1;
+    let mut enough = MAX_EXPIRY_TICK as u64 + 1;
+    while enough - short > 1 {
+        let middle = (short + enough) / 2;
+        if tick * (middle as u128) < lifetime {
+            short = middle;
+        } else {
+            enough = middle;
+        }
+    }
+    enough
 }
 
 // Whether a record with this deadline is live.

@@ -1,6 +1,6 @@
 // The parts of a hash.
-ghost use Rattle.std.specs.Prelude.{◌≡◌, ◌-◌, ◌≤◌};
-ghost use Rattle.hash_parts.specs.Hash.{tag_of, first_bucket, control_tag, secondary_tag, mixed_hash};
+ghost use Rattle.std.specs.Prelude.{◌≡◌, ◌-◌, ◌*◌, ◌%◌, ◌^◌, ◌≤◌};
+ghost use Rattle.hash_parts.specs.Hash.{tag_of, first_bucket, control_tag, secondary_tag, rotated, mixed_hash};
 
 // The top 23 bits.
 pub const fn hash_tag(hash: u64) -> u64
@@ -31,10 +31,24 @@ pub const fn packed_secondary_tag(tag: u64) -> u16
     ((tag >> 7) % 0x1_0000) as u16
 }
 
+// The product modulo 2^64.
+pub const fn wrapping_mul(a: u64, b: u64) -> u64
+    ensures { result ≡ a * b % 2 ^ 64 }
+{
+    a.wrapping_mul(b)
+}
+
+#[tactic(auto, using(crate::proofs::Rotation::rotated_law))]
+pub const fn rotate_left_27(hash: u64) -> u64
+    ensures { result ≡ rotated hash }
+{
+    hash.rotate_left(27)
+}
+
 // The hash as the negative filter spreads it.
-#[tactic(auto, using(crate::proofs::Rotation::rotated_law), unfolding(crate::specs::Hash::mixed_hash))]
+#[tactic(auto, unfolding(crate::specs::Hash::mixed_hash))]
 pub const fn mixed_hash(hash: u64) -> u64
     ensures { result ≡ mixed_hash hash }
 {
-    hash.rotate_left(27).wrapping_mul(0x9e37_79b9_7f4a_7c15) ^ (hash >> 29)
+    wrapping_mul(rotate_left_27(hash), 0x9e37_79b9_7f4a_7c15) ^ (hash >> 29)
 }
