@@ -92,9 +92,6 @@ number_put out new at width n h e =
 
 -- ---- writing to the whole of an area
 
-pub over_all : (s area : List ℕ) → length area ≡ length s → over s area ≡ s
-over_all s area h = ap (λ (t : List ℕ). s ++ t) (drop_all (length s) area (omega arith)) ∙ append-nil s
-
 -- ---- writing to a part of an area, which then comes home
 
 pub front_home : (s new area : List ℕ) (n : ℕ) → new ≡ s → length s ≡ n → new ++ drop n area ≡ over s area

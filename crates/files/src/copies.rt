@@ -4,6 +4,8 @@ ghost use Rattle.hash_parts.specs.ZeroBytes.{bytes_of, number_of};
 ghost use Rattle.index.specs.Packed.{word_bytes, words_of};
 ghost use Rattle.files.specs.Copies.{masked_by};
 
+use records::record::copy_bytes;
+
 pub(crate) const WORD_BYTES: usize = 8;
 
 // Which bits of a word travel: all, all but the mark of an index word, all but the marks of control bytes.
@@ -19,18 +21,17 @@ pub(crate) fn number_of(bytes: &[u8]) -> u64
     ensures { (result ≡ number_of bytes.now) × (result < 256 ^ length bytes.now) }
 {
     let mut word = [0; WORD_BYTES];
-    word[..bytes.len()].copy_from_slice(bytes);
+    copy_bytes(&mut word[..bytes.len()], bytes);
     u64::from_le_bytes(word)
 }
 
 // Writes the lowest bytes of a number, as many as are lent.
-#[tactic(auto, using(crate::proofs::Copying::front_bytes))]
 pub(crate) fn put_number(out: &mut [u8], number: u64)
     requires { length out.old ≤ 8 }
     ensures { out.new ≡ bytes_of (length out.old) number }
 {
     let width = out.len();
-    out.copy_from_slice(&number.to_le_bytes()[..width]);
+    copy_bytes(out, &number.to_le_bytes()[..width]);
 }
 
 // Writes words as bytes, to an area of their length. Each goes to its position: nothing is known of an area

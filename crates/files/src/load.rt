@@ -14,6 +14,7 @@ use crate::copies::{UNMARKED_CONTROL, UNMARKED_WORD, WHOLE, WORD_BYTES, take_wor
 use hash_parts::error::SegmentCacheBuildError;
 use index::segments::MAX_RECORD_SEGMENTS;
 use index::word::BUCKET_SLOTS;
+use records::record::copy_bytes;
 use sets::cache::FrozenSegmentCache;
 
 // How long the areas must be that a file is loaded into: words of 64 bits, and bytes.
@@ -92,7 +93,7 @@ fn load_set(
     load_lengths(content_of(file, BlockKind::Lengths), lengths);
     load_starts(&lengths[..set.segments], starts);
     let records = content_of(file, BlockKind::Segments);
-    arena[..records.len()].copy_from_slice(records);
+    copy_bytes(&mut arena[..records.len()], records);
     Ok(set)
 }
 

@@ -16,6 +16,7 @@ use crate::counts::{COUNT_BYTES, WIDTHS};
 use hash_parts::error::SegmentCacheBuildError;
 use index::view::SegmentAreas;
 use index::word::BUCKET_SLOTS;
+use records::record::copy_bytes;
 use sets::areas::{MAX_ARENA_BYTES, sum_of};
 use sets::cache::FrozenSegmentCache;
 use sets::rebuild_questions::source_holds;
@@ -218,7 +219,7 @@ fn put_segment_bytes(out: &mut [u8], areas: SegmentAreas<'_>)
     for (&start, &length) in starts.iter().zip(lengths) {
         let start = start as usize;
         let length = length as usize;
-        out[at..at + length].copy_from_slice(&arena[start..start + length]);
+        copy_bytes(&mut out[at..at + length], &arena[start..start + length]);
         at += length;
     }
 }

@@ -2,7 +2,7 @@
 // each, in seven words.
 ghost use Rattle.std.specs.Prelude.{◌≡◌, ◌+◌, ◌-◌, ◌*◌, ◌/◌, ◌%◌, ◌^◌, ◌<◌, ◌≤◌, [], ◌∷◌, ◌++◌, length, take, drop, slice_index};
 ghost use Rattle.hash_parts.specs.ZeroBytes.{bytes_of, number_of};
-ghost use Rattle.records.specs.Area.{pasted};
+ghost use Rattle.records.specs.Area.{copied, pasted};
 ghost use Rattle.index.specs.Packed.{control_byte, control_word, marked_byte, packed_index, packed_scratch, packed_slot, reference_bytes, reference_in, reference_words, unmarked_byte, with_byte};
 
 use crate::slot::IndexSlot;
@@ -24,7 +24,18 @@ pub fn finish_packed_index(index: &mut [u64], buckets: usize, scratch: &mut [u64
     for bucket in (0..buckets).rev() {
         scratch[bucket] = pack_bucket(index, buckets, bucket);
     }
-    index[..buckets].copy_from_slice(&scratch[..buckets]);
+    copy_words(&mut index[..buckets], &scratch[..buckets]);
+}
+
+// The same of words as copy_bytes of bytes.
+pub fn copy_words(out: &mut [u64], words: &[u64])
+    ensures { out.new ≡ copied words.now out.old }
+{
+    if out.len() == words.len() {
+        for (i, word) in words.iter().enumerate() {
+            out[i] = *word;
+        }
+    }
 }
 
 // Writes the references of a bucket, and gives its control word.

@@ -9,6 +9,7 @@ use native.Mathlib.Omega.{arith}
 use borrow.Author.Tests.{eqb-true, eq-eqb, le-leb, lt-leb}
 use borrow.Rule.Slice.PartMut.{put_mid}
 use lib.Dec.{eqb}
+use Rattle.std.proofs.Common.{ne_eqb}
 use lib.ListN.{length, take, drop, set, length-append, length-drop, drop_of_length-le}
 use lib.Seq.{take_all, take_at, drop_at, drop-drop, set_at, drop-cons}
 use denote.Ref.{Bor}
@@ -18,10 +19,27 @@ use Rattle.std.specs.Slice.{IsGetRangeResult}
 use Rattle.std.proofs.lemmas.Slice.{between_from_start}
 use Rattle.hash_parts.specs.Outcome.{accepted, refused}
 use Rattle.hash_parts.specs.declared.error.SegmentCacheBuildError.TheVariants.{AreaTooShort}
-use Rattle.records.specs.Area.{over, pasted, written, spanned, same_bytes}
+use Rattle.records.specs.Area.{copied, over, pasted, written, spanned, same_bytes}
 use Rattle.records.specs.declared.record.Span.{Span}
 
 -- ---- writing over an area's front
+
+-- over a whole area
+pub over_all : (s area : List ℕ) → length area ≡ length s → over s area ≡ s
+over_all s area e = ap (λ (t : List ℕ). s ++ t) (drop_of_length-le area (le_of_eq e)) ∙ append-nil s
+
+pub copied_law : (s area : List ℕ) → length area ≡ length s → copied s area ≡ s
+unfolding copied
+copied_law s area e = rw (eq-eqb _ _ e) refl
+
+pub copied_not : (s area : List ℕ) → (length area ≡ length s → ⊥) → copied s area ≡ area
+unfolding copied
+copied_not s area n = rw (ne_eqb _ _ n) refl
+
+-- all of s written over an area of its length, bit by bit
+pub copied_whole : (s area out : List ℕ) (i : ℕ) → length s ≤ i → length area ≡ length s → out ≡ over (take i s) area → out ≡ copied s area
+copied_whole s area out i h e w =
+    w ∙ ap (λ (t : List ℕ). over t area) (take_all i s h) ∙ over_all s area e ∙ sym (copied_law s area e)
 
 -- one byte more after what is written
 pub over_set : (s area : List ℕ) (i x : ℕ) → length s ≡ i → i < length area → set (over s area) i x ≡ over (s ++ (x ∷ [])) area

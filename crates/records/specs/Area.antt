@@ -14,6 +14,10 @@ over s area = s ++ drop (length s) area
 abbrev pub pasted : ℕ → List ℕ → List ℕ → List ℕ
 pasted at s area = take at area ++ over s (drop at area)
 
+-- an area of as many bytes as s with s in their place; one of another length as it was
+unfoldable pub copied : List ℕ → List ℕ → List ℕ
+copied s area = cond (eqb (length area) (length s)) s area
+
 -- what writing leaves: the answer, and the area's content
 pub record Written : Type 0 where
   pub answer : Outcome

@@ -1,7 +1,7 @@
 // Stored records: key length, value length, the deadline where the set has one, key, value.
 ghost use Rattle.std.specs.Prelude.{◌≡◌, ◌+◌, ◌≤◌, length};
 ghost use Rattle.hash_parts.specs.Setting.{bytes_per_record};
-ghost use Rattle.records.specs.Area.{over, same_bytes, spanned, written};
+ghost use Rattle.records.specs.Area.{copied, over, same_bytes, spanned, written};
 ghost use Rattle.records.specs.Record.{deadline_bytes, deadline_in, encoded_size, record_at, record_bytes, record_of};
 ghost use Rattle.hash_parts.specs.Outcome.{outcome_of};
 ghost use Rattle.records.specs.Uleb128.{uleb128};
@@ -100,10 +100,20 @@ fn put_bytes(out: &mut [u8], bytes: &[u8]) -> usize
     requires { length bytes.now ≤ length out.old }
     ensures { (result ≡ length bytes.now) × (out.new ≡ over bytes.now out.old) }
 {
-    for (i, byte) in bytes.iter().enumerate() {
-        out[i] = *byte;
-    }
+    copy_bytes(&mut out[..bytes.len()], bytes);
     bytes.len()
+}
+
+// Copies bytes over an area of their length; one of another length stays as it was. By a loop, which the compiler makes in place:
+// the library's copy is a call, and of what an archive for C does not hold.
+pub fn copy_bytes(out: &mut [u8], bytes: &[u8])
+    ensures { out.new ≡ copied bytes.now out.old }
+{
+    if out.len() == bytes.len() {
+        for (i, byte) in bytes.iter().enumerate() {
+            out[i] = *byte;
+        }
+    }
 }
 
 impl Records<'_> {

@@ -81,7 +81,8 @@ impl SetRecords<'_> {
         None
     }
 
-    // The record that a slot names.
+    // The record that a slot names. In place at each walk, where a call would take longer than an empty slot.
+    #[inline(always)]
     #[tactic(auto, unfolding(crate::specs::Lookup::entry_at))]
     pub fn entry_at(self, slot: usize) -> Option<RecordRef>
         ensures { result ≡ entry_at (record_in self.entry.view self.entry.areas.arena.now self.entry.areas.starts.now self.entry.areas.lengths.now) self.entry.index.packed self.entry.index.buckets self.entry.index.words.now slot }

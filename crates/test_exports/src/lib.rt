@@ -19,6 +19,7 @@ ghost use Rattle.test_exports.specs.Exports.{byte_or256, code_of, duration_of, e
 use hash_parts::duration::{Duration, SegmentRemainingTtl};
 use hash_parts::error::SegmentCacheBuildError;
 use hash_parts::setting::SegmentExpiry;
+use index::packed::copy_words;
 use records::record::{RecordRef, Records, Span};
 
 #[unsafe(no_mangle)]
@@ -53,15 +54,14 @@ pub extern "C" fn test_packed_secondary_tag(tag: u64) -> u16
 pub extern "C" fn test_wrapping_mul(a: u64, b: u64) -> u64
     ensures { result ≡ a * b % 2 ^ 64 }
 {
-    a.wrapping_mul(b)
+    hash_parts::hash::wrapping_mul(a, b)
 }
 
 #[unsafe(no_mangle)]
-#[tactic(auto, using(hash_parts::proofs::Rotation::rotated_law))]
 pub extern "C" fn test_rotate_left_27(hash: u64) -> u64
     ensures { result ≡ rotated hash }
 {
-    hash.rotate_left(27)
+    hash_parts::hash::rotate_left_27(hash)
 }
 
 #[unsafe(no_mangle)]
@@ -176,7 +176,7 @@ fn put_words(out: &mut [u64], words: &[u64])
     ensures { out.new ≡ placed words.now out.old }
 {
     if words.len() <= out.len() {
-        out[..words.len()].copy_from_slice(words);
+        copy_words(&mut out[..words.len()], words);
     }
 }
 

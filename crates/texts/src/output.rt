@@ -4,6 +4,8 @@
 ghost use Rattle.std.specs.Prelude.{◌≡◌, ◌*◌, ◌<◌, ◌≤◌, drop, length};
 ghost use Rattle.texts.specs.Output.{appended, decimal_text, ended_before, hex_digit, hex_text, output};
 
+use records::record::copy_bytes;
+
 // The most digits of a 64-bit number.
 const DECIMAL_DIGITS: usize = 20;
 
@@ -14,7 +16,7 @@ pub fn put_text(out: &mut [u8], at: usize, text: &[u8]) -> usize
         return at;
     }
     let end = at + text.len();
-    out[at..end].copy_from_slice(text);
+    copy_bytes(&mut out[at..end], text);
     end
 }
 

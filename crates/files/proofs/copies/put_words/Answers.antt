@@ -8,10 +8,10 @@ use lib.ListN.{length, get_or, drop, drop_of_length-le, length-map}
 use lib.Seq.{drop-cons}
 use Rattle.hash_parts.specs.ZeroBytes.{bytes_of}
 use Rattle.hash_parts.proofs.Bytes.{length_bytes}
-use Rattle.records.proofs.Area.{begin, complete, next, room}
+use Rattle.records.proofs.Area.{begin, complete, next, over_all, room}
 use Rattle.index.specs.Packed.{word_bytes}
 use Rattle.files.specs.Copies.{masked_by}
-use Rattle.files.proofs.Copying.{number_put, over_all}
+use Rattle.files.proofs.Copying.{number_put}
 use Rattle.files.proofs.Low.{word_bytes_length}
 use Rattle.files.proofs.copies.put_words.Invariants.{bytes}
 use Rattle.files.proofs.copies.put_words.Goals as goal

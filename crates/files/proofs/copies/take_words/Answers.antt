@@ -10,10 +10,10 @@ use lib.Seq.{drop-drop, length-take-le}
 use Rattle.std.specs.Int.{from_le_bytes, w64}
 use Rattle.hash_parts.specs.ZeroBytes.{number_of}
 use Rattle.records.specs.Area.{part}
-use Rattle.records.proofs.Area.{begin, complete, next_byte}
+use Rattle.records.proofs.Area.{begin, complete, next_byte, over_all}
 use Rattle.index.specs.Packed.{words_of}
 use Rattle.files.specs.Copies.{masked_by}
-use Rattle.files.proofs.Copying.{chunk_at, over_all, word_is}
+use Rattle.files.proofs.Copying.{chunk_at, word_is}
 use Rattle.index.proofs.PackingLoop.{length_words}
 use Rattle.files.proofs.copies.take_words.Invariants.{Fitting, from}
 use Rattle.files.proofs.copies.take_words.Goals as goal

@@ -12,6 +12,7 @@ use Rattle.index.specs.Segments.{padded}
 use Rattle.sets.proofs.Said.{answered_no, answered_yes}
 use Rattle.sets.specs.Lookup.{areas_hold_lookup}
 use Rattle.sets.specs.declared.cache.FrozenSegmentCache.{FrozenSegmentCache}
+use Rattle.records.proofs.Area.{copied_law}
 use Rattle.files.specs.Blocks.{content_of}
 use Rattle.files.specs.Contents.{file_set, starts_by, unmarked_index}
 use Rattle.files.specs.Load.{load_areas_hold}
@@ -126,15 +127,12 @@ load_starts-requires c =
 records_held : (c : Else-not-lookup_areas_hold) (records : List ℕ) → records ≡ content_of 4 c.args.file.now → length records ≤ length c.args.arena.now
 records_held c records e = subst (λ (l : List ℕ). length l ≤ length c.args.arena.now) (sym e) (told c).arena_held
 
-pub slice_bounds-copy_from_slice-end : goal.slice_bounds-copy_from_slice-end
-slice_bounds-copy_from_slice-end c = records_held (goal.at.slice_bounds-copy_from_slice-end c).Else-not-lookup_areas_hold _ c.content_of-records.ensures
+pub slice_bounds-copy_bytes-end : goal.slice_bounds-copy_bytes-end
+slice_bounds-copy_bytes-end c = records_held (goal.at.slice_bounds-copy_bytes-end c).Else-not-lookup_areas_hold _ c.content_of-records.ensures
 
-pub slice_bounds-copy_from_slice-end-2 : goal.slice_bounds-copy_from_slice-end-2
-slice_bounds-copy_from_slice-end-2 c =
-    sym (length-take-le _ c.args.arena.now (records_held (goal.at.slice_bounds-copy_from_slice-end-2 c).Else-not-lookup_areas_hold _ c.content_of-records.ensures))
-
-pub copy_from_slice-requires : goal.copy_from_slice-requires
-copy_from_slice-requires c = length-take-le _ c.args.arena.now (records_held (goal.at.copy_from_slice-requires c).Else-not-lookup_areas_hold _ c.content_of-records.ensures)
+pub slice_bounds-copy_bytes-end-2 : goal.slice_bounds-copy_bytes-end-2
+slice_bounds-copy_bytes-end-2 c =
+    sym (length-take-le _ c.args.arena.now (records_held (goal.at.slice_bounds-copy_bytes-end-2 c).Else-not-lookup_areas_hold _ c.content_of-records.ensures))
 
 pub returns : goal.returns
 returns c =
@@ -154,5 +152,6 @@ returns c =
     ∙ ap₂ (λ (s : FrozenSegmentCache) (l : List ℕ). over (words_of s.filter_words l) a.filter.now) c.requires.0 c.content_of-filter_bytes.ensures)
     (c.load_starts.ensures ∙ ap (λ (l : List ℕ). over (padded (starts_by 0 l)) a.starts.now) (front at.After-load_lengths c.requires.0 t.segments))
     (loaded at.After-load_lengths)
-    (front_home c.content_of-records.result.now c.copy_from_slice.new.self a.arena.now (length c.content_of-records.result.now) c.copy_from_slice.ensures.after refl
+    (front_home c.content_of-records.result.now c.copy_bytes.new.out a.arena.now (length c.content_of-records.result.now)
+    (c.copy_bytes.ensures ∙ copied_law _ _ (length-take-le _ a.arena.now (records_held at.Else-not-lookup_areas_hold _ c.content_of-records.ensures))) refl
     ∙ ap (λ (l : List ℕ). over l a.arena.now) c.content_of-records.ensures)

@@ -4,9 +4,9 @@ use Rattle.std.proofs.lemmas.List.{length-take}
 use Rattle.std.proofs.lemmas.Slice.Zip.{zip_end, zip_turn}
 use Rattle.hash_parts.specs.ZeroBytes.{bytes_of}
 use Rattle.hash_parts.proofs.Bytes.{length_bytes}
-use Rattle.records.proofs.Area.{begin, complete, fits, next}
+use Rattle.records.proofs.Area.{begin, complete, fits, next, over_all}
 use Rattle.files.specs.Contents.{bytes_for, widths}
-use Rattle.files.proofs.Copying.{number_put, over_all}
+use Rattle.files.proofs.Copying.{number_put}
 use Rattle.files.proofs.Pieces.{no_numbers, numbers_long, one_number}
 use Rattle.files.proofs.write.put_numbers.Goals as goal
 use Rattle.files.proofs.write.put_numbers.Goals.{In-Some}

@@ -4,11 +4,11 @@ use native.Mathlib.Nat.{le_refl}
 use Rattle.std.proofs.lemmas.List.{length-take-le}
 use Rattle.std.proofs.lemmas.Slice.Zip.{zip_end, zip_turn}
 use Rattle.records.specs.Area.{part}
-use Rattle.records.proofs.Area.{begin, complete, fits, next}
+use Rattle.records.proofs.Area.{begin, complete, copied_law, fits, next, over_all}
 use Rattle.index.specs.declared.view.SegmentAreas.{SegmentAreas}
 use Rattle.sets.proofs.RebuildAsked.{segments_each}
 use Rattle.files.specs.Write.{segment_bytes}
-use Rattle.files.proofs.Copying.{mid_home, over_all, part_lent}
+use Rattle.files.proofs.Copying.{mid_home, part_lent}
 use Rattle.files.proofs.Moved.{segments_length}
 use Rattle.files.proofs.Pieces.{from_first, from_last, from_next, segments_from}
 use Rattle.files.proofs.write.put_segment_bytes.Goals as goal
@@ -74,14 +74,14 @@ loop-start-init c =
 pub overflow_add-at : goal.overflow_add-at
 overflow_add-at c = omega (arith, room (goal.at.overflow_add-at c).In-Some)
 
-pub slice_bounds-copy_from_slice-end : goal.slice_bounds-copy_from_slice-end
-slice_bounds-copy_from_slice-end c = room (goal.at.slice_bounds-copy_from_slice-end c).In-Some
+pub slice_bounds-copy_bytes-end : goal.slice_bounds-copy_bytes-end
+slice_bounds-copy_bytes-end c = room (goal.at.slice_bounds-copy_bytes-end c).In-Some
 
 pub overflow_add-start : goal.overflow_add-start
 overflow_add-start c = omega (arith, inside (goal.at.overflow_add-start c).In-Some)
 
-pub slice_bounds-copy_from_slice-end-in-loop-start : goal.slice_bounds-copy_from_slice-end-in-loop-start
-slice_bounds-copy_from_slice-end-in-loop-start c = inside (goal.at.slice_bounds-copy_from_slice-end-in-loop-start c).In-Some
+pub slice_bounds-copy_bytes-end-in-loop-start : goal.slice_bounds-copy_bytes-end-in-loop-start
+slice_bounds-copy_bytes-end-in-loop-start c = inside (goal.at.slice_bounds-copy_bytes-end-in-loop-start c).In-Some
 
 pub loop-start-preserved : goal.loop-start-preserved
 loop-start-preserved c =
@@ -90,8 +90,8 @@ loop-start-preserved c =
     let width : at + size t - at ≡ size t = omega arith in
     rw (length-append c.loop-start.yielded ((c.in-Some.field-0-0, c.in-Some.field-0-1) ∷ []))
     (next (here t) (left t (turn t + 1)) _ (at + size t) c.loop-start.invariant (one t) (ap (λ (k : ℕ). at + k) (sym (here_length t)))
-    (mid_home (here t) c.copy_from_slice.new.self c.loop-start.out at (at + size t - at)
-    (c.copy_from_slice.ensures.after ∙ part_lent (start t) (start t + size t) (size t) c.args.areas.arena.now refl)
+    (mid_home (here t) c.copy_bytes.new.out c.loop-start.out at (at + size t - at)
+    (c.copy_bytes.ensures ∙ copied_law _ _ (search rules) ∙ part_lent (start t) (start t + size t) (size t) c.args.areas.arena.now refl)
     (here_length t ∙ sym width)))
 
 pub returns : goal.returns

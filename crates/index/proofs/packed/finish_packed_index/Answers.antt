@@ -1,5 +1,6 @@
 -- `finish_packed_index` meets its contract: a bucket's references never reach the words of the buckets before it. Assumes nothing.
-use Rattle.std.proofs.Common.{ℕ, ◌-◌, ◌++◌, drop, set, ap, arith}
+use Rattle.std.proofs.Common.{ℕ, ◌-◌, ◌++◌, ◌∙◌, drop, set, ap, arith, rules}
+use Rattle.records.proofs.Area.{copied_law}
 use Rattle.index.proofs.PackingLoop.{packing_begins, packing_next, packing_ends, short_index, short_scratch}
 use Rattle.index.proofs.packed.finish_packed_index.Goals as goal
 
@@ -28,4 +29,5 @@ loop-bucket-preserved c =
 pub returns : goal.returns
 returns c =
     let l = c.loop-bucket in
-    packing_ends _ l.invariant (omega arith) (ap (λ words. words ++ drop c.args.buckets l.index) c.copy_from_slice.ensures.after)
+    let front = c.copy_words.ensures ∙ copied_law _ _ (search rules) in
+    packing_ends _ l.invariant (omega arith) (ap (λ words. words ++ drop c.args.buckets l.index) front)

@@ -1,5 +1,6 @@
 -- `put_text` meets its contract. Assumes nothing.
-use Rattle.std.proofs.Common.{◌+◌, ◌<◌, length, refl, arith}
+use Rattle.std.proofs.Common.{◌+◌, ◌<◌, ◌∙◌, length, refl, arith, rules}
+use Rattle.records.proofs.Area.{copied_law}
 use Rattle.texts.proofs.Spelling.{appended_at, appended_out}
 use Rattle.texts.proofs.output.put_text.Goals as goal
 use Rattle.texts.proofs.output.put_text.Goals.{then-out-at-via-then-out-at, then-out-at-via-else-out-at+then-out-at-2}
@@ -14,4 +15,4 @@ returns-then-out-at c =
 pub returns : goal.returns
 returns c =
     let a = c.args in
-    appended_at a.at a.text.now a.out.now _ _ c.copy_from_slice.new.self (omega arith) refl refl c.copy_from_slice.ensures.after
+    appended_at a.at a.text.now a.out.now _ _ c.copy_bytes.new.out (omega arith) refl refl (c.copy_bytes.ensures ∙ copied_law a.text.now _ (search rules))

@@ -1,7 +1,7 @@
 -- The bytes so far stand over the front.
 use Rattle.std.proofs.Common.{◌≡◌, take}
 use Rattle.records.specs.Area.{over}
-use Rattle.records.proofs.record.put_bytes.Given as goal
+use Rattle.records.proofs.record.copy_bytes.Given as goal
 
 abbrev pub invariant-loop-i : goal.invariant-loop-i
 invariant-loop-i l = l.out ≡ over (take l.i l.bytes) l.initial.out
