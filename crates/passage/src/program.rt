@@ -1,4 +1,6 @@
 // Reading the input in blocks, answering its lines, and writing the output in blocks.
+ghost use Rattle.std.specs.Prelude.{◌≡◌};
+
 use crate::answer::answer_line;
 use crate::areas::{Areas, KeyAndValue};
 use crate::output::Output;
@@ -67,7 +69,9 @@ fn next_block<R: Read, W: Write>(
     writer: &mut W,
     source: &mut Source,
     session: &mut Session,
-) -> bool {
+) -> bool
+    ensures { session.new.output.waiting ≡ 0 }
+{
     if !session.output.write(writer) {
         return false;
     }

@@ -1,5 +1,6 @@
 pub mod Digits
 pub mod Example
+pub mod Inside
 pub mod Lines
 pub mod Numbers
 pub mod Replies

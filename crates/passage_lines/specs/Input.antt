@@ -1,6 +1,6 @@
 -- The next line of a block of the input, and the bytes of a line that has not ended. That lines read so are the input's lines: proofs/Lines.antt.
 -- Assumes nothing.
-use Rattle.std.specs.Prelude.{ℕ, ◌+◌, ◌-◌, Bool, true, false, cond, List, ltb, length, take}
+use Rattle.std.specs.Prelude.{ℕ, ◌+◌, ◌-◌, ◌≤◌, Bool, true, false, cond, List, ltb, length, take}
 use Rattle.records.specs.Area.{over, part}
 use Rattle.passage_lines.specs.Bytes.{first_from}
 use Rattle.passage_lines.specs.declared.input.Input.{Input}
@@ -35,6 +35,13 @@ next_line block i =
     cond (ltb (length block) i.end) (next More (input 0 0 false))
     (cond (ltb i.end i.at) (next More (input 0 0 false))
     (next_before i.at i.end i.skipping (first_from 10 (take i.end block) i.at)))
+
+-- a line lies inside a block of so many bytes
+abbrev pub LineInside : ℕ → NextLine → Type 0
+LineInside size (Line from to) = (from ≤ to) × (to ≤ size)
+LineInside size TooLong = Unit {0}
+LineInside size Skipped = Unit {0}
+LineInside size More = Unit {0}
 
 -- what moving the unread bytes to the front leaves
 pub record Kept : Type 0 where

@@ -1,6 +1,6 @@
 // Lines of an input that is read in blocks.
 ghost use Rattle.std.specs.Prelude.{◌≡◌, ◌+◌, ◌<◌, ◌≤◌, ◌^◌, length};
-ghost use Rattle.passage_lines.specs.Input.{kept, kept_unread, next, next_before, next_line};
+ghost use Rattle.passage_lines.specs.Input.{LineInside, kept, kept_unread, next, next_before, next_line};
 
 use crate::bytes::find_byte;
 use crate::command::MAX_LINE_BYTES;
@@ -38,7 +38,9 @@ impl Input {
     // unread where more input is needed.
     #[tactic(auto, using(std::proofs::lemmas::Bool::Decides::nat_tests), unfolding(crate::specs::Input::next_line))]
     pub fn next_line(&mut self, block: &[u8]) -> NextLine
-        ensures { next result self.new ≡ next_line block.now self.old }
+        ensures line_after { next result self.new ≡ next_line block.now self.old }
+        ensures line_inside { LineInside (length block.now) result }
+        ensures rest_inside { (self.new.at ≤ self.new.end) × (self.new.end ≤ length block.now) }
     {
         let Some(unread) = block.get(self.at..self.end) else {
             *self = Input::EMPTY;
@@ -91,6 +93,7 @@ impl Input {
     pub fn keep_unread(&mut self, block: &mut [u8])
         ensures kept_after { kept self.new block.new ≡ kept_unread block.old self.old }
         ensures end_inside { self.new.end ≤ length block.old }
+        ensures at_front { self.new.at ≡ 0 }
     {
         if self.end > block.len() || self.at > self.end {
             *self = Input::EMPTY;

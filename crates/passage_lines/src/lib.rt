@@ -7,5 +7,6 @@ pub mod command;
 mod fields;
 pub mod hex;
 pub mod input;
+pub mod output;
 pub mod reply;
 mod text;

@@ -2,10 +2,10 @@
 ghost use Rattle.std.specs.Prelude.{◌≡◌, ◌≤◌, length};
 ghost use Rattle.records.specs.Area.{over};
 ghost use Rattle.texts.specs.Output.{appended, output};
-ghost use Rattle.passage_lines.specs.Reply.{bytes_text, line_of, reply_text, value_text, word_text};
+ghost use Rattle.passage_lines.specs.Reply.{line_of, reply_text, value_text, word_text};
 
+use crate::output::{put_decimal, put_hex, put_text};
 use hash_parts::error::SegmentCacheBuildError;
-use texts::output::{put_decimal, put_hex, put_text};
 
 // The words of the commands.
 #[derive(Clone, Copy, Debug, PartialEq, Eq)]
@@ -113,17 +113,6 @@ fn write_value(line: &mut [u8], value: &[u8]) -> usize
     ensures { (result ≡ length (value_text value.now)) × (line.new ≡ over (value_text value.now) line.old) }
 {
     let text_at = put_text(line, 0, b"get 0 ");
-    let text_end = put_bytes(line, text_at, value);
+    let text_end = put_hex(line, text_at, value);
     put_text(line, text_end, b"\n")
-}
-
-// Bytes in hexadecimal, `-` where there are none.
-#[tactic(auto, unfolding(crate::specs::Reply::bytes_text))]
-fn put_bytes(out: &mut [u8], at: usize, bytes: &[u8]) -> usize
-    ensures { output result out.new ≡ appended at (bytes_text bytes.now) out.old }
-{
-    if bytes.is_empty() {
-        return put_text(out, at, b"-");
-    }
-    put_hex(out, at, bytes)
 }

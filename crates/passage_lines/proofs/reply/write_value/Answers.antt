@@ -11,4 +11,4 @@ pub returns : goal.returns
 unfolding value_text
 returns c = let t = c.put_text in
     let w = next_text (codes "get 0 ") (begin (value_text c.args.value.now) c.args.line.now c.requires) c.put_text-text_at.ensures in
-    complete (next_text line_feed (next_text (bytes_text c.args.value.now) w c.put_bytes-text_end.ensures) t.ensures) refl
+    complete (next_text line_feed (next_text (bytes_text c.args.value.now) w c.put_hex-text_end.ensures) t.ensures) refl
