@@ -5,7 +5,7 @@ use Rattle.records.specs.Area.{Written, over}
 use Rattle.capi.specs.Words.{stored}
 
 -- what fits is stored
-stored_in_law : (w old : List ℕ) → length w ≤ length old → stored w old ≡ over w old
+pub stored_in_law : (w old : List ℕ) → length w ≤ length old → stored w old ≡ over w old
 stored_in_law w old h = ap (λ (t : Written). t.area) (written_in_law w old h)
 
 -- words of the same number are all there is

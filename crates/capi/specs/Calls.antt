@@ -1,6 +1,6 @@
 -- The exported calls: the number that each gives and the content of every lent area that it may write, out of the calls on sets.
 -- Assumes nothing.
-use Rattle.std.specs.Prelude.{◌≡◌, Bool, cond, List, [], ◌∷◌, ℕ, ◌+◌, ◌-◌, ◌%◌, ◌^◌, Option, Some, None, Result, Ok, Err, replicate, eqb, length}
+use Rattle.std.specs.Prelude.{Bool, cond, List, [], ◌∷◌, ℕ, ◌+◌, ◌-◌, ◌%◌, ◌^◌, Option, Some, None, Result, Ok, Err, replicate, eqb, length}
 use Rattle.hash_parts.specs.Error.{error_number}
 use Rattle.hash_parts.specs.Setting.{flag_of}
 use Rattle.hash_parts.specs.declared.duration.SegmentRemainingTtl.{SegmentRemainingTtl}
@@ -286,21 +286,3 @@ placed_words p = p.slot ∷ p.location ∷ []
 abbrev pub pushed_told : {S : Type 0} → (S → List ℕ) → S → Result PushedRecord SegmentCacheBuildError → List ℕ → List ℕ → PlaceTold
 pushed_told words s (Ok p) old place = place_told 0 (stored (words s) old) (stored (placed_words p) place)
 pushed_told words s (Err e) old place = place_told (error_number e) old place
-
--- what C is told of a call on the state in lent words, by which results the call may have
-abbrev pub call_told : {S A : Type 0} → (S → Result A SegmentCacheBuildError → Type 0) → (A → List ℕ) → Option S → List ℕ → Told → Type 0
-call_told may words (Some s) old t = (r : Result _ SegmentCacheBuildError) × may s r × (t ≡ told_by words (answered r) old)
-call_told may words None old t = t ≡ told 11 old
-
--- the same, where the words for the answer are so many
-abbrev pub asked : {S A : Type 0} → (S → Result A SegmentCacheBuildError → Type 0) → (A → List ℕ) → ℕ → Option S → List ℕ → Told → Type 0
-asked may words count state old t = cond (eqb (length old) count) (call_told may words state old t) (t ≡ told 11 old)
-
--- the two of a call that writes to an area, by which results it may have with what it may leave there
-abbrev pub call_told_mut : {S A W : Type 0} → (S → Result A SegmentCacheBuildError → List W → Type 0) → (A → List ℕ) → Option S → List W → List ℕ → List W → Told → Type 0
-call_told_mut may words (Some s) area old left t = (r : Result _ SegmentCacheBuildError) × may s r left × (t ≡ told_by words (answered r) old)
-call_told_mut may words None area old left t = (left ≡ area) × (t ≡ told 11 old)
-
-abbrev pub asked_mut : {S A W : Type 0} → (S → Result A SegmentCacheBuildError → List W → Type 0) → (A → List ℕ) → ℕ → Option S → List W → List ℕ → List W → Told → Type 0
-asked_mut may words count state area old left t =
-    cond (eqb (length old) count) (call_told_mut may words state area old left t) ((left ≡ area) × (t ≡ told 11 old))

@@ -1,9 +1,9 @@
 // What C is told of a call's answer: a number, and lent words.
-ghost use Rattle.std.specs.Prelude.{◌≡◌};
+ghost use Rattle.std.specs.Prelude.{◌≡◌, None, cond, eqb, length};
 ghost use Rattle.std.proofs.Common.{lit<};
-ghost use Rattle.capi.specs.Calls.{flag_words, answered, asked, asked_mut, found_words, left_words, number_words, place_told, placed_words, pushed_told, record_words, span_words, told, told_by};
+ghost use Rattle.capi.specs.Calls.{flag_words, answered, found_words, left_words, number_words, place_told, placed_words, pushed_told, record_words, span_words, told, told_by};
 
-use crate::words::{FromWords, MALFORMED, ToWords, copy_words};
+use crate::words::{FromWords, ToWords, copy_words};
 use hash_parts::duration::SegmentRemainingTtl;
 use hash_parts::error::SegmentCacheBuildError;
 use records::record::Span;
@@ -33,40 +33,16 @@ pub fn tell<const N: usize, T: ToWords<N>>(
     }
 }
 
-// The call on the state in lent words, with an area that it may write to, and what it gives over other words. What a closure
-// writes to an area that it borrows is lost to the proof of its maker, so the area is an argument; calls that write to
-// several say the same line by line.
-pub fn ask_mut<
-    const N: usize,
-    W,
-    S: FromWords,
-    T: ToWords<N>,
-    F: FnOnce(S, &mut [W]) -> Result<T, SegmentCacheBuildError>,
->(state: &[u64], area: &mut [W], out: &mut [u64], call: F) -> u64
-    requires { F.IsAlwaysCallable call }
-    ensures { asked_mut (λ s r left. (y z : _) × F.post call s y r z × (y.now ≡ area.old) × (z.now ≡ left)) T.words_of N (S.value_in state.now) area.old out.old area.new (told result out.new) }
+// The state in lent words, where the words lent for the answer are so many.
+// An export is this, its call and what tells the answer, one after another. A function that took the call as a closure would demand
+// one that may be called, and what a closure writes to areas that it borrows is lost to the proof of its maker.
+pub fn lent_state<const N: usize, S: FromWords>(state: &[u64], out: &[u64]) -> Option<S>
+    ensures { result ≡ cond (eqb (length out.now) N) (S.value_in state.now) None }
 {
     if out.len() != N {
-        return MALFORMED;
+        return None;
     }
-    let Some(state) = S::from_words(state) else {
-        return MALFORMED;
-    };
-    tell(call(state, area), out)
-}
-
-// The same of a call that writes to no area.
-pub fn ask<
-    const N: usize,
-    S: FromWords,
-    T: ToWords<N>,
-    F: FnOnce(S) -> Result<T, SegmentCacheBuildError>,
->(state: &[u64], out: &mut [u64], call: F) -> u64
-    requires { F.IsAlwaysCallable call }
-    ensures { asked (F.post call) T.words_of N (S.value_in state.now) out.old (told result out.new) }
-{
-    let mut nothing: [u8; 0] = [];
-    ask_mut(state, &mut nothing, out, |state: S, _| call(state))
+    S::from_words(state)
 }
 
 // What a push gives: the words of the state that it leaves, and of its record's place.

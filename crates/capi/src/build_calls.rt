@@ -3,8 +3,8 @@ ghost use Rattle.std.specs.Prelude.{◌≡◌};
 ghost use Rattle.std.proofs.Common.{lit<};
 ghost use Rattle.capi.specs.Calls.{area_numbers, exported_area_words, exported_finish, exported_open, finish_words, open_words, told};
 
-use crate::answers::{ask, tell};
-use crate::words::{BUILDER_WORDS, FromWords, MALFORMED, SET_WORDS, ToWords};
+use crate::answers::{lent_state, tell};
+use crate::words::{BUILDER_WORDS, MALFORMED, SET_WORDS, ToWords};
 use hash_parts::setting::SegmentCacheConfig;
 use index::view::SegmentAreas;
 use sets::areas::{AreaWords, area_words};
@@ -40,10 +40,7 @@ pub extern "C" fn segment_cache_open(
 ) -> u64
     ensures { open_words result builder.new index.new filter.new ≡ exported_open setting.now records builder.old index.old filter.old starts.now lengths.now arena.now }
 {
-    if builder.len() != BUILDER_WORDS {
-        return MALFORMED;
-    }
-    let Some(config) = SegmentCacheConfig::from_words(setting) else {
+    let Some(config) = lent_state::<BUILDER_WORDS, SegmentCacheConfig>(setting, builder) else {
         return MALFORMED;
     };
     let areas = SegmentAreas {
@@ -69,10 +66,7 @@ pub extern "C" fn segment_cache_finish(
 ) -> u64
     ensures { finish_words result index.new starts.new lengths.new scratch.new set.new ≡ exported_finish builder.now target index.old starts.old lengths.old scratch.old arena.now set.old }
 {
-    if set.len() != SET_WORDS {
-        return MALFORMED;
-    }
-    let Some(state) = SegmentCacheBuilder::from_words(builder) else {
+    let Some(state) = lent_state::<SET_WORDS, SegmentCacheBuilder>(builder, set) else {
         return MALFORMED;
     };
     let answer = state.finish(target, index, starts, lengths, scratch, arena);
@@ -89,7 +83,10 @@ pub extern "C" fn segment_cache_area_words(
 ) -> u64
     ensures { told result words.new ≡ exported_area_words setting.now records words.old }
 {
-    ask(setting, words, |config| area_words(config, records))
+    let Some(config) = lent_state::<AREAS, SegmentCacheConfig>(setting, words) else {
+        return MALFORMED;
+    };
+    tell(area_words(config, records), words)
 }
 
 impl ToWords<AREAS> for AreaWords {

@@ -3,7 +3,7 @@ ghost use Rattle.std.specs.Prelude.{◌≡◌};
 ghost use Rattle.std.proofs.Common.{lit<};
 ghost use Rattle.capi.specs.Rebuilds.{exported_rebuild_finish, exported_rebuild_open, rebuild_finish_words, rebuild_open_words, totals_words};
 
-use crate::answers::tell;
+use crate::answers::{lent_state, tell};
 use crate::words::{FromWords, MALFORMED, REBUILD_WORDS, SET_WORDS, ToWords, copy_words};
 use index::view::SegmentAreas;
 use sets::cache::FrozenSegmentCache;
@@ -38,10 +38,7 @@ pub extern "C" fn segment_cache_rebuild_open(
 ) -> u64
     ensures { rebuild_open_words result rebuild.new index.new filter.new starts.new lengths.new ≡ exported_rebuild_open set.now source_starts.now source_lengths.now arena.now records copied_record_capacity used_source_segments.now source_now_tick rebuild.old index.old filter.old starts.old lengths.old }
 {
-    if rebuild.len() != REBUILD_WORDS {
-        return MALFORMED;
-    }
-    let Some(source) = FrozenSegmentCache::from_words(set) else {
+    let Some(source) = lent_state::<REBUILD_WORDS, FrozenSegmentCache>(set, rebuild) else {
         return MALFORMED;
     };
     let source_areas = SegmentAreas {

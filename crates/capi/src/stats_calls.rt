@@ -3,7 +3,8 @@
 ghost use Rattle.std.specs.Prelude.{◌≡◌};
 ghost use Rattle.capi.specs.Calls.{exported_number, exported_stats, load_in, overhead_in, retained_in, told};
 
-use crate::answers::ask;
+use crate::answers::{lent_state, tell};
+use crate::words::{MALFORMED, STATS_WORDS};
 use sets::cache::FrozenSegmentCache;
 use sets::stats::SegmentCacheStats;
 
@@ -12,7 +13,10 @@ use sets::stats::SegmentCacheStats;
 pub extern "C" fn segment_cache_stats(set: &[u64], stats: &mut [u64]) -> u64
     ensures { told result stats.new ≡ exported_stats set.now stats.old }
 {
-    ask(set, stats, |set: FrozenSegmentCache| set.stats())
+    let Some(set) = lent_state::<STATS_WORDS, FrozenSegmentCache>(set, stats) else {
+        return MALFORMED;
+    };
+    tell(set.stats(), stats)
 }
 
 #[tactic(auto, unfolding(crate::specs::Calls::exported_number))]
@@ -20,9 +24,10 @@ pub extern "C" fn segment_cache_stats(set: &[u64], stats: &mut [u64]) -> u64
 pub extern "C" fn segment_cache_modeled_retained_bytes(stats: &[u64], out: &mut [u64]) -> u64
     ensures { told result out.new ≡ exported_number retained_in stats.now out.old }
 {
-    ask(stats, out, |stats: SegmentCacheStats| {
-        Ok(stats.modeled_retained_bytes())
-    })
+    let Some(stats) = lent_state::<1, SegmentCacheStats>(stats, out) else {
+        return MALFORMED;
+    };
+    tell(Ok(stats.modeled_retained_bytes()), out)
 }
 
 #[tactic(auto, unfolding(crate::specs::Calls::exported_number))]
@@ -30,9 +35,10 @@ pub extern "C" fn segment_cache_modeled_retained_bytes(stats: &[u64], out: &mut 
 pub extern "C" fn segment_cache_modeled_overhead_bytes(stats: &[u64], out: &mut [u64]) -> u64
     ensures { told result out.new ≡ exported_number overhead_in stats.now out.old }
 {
-    ask(stats, out, |stats: SegmentCacheStats| {
-        Ok(stats.modeled_overhead_bytes())
-    })
+    let Some(stats) = lent_state::<1, SegmentCacheStats>(stats, out) else {
+        return MALFORMED;
+    };
+    tell(Ok(stats.modeled_overhead_bytes()), out)
 }
 
 #[tactic(auto, unfolding(crate::specs::Calls::exported_number))]
@@ -40,7 +46,8 @@ pub extern "C" fn segment_cache_modeled_overhead_bytes(stats: &[u64], out: &mut 
 pub extern "C" fn segment_cache_index_load_bps(stats: &[u64], out: &mut [u64]) -> u64
     ensures { told result out.new ≡ exported_number load_in stats.now out.old }
 {
-    ask(stats, out, |stats: SegmentCacheStats| {
-        Ok(usize::from(stats.index_load_bps()))
-    })
+    let Some(stats) = lent_state::<1, SegmentCacheStats>(stats, out) else {
+        return MALFORMED;
+    };
+    tell(Ok(usize::from(stats.index_load_bps())), out)
 }

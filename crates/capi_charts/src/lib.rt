@@ -5,7 +5,8 @@ ghost use Rattle.std.specs.Prelude.{◌≡◌};
 ghost use Rattle.capi.specs.Calls.{told};
 ghost use Rattle.capi_charts.specs.Charts.{exported_print_sheet, exported_sheet_pages, sheet_words};
 
-use capi::answers::{ask, ask_mut};
+use capi::answers::{lent_state, tell};
+use capi::words::MALFORMED;
 use charts::sheet::{print_sheet, sheet_pages};
 use index::view::SegmentAreas;
 use sets::cache::FrozenSegmentCache;
@@ -23,14 +24,16 @@ pub extern "C" fn segment_cache_sheet_pages(
 ) -> u64
     ensures { told result pages.new ≡ exported_sheet_pages set.now index.now starts.now lengths.now arena.now pages.old }
 {
-    ask(set, pages, |set: FrozenSegmentCache| {
-        let areas = SegmentAreas {
-            starts,
-            lengths,
-            arena,
-        };
-        sheet_pages(set, index, areas)
-    })
+    let Some(set) = lent_state::<1, FrozenSegmentCache>(set, pages) else {
+        return MALFORMED;
+    };
+    let areas = SegmentAreas {
+        starts,
+        lengths,
+        arena,
+    };
+    let answer = sheet_pages(set, index, areas);
+    tell(answer, pages)
 }
 
 // Prints a set's sheet to the front of the page area, and the number of its pages to the word.
@@ -47,12 +50,14 @@ pub extern "C" fn segment_cache_print_sheet(
 ) -> u64
     ensures { sheet_words result page.new pages.new ≡ exported_print_sheet set.now index.now starts.now lengths.now arena.now page.old pages.old }
 {
-    ask_mut(set, page, pages, |set: FrozenSegmentCache, page| {
-        let areas = SegmentAreas {
-            starts,
-            lengths,
-            arena,
-        };
-        print_sheet(set, index, areas, page)
-    })
+    let Some(set) = lent_state::<1, FrozenSegmentCache>(set, pages) else {
+        return MALFORMED;
+    };
+    let areas = SegmentAreas {
+        starts,
+        lengths,
+        arena,
+    };
+    let answer = print_sheet(set, index, areas, page);
+    tell(answer, pages)
 }

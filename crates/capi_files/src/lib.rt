@@ -7,7 +7,7 @@ ghost use Rattle.std.proofs.Common.{lit<};
 ghost use Rattle.capi.specs.Calls.{told};
 ghost use Rattle.capi_files.specs.Files.{exported_file_bytes, exported_file_needs, exported_load_file, exported_write_file, load_words, needs_words, write_words};
 
-use capi::answers::{ask, ask_mut, tell};
+use capi::answers::{lent_state, tell};
 use capi::words::{MALFORMED, SET_WORDS, ToWords};
 use files::load::{FileNeeds, file_needs, load_file};
 use files::write::{file_bytes, write_file};
@@ -47,9 +47,11 @@ pub extern "C" fn segment_cache_file_bytes(
 ) -> u64
     ensures { told result bytes.new ≡ exported_file_bytes set.now starts.now lengths.now bytes.old }
 {
-    ask(set, bytes, |set: FrozenSegmentCache| {
-        file_bytes(set, starts, lengths)
-    })
+    let Some(set) = lent_state::<1, FrozenSegmentCache>(set, bytes) else {
+        return MALFORMED;
+    };
+    let answer = file_bytes(set, starts, lengths);
+    tell(answer, bytes)
 }
 
 // Writes a set to the front of the file area, and the file's length to the word.
@@ -67,14 +69,16 @@ pub extern "C" fn segment_cache_write_file(
 ) -> u64
     ensures { write_words result file.new bytes.new ≡ exported_write_file set.now index.now filter.now starts.now lengths.now arena.now file.old bytes.old }
 {
-    ask_mut(set, file, bytes, |set: FrozenSegmentCache, file| {
-        let areas = SegmentAreas {
-            starts,
-            lengths,
-            arena,
-        };
-        write_file(set, index, filter, areas, file)
-    })
+    let Some(set) = lent_state::<1, FrozenSegmentCache>(set, bytes) else {
+        return MALFORMED;
+    };
+    let areas = SegmentAreas {
+        starts,
+        lengths,
+        arena,
+    };
+    let answer = write_file(set, index, filter, areas, file);
+    tell(answer, bytes)
 }
 
 // The five words: index, filter, starts, lengths, and the arena's bytes.

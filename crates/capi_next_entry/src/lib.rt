@@ -5,7 +5,8 @@
 ghost use Rattle.std.specs.Prelude.{◌≡◌};
 ghost use Rattle.capi.specs.Calls.{exported_walk, told};
 
-use capi::answers::ask;
+use capi::answers::{RECORD_WORDS, lent_state, tell};
+use capi::words::MALFORMED;
 use index::view::SegmentAreas;
 use sets::cache::FrozenSegmentCache;
 
@@ -24,12 +25,14 @@ pub extern "C" fn segment_cache_next_entry(
 ) -> u64
     ensures { told result «record».new ≡ exported_walk set.now from tick index.now starts.now lengths.now arena.now «record».old }
 {
-    ask(set, record, |set: FrozenSegmentCache| {
-        let areas = SegmentAreas {
-            starts,
-            lengths,
-            arena,
-        };
-        set.next_physical_entry_at_tick(from, tick, index, areas)
-    })
+    let Some(set) = lent_state::<RECORD_WORDS, FrozenSegmentCache>(set, record) else {
+        return MALFORMED;
+    };
+    let areas = SegmentAreas {
+        starts,
+        lengths,
+        arena,
+    };
+    let answer = set.next_physical_entry_at_tick(from, tick, index, areas);
+    tell(answer, record)
 }

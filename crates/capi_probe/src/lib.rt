@@ -1,12 +1,14 @@
 // One call for C in a library of its own, where nothing else calls what it calls: so the compiler makes one
-// piece of code of it. For that capi_peek has a like body, of another method: a function of both would have two callers.
+// piece of code of it. For that capi_get, capi_peek and capi_take_accessed have like bodies, of other methods: a function of
+// all would have four callers.
 // C lends each area by itself, so each is an argument of its own.
 #![tactic(auto)]
 
 ghost use Rattle.std.specs.Prelude.{◌≡◌};
 ghost use Rattle.capi.specs.Calls.{exported_probe, told};
 
-use capi::answers::ask;
+use capi::answers::{RECORD_WORDS, lent_state, tell};
+use capi::words::MALFORMED;
 use index::view::SegmentAreas;
 use sets::cache::FrozenSegmentCache;
 
@@ -28,12 +30,14 @@ pub extern "C" fn segment_cache_probe(
 ) -> u64
     ensures { told result «record».new ≡ exported_probe set.now hash key.now tick index.now filter.now starts.now lengths.now arena.now «record».old }
 {
-    ask(set, record, |set: FrozenSegmentCache| {
-        let areas = SegmentAreas {
-            starts,
-            lengths,
-            arena,
-        };
-        set.probe_hashed_at_tick(hash, key, tick, index, filter, areas)
-    })
+    let Some(set) = lent_state::<RECORD_WORDS, FrozenSegmentCache>(set, record) else {
+        return MALFORMED;
+    };
+    let areas = SegmentAreas {
+        starts,
+        lengths,
+        arena,
+    };
+    let answer = set.probe_hashed_at_tick(hash, key, tick, index, filter, areas);
+    tell(answer, record)
 }

@@ -1,12 +1,11 @@
 // One call for C in a library of its own, where nothing else calls what it calls: so the compiler makes one
-// piece of code of it. C lends each area by itself, so each is an argument of its own. Line by line, and not by `ask_mut`: it
-// writes to several areas, which a closure can't say of what it borrows.
+// piece of code of it. C lends each area by itself, so each is an argument of its own.
 #![tactic(auto)]
 
 ghost use Rattle.std.specs.Prelude.{◌≡◌};
 ghost use Rattle.capi.specs.Calls.{exported_push, push_words};
 
-use capi::answers::{PLACE_WORDS, tell_push};
+use capi::answers::{PLACE_WORDS, lent_state, tell_push};
 use capi::words::{FromWords, MALFORMED};
 use hash_parts::duration::Duration;
 use sets::builder::SegmentCacheBuilder;
@@ -27,10 +26,7 @@ pub extern "C" fn segment_cache_push(
 ) -> u64
     ensures { push_words result builder.new index.new filter.new arena.new place.new ≡ exported_push builder.old hash key.now value.now lifetime.now index.old filter.old arena.old place.old }
 {
-    if place.len() != PLACE_WORDS {
-        return MALFORMED;
-    }
-    let Some(mut state) = SegmentCacheBuilder::from_words(builder) else {
+    let Some(mut state) = lent_state::<PLACE_WORDS, SegmentCacheBuilder>(builder, place) else {
         return MALFORMED;
     };
     let Some(ttl) = Option::<Duration>::from_words(lifetime) else {

@@ -1,13 +1,12 @@
 // One call for C in a library of its own, where nothing else calls what it calls: so the compiler makes one
-// piece of code of it. C lends each area by itself, so each is an argument of its own. Line by line, and not by `ask_mut`: it
-// writes to several areas, which a closure can't say of what it borrows.
+// piece of code of it. C lends each area by itself, so each is an argument of its own.
 #![tactic(auto)]
 
 ghost use Rattle.std.specs.Prelude.{◌≡◌};
 ghost use Rattle.capi.specs.Calls.{push_words};
 ghost use Rattle.capi.specs.Rebuilds.{exported_copied};
 
-use capi::answers::{PLACE_WORDS, tell_push};
+use capi::answers::{PLACE_WORDS, lent_state, tell_push};
 use capi::words::{FromWords, MALFORMED};
 use hash_parts::duration::Duration;
 use sets::rebuild::SharedSegmentCacheBuilder;
@@ -30,10 +29,8 @@ pub extern "C" fn segment_cache_push_copied(
 ) -> u64
     ensures { push_words result rebuild.new index.new filter.new arena.new place.new ≡ exported_copied rebuild.old hash key.now value.now lifetime.now index.old filter.old starts.now lengths.now arena.old place.old }
 {
-    if place.len() != PLACE_WORDS {
-        return MALFORMED;
-    }
-    let Some(mut state) = SharedSegmentCacheBuilder::from_words(rebuild) else {
+    let Some(mut state) = lent_state::<PLACE_WORDS, SharedSegmentCacheBuilder>(rebuild, place)
+    else {
         return MALFORMED;
     };
     let Some(ttl) = Option::<Duration>::from_words(lifetime) else {

@@ -1,13 +1,12 @@
 // One call for C in a library of its own, where nothing else calls what it calls: so the compiler makes one
-// piece of code of it. C lends each area by itself, so each is an argument of its own. Line by line, and not by `ask_mut`: it
-// writes to several areas, which a closure can't say of what it borrows.
+// piece of code of it. C lends each area by itself, so each is an argument of its own.
 #![tactic(auto)]
 
 ghost use Rattle.std.specs.Prelude.{◌≡◌};
 ghost use Rattle.capi.specs.Rebuilds.{exported_reused, reused_words};
 
-use capi::answers::{PLACE_WORDS, tell_push};
-use capi::words::{FromWords, MALFORMED};
+use capi::answers::{PLACE_WORDS, lent_state, tell_push};
+use capi::words::MALFORMED;
 use index::view::SegmentAreas;
 use sets::rebuild::{SegmentRecordLocation, SharedSegmentCacheBuilder};
 
@@ -31,10 +30,8 @@ pub extern "C" fn segment_cache_push_reused(
 ) -> u64
     ensures { reused_words result rebuild.new index.new filter.new place.new ≡ exported_reused rebuild.old hash key.now value.now location header_bytes index.old filter.old starts.now lengths.now arena.now place.old }
 {
-    if place.len() != PLACE_WORDS {
-        return MALFORMED;
-    }
-    let Some(mut state) = SharedSegmentCacheBuilder::from_words(rebuild) else {
+    let Some(mut state) = lent_state::<PLACE_WORDS, SharedSegmentCacheBuilder>(rebuild, place)
+    else {
         return MALFORMED;
     };
     let source = SegmentRecordLocation {

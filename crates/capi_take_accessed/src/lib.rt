@@ -1,12 +1,14 @@
 // One call for C in a library of its own, where nothing else calls what it calls: so the compiler makes one
-// piece of code of it. For that capi_get has a like body, of another method: a function of both would have two callers.
+// piece of code of it. For that capi_get, capi_peek and capi_probe have like bodies, of other methods: a function of
+// all would have four callers.
 // C lends each area by itself, so each is an argument of its own.
 #![tactic(auto)]
 
 ghost use Rattle.std.specs.Prelude.{◌≡◌};
 ghost use Rattle.capi.specs.Calls.{exported_take, index_told};
 
-use capi::answers::ask_mut;
+use capi::answers::{lent_state, tell};
+use capi::words::MALFORMED;
 use index::view::SegmentAreas;
 use sets::cache::FrozenSegmentCache;
 
@@ -26,12 +28,14 @@ pub extern "C" fn segment_cache_take_accessed(
 ) -> u64
     ensures { index_told result index.new accessed.new ≡ exported_take set.now hash key.now index.old filter.now starts.now lengths.now arena.now accessed.old }
 {
-    ask_mut(set, index, accessed, |set: FrozenSegmentCache, index| {
-        let areas = SegmentAreas {
-            starts,
-            lengths,
-            arena,
-        };
-        set.take_accessed(hash, key, index, filter, areas)
-    })
+    let Some(set) = lent_state::<1, FrozenSegmentCache>(set, accessed) else {
+        return MALFORMED;
+    };
+    let areas = SegmentAreas {
+        starts,
+        lengths,
+        arena,
+    };
+    let answer = set.take_accessed(hash, key, index, filter, areas);
+    tell(answer, accessed)
 }
