@@ -7,7 +7,7 @@ use mathlib.Core.List.{List, [], ◌∷◌}
 use Prim.Native.Nat.{ℕ}
 use Rattle.hash_parts.specs.declared.error.SegmentCacheBuildError.{SegmentCacheBuildError}
 use Rattle.hash_parts.specs.declared.setting.SegmentCacheConfig.{SegmentCacheConfig}
-use Rattle.sets.specs.Answers.{replied, get_reply, probe_reply, walk_reply, stats_reply}
+use Rattle.sets.specs.Answers.{reply_of, get_reply, probe_reply, walk_reply, stats_reply}
 use Rattle.sets.specs.Build.{Opened, open_result, after_open, push_result, after_push, finish_result, after_finish}
 use Rattle.sets.specs.Lookup.{Got, get_result, after_get, after_peek, Taken, take_result, after_take, probe_answer, walk_answer, stats_answer}
 use Rattle.sets.specs.Rebuild.{rebuild_open_result, after_rebuild_open, reused_result, after_reused, copied_result, after_copied, rebuild_finish_result, after_rebuild_finish}
@@ -72,7 +72,7 @@ module _ (b : SegmentCacheBuilder) (a : Areas) (arena : List ℕ) where
 -- ---- calls on a finished set
 
 -- what is answered is accepted; `back` is what a refusal leaves
-took : {A B : Type 0} (back : B) (r : Result A SegmentCacheBuildError) → is_ok r ≡ is_accepted (replied back r)
+took : {A B : Type 0} (back : B) (r : Result A SegmentCacheBuildError) → is_ok r ≡ is_accepted (reply_of back r)
 took back (Ok a) = refl
 took back (Err e) = refl
 

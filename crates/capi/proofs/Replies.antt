@@ -4,23 +4,23 @@ use Rattle.hash_parts.proofs.Refusals.{refusal_pos}
 use Rattle.hash_parts.specs.Error.{error_number}
 use Rattle.hash_parts.specs.declared.error.SegmentCacheBuildError.{SegmentCacheBuildError}
 use Rattle.hash_parts.specs.Outcome.{outcome_of}
-use Rattle.sets.specs.Answers.{push_reply, rebuild_push_reply, replied}
+use Rattle.sets.specs.Answers.{push_reply, rebuild_push_reply, reply_of}
 use Rattle.sets.specs.declared.builder.PushedRecord.{PushedRecord}
 use Rattle.sets.specs.declared.builder.SegmentCacheBuilder.{SegmentCacheBuilder}
 use Rattle.sets.specs.declared.rebuild.SharedSegmentCacheBuilder.{SharedSegmentCacheBuilder}
-use Rattle.capi.specs.Calls.{answered, number_words, push_told, pushed_told, told_by}
+use Rattle.capi.specs.Calls.{bare_reply, number_words, push_told, pushed_told, told_by}
 use Rattle.capi.specs.Rebuilds.{rebuild_push_told}
 use Rattle.capi.specs.Records.{size_told}
 use Rattle.capi.specs.Words.{builder_words, rebuild_words}
 
 -- what a refusal hands back is not told
 pub told_back : {A B : Type 0} (words : A → List ℕ) (back : B) (r : Result A SegmentCacheBuildError) (old : List ℕ)
-    → told_by words (replied back r) old ≡ told_by words (answered r) old
+    → told_by words (reply_of back r) old ≡ told_by words (bare_reply r) old
 told_back words back (Ok a) old = refl
 told_back words back (Err e) old = refl
 
 -- a size is told as one number; a refusal has a number, so the words stay
-pub size_back : (r : Result ℕ SegmentCacheBuildError) (old : List ℕ) → size_told (outcome_of r) old ≡ told_by number_words (answered r) old
+pub size_back : (r : Result ℕ SegmentCacheBuildError) (old : List ℕ) → size_told (outcome_of r) old ≡ told_by number_words (bare_reply r) old
 size_back (Ok n) old = refl
 size_back (Err e) old = rw (ne_eqb (error_number e) 0 (λ z. omega (arith, refusal_pos e)))
 

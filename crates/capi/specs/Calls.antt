@@ -7,7 +7,7 @@ use Rattle.hash_parts.specs.declared.duration.SegmentRemainingTtl.{SegmentRemain
 use Rattle.hash_parts.specs.declared.duration.SegmentRemainingTtl.TheVariants.{Never, Finite}
 use Rattle.hash_parts.specs.declared.error.SegmentCacheBuildError.{SegmentCacheBuildError}
 use Rattle.records.specs.declared.record.Span.{Span}
-use Rattle.sets.specs.Answers.{Reply, accept, refuse, replied, Placed}
+use Rattle.sets.specs.Answers.{Reply, accept, refuse, reply_of, Placed}
 use Rattle.sets.specs.Areas.{area_words_for}
 use Rattle.sets.specs.Build.{Opened, Pushed, Finished, after_open, after_push, after_finish}
 use Rattle.sets.specs.Lookup.{after_get, after_peek, after_take, probe_answer, stats_answer, walk_answer}
@@ -36,8 +36,8 @@ abbrev pub told : ℕ → List ℕ → Told
 told number words = record { number = number; words = words }
 
 -- a call's result, where a refusal hands nothing back
-abbrev pub answered : {A : Type 0} → Result A SegmentCacheBuildError → Reply A (Unit {0})
-answered r = replied tt r
+abbrev pub bare_reply : {A : Type 0} → Result A SegmentCacheBuildError → Reply A (Unit {0})
+bare_reply r = reply_of tt r
 
 -- what C is told of a reply: 0 and its words, stored over lent ones; or the refusal's number, and the lent words as they were
 abbrev pub told_by : {A B : Type 0} → (A → List ℕ) → Reply A B → List ℕ → Told

@@ -1,7 +1,7 @@
 // What C is told of a call's answer: a number, and lent words.
 ghost use Rattle.std.specs.Prelude.{◌≡◌, None, cond, eqb, length};
 ghost use Rattle.std.proofs.Common.{lit<};
-ghost use Rattle.capi.specs.Calls.{flag_words, answered, found_words, left_words, number_words, place_told, placed_words, pushed_told, record_words, span_words, told, told_by};
+ghost use Rattle.capi.specs.Calls.{flag_words, bare_reply, found_words, left_words, number_words, place_told, placed_words, pushed_told, record_words, span_words, told, told_by};
 
 use crate::words::{FromWords, ToWords, copy_words};
 use hash_parts::duration::SegmentRemainingTtl;
@@ -22,7 +22,7 @@ pub fn tell<const N: usize, T: ToWords<N>>(
     answer: Result<T, SegmentCacheBuildError>,
     out: &mut [u64],
 ) -> u64
-    ensures { told result out.new ≡ told_by T.words_of (answered answer) out.old }
+    ensures { told result out.new ≡ told_by T.words_of (bare_reply answer) out.old }
 {
     match answer {
         Ok(given) => {

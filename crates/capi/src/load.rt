@@ -3,7 +3,7 @@
 // for their own questions to refuse.
 ghost use Rattle.std.specs.Prelude.{◌≡◌, ◌≤◌, length};
 ghost use Rattle.sets.specs.Questions.{check_number, first_no};
-ghost use Rattle.capi.specs.Calls.{answered};
+ghost use Rattle.capi.specs.Calls.{bare_reply};
 ghost use Rattle.capi.specs.Records.{setting_fitting};
 ghost use Rattle.capi.specs.Words.{ask_widths, builder_in, expiry_of, lifetime_in, nanos_capped, rebuild_in, set_in, setting_alone, setting_in, stats_in};
 
@@ -179,7 +179,7 @@ fn expiry_of(flag: u64, secs: u64, nanos: u32) -> SegmentExpiry
 // A setting that is lent by itself, with no word that is too wide for it.
 #[tactic(auto, unfolding(crate::specs::Records::setting_fitting, crate::specs::Words::setting_among))]
 pub(crate) fn fitting_setting(words: &[u64]) -> Result<SegmentCacheConfig, SegmentCacheBuildError>
-    ensures { answered result ≡ setting_fitting words.now }
+    ensures { bare_reply result ≡ setting_fitting words.now }
 {
     let Ok(words) = <&[u64; SETTING_WORDS]>::try_from(words) else {
         return Err(SegmentCacheBuildError::InvalidState);

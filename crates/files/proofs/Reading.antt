@@ -12,7 +12,7 @@ use lib.Seq.{drop-drop, drop_at, take_at}
 use Rattle.hash_parts.specs.ZeroBytes.{number_of}
 use Rattle.records.specs.Area.{part}
 use Rattle.index.specs.Packed.{words_of}
-use Rattle.files.specs.Kinds.{place_of}
+use Rattle.files.specs.Kinds.{count_place}
 use Rattle.files.specs.declared.counts.Count.{Count}
 use Rattle.files.specs.Contents.{numbers_in, sum}
 
@@ -58,7 +58,7 @@ number_in (w ∷ ws) bytes zero h = refl
 number_in (w ∷ ws) bytes (suc i) h =
     number_in ws (drop w bytes) i (omega arith) ∙ ap (λ (l : List ℕ). number_of (take (get_or ws i 0) l)) (drop-drop (sum (take i ws)) w bytes)
 
-pub place_few : (c : Count) → place_of c < 10
+pub place_few : (c : Count) → count_place c < 10
 place_few c = grind arith
 
 -- ---- tests

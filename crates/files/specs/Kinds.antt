@@ -13,14 +13,14 @@ kind_number Index = 3
 kind_number Filter = 4
 kind_number Segments = 5
 
-abbrev pub place_of : Count → ℕ
-place_of ExpiryOn = 0
-place_of TickSeconds = 1
-place_of TickNanoseconds = 2
-place_of Occupancy = 3
-place_of Packed = 4
-place_of FilterBits = 5
-place_of Records = 6
-place_of KeyBytes = 7
-place_of ValueBytes = 8
-place_of HeaderBytes = 9
+abbrev pub count_place : Count → ℕ
+count_place ExpiryOn = 0
+count_place TickSeconds = 1
+count_place TickNanoseconds = 2
+count_place Occupancy = 3
+count_place Packed = 4
+count_place FilterBits = 5
+count_place Records = 6
+count_place KeyBytes = 7
+count_place ValueBytes = 8
+count_place HeaderBytes = 9

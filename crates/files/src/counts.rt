@@ -2,7 +2,7 @@
 ghost use Rattle.std.specs.Prelude.{◌≡◌, ◌≢◌, ◌^◌, ◌<◌, MatchOption, get_or, length, take};
 ghost use Rattle.files.specs.Blocks.{content_of};
 ghost use Rattle.files.specs.Contents.{expiry_in, field, file_set, setting_in, sum, tick_fits, widths};
-ghost use Rattle.files.specs.Kinds.{place_of};
+ghost use Rattle.files.specs.Kinds.{count_place};
 ghost use Rattle.files.specs.Plan.{flags_fit};
 
 use crate::blocks::{BlockKind, content_of};
@@ -31,7 +31,7 @@ enum Count {
 impl Count {
     // The byte at which the number begins, and how many it has: beside WIDTHS, so that no sum is made for a place.
     fn place(self) -> (usize, usize)
-        ensures { (result.0 ≡ sum (take (place_of self) widths)) × (result.1 ≡ get_or widths (place_of self) 0) }
+        ensures { (result.0 ≡ sum (take (count_place self) widths)) × (result.1 ≡ get_or widths (count_place self) 0) }
     {
         match self {
             Count::ExpiryOn => (0, 1),
@@ -71,7 +71,7 @@ impl<'a> Counts<'a> {
     }
 
     fn number(self, count: Count) -> u64
-        ensures { (result ≡ field (place_of count) self.entry.file.now) × (result < 256 ^ get_or widths (place_of count) 0) }
+        ensures { (result ≡ field (count_place count) self.entry.file.now) × (result < 256 ^ get_or widths (count_place count) 0) }
     {
         let (at, width) = count.place();
         number_of(&content_of(self.file, BlockKind::Counts)[at..at + width])

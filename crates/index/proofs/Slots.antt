@@ -112,13 +112,6 @@ module _ (taken : ℕ → Bool) (index : List ℕ) (left slot : ℕ) (after : Sl
   unfolding looks searched
   slot_end z = let e : left ≡ 0 = omega arith in rw e
 
-pub slots_whole : (taken : ℕ → Bool) (index : List ℕ) (bucket : ℕ) (after : SlotAnswer) → 8 * bucket + 8 ≤ length index
-    → slots_answer taken index (8 * bucket + 8 - bucket * 8) (bucket * 8) after ≡ slots_answer taken index 8 (8 * bucket) after
-slots_whole taken index bucket after h =
-    let e : bucket * 8 ≡ 8 * bucket = omega arith in
-    let n : 8 * bucket + 8 - 8 * bucket ≡ 8 = omega arith in
-    rw (e, n)
-
 -- ---- the loop over the buckets
 
 pub slots_short : (taken : ℕ → Bool) (index : List ℕ) (buckets h : ℕ) → length index / 8 < buckets → slot_for taken index buckets h ≡ (Err CapacityOverflow)

@@ -89,8 +89,9 @@ fn slot_in_bucket<F: Fn(u64) -> bool>(
     requires { (8 * bucket + 8 ≤ length index.now) × F.IsAlwaysCallable taken.now }
     ensures { (test : ℕ → Bool) → Answers (F.post taken.now) test → (after : SlotAnswer) → unwrap_or result after ≡ searched (looks test (8 * bucket) (take 8 (drop (8 * bucket) index.now))) after }
 {
-    let begin = bucket * BUCKET_SLOTS;
-    for slot in begin..begin + BUCKET_SLOTS {
+    // From 0 on, so that the compiler knows how many turns there are.
+    for offset in 0..BUCKET_SLOTS {
+        let slot = BUCKET_SLOTS * bucket + offset;
         let word = index[slot];
         if word == 0 {
             return Some(Ok(slot));

@@ -185,16 +185,27 @@ impl Records<'_> {
 const SHORT_BYTES: usize = 64;
 
 // Most keys are short: they are compared in place, since the library's comparison is a call. Longer bytes are worth it.
+#[inline(always)]
 pub fn same_bytes(a: &[u8], b: &[u8]) -> bool
     ensures { result ≡ same_bytes a.now b.now }
 {
     if a.len() > SHORT_BYTES {
-        return a == b;
+        return same_long(a, b);
     }
     a.len() == b.len() && same_words(a, b)
 }
 
+// Apart, and as what seldom comes: so a search through the index keeps what it needs at hand.
+#[cold]
+#[inline(never)]
+fn same_long(a: &[u8], b: &[u8]) -> bool
+    ensures { result ≡ same_bytes a.now b.now }
+{
+    a == b
+}
+
 // The bytes behind the last whole eight, and then eight at a time.
+#[inline(always)]
 fn same_words(a: &[u8], b: &[u8]) -> bool
     requires { length a.now ≡ length b.now }
     ensures { result ≡ same_bytes a.now b.now }

@@ -17,9 +17,9 @@ pub data Reply (A B : Type 0) : Type 0 where
   refuse : ℕ → B → Reply A B
 
 -- what a call's result tells; where it is refused, what the caller still has
-abbrev pub replied : {A B : Type 0} → B → Result A SegmentCacheBuildError → Reply A B
-replied back (Ok a) = accept a
-replied back (Err e) = refuse (error_number e) back
+abbrev pub reply_of : {A B : Type 0} → B → Result A SegmentCacheBuildError → Reply A B
+reply_of back (Ok a) = accept a
+reply_of back (Err e) = refuse (error_number e) back
 
 -- where a record was put
 pub record Placed : Type 0 where
@@ -28,7 +28,7 @@ pub record Placed : Type 0 where
   pub location : ℕ
 
 abbrev pub open_reply : Result SegmentCacheBuilder SegmentCacheBuildError → Reply SegmentCacheBuilder (Unit {0})
-open_reply r = replied tt r
+open_reply r = reply_of tt r
 
 -- of a push, with the builder that it leaves
 abbrev pub push_reply : SegmentCacheBuilder → Result PushedRecord SegmentCacheBuildError → Reply Placed SegmentCacheBuilder
@@ -36,25 +36,25 @@ push_reply b (Ok p) = accept record { builder = b; slot = p.slot; location = p.l
 push_reply b (Err e) = refuse (error_number e) b
 
 abbrev pub finish_reply : SegmentCacheBuilder → Result FrozenSegmentCache SegmentCacheBuildError → Reply FrozenSegmentCache SegmentCacheBuilder
-finish_reply b r = replied b r
+finish_reply b r = reply_of b r
 
 -- a value, or nothing
 abbrev pub get_reply : Result (Option Span) SegmentCacheBuildError → Reply (Option Span) (Unit {0})
-get_reply r = replied tt r
+get_reply r = reply_of tt r
 
 -- whether the mark was set
 abbrev pub take_reply : Result Bool SegmentCacheBuildError → Reply Bool (Unit {0})
-take_reply r = replied tt r
+take_reply r = reply_of tt r
 
 abbrev pub probe_reply : Result (Option SegmentBaseRecord) SegmentCacheBuildError → Reply (Option SegmentBaseRecord) (Unit {0})
-probe_reply r = replied tt r
+probe_reply r = reply_of tt r
 
 -- the next record, or the end
 abbrev pub walk_reply : Result (Option SegmentBaseRecord) SegmentCacheBuildError → Reply (Option SegmentBaseRecord) (Unit {0})
-walk_reply r = replied tt r
+walk_reply r = reply_of tt r
 
 abbrev pub stats_reply : Result SegmentCacheStats SegmentCacheBuildError → Reply SegmentCacheStats (Unit {0})
-stats_reply r = replied tt r
+stats_reply r = reply_of tt r
 
 -- ---- rebuilds
 
@@ -65,7 +65,7 @@ pub record RebuildPlaced : Type 0 where
   pub location : ℕ
 
 abbrev pub rebuild_open_reply : FrozenSegmentCache → Result SharedSegmentCacheBuilder SegmentCacheBuildError → Reply SharedSegmentCacheBuilder FrozenSegmentCache
-rebuild_open_reply source r = replied source r
+rebuild_open_reply source r = reply_of source r
 
 -- of a push, with the rebuild that it leaves
 abbrev pub rebuild_push_reply : SharedSegmentCacheBuilder → Result PushedRecord SegmentCacheBuildError → Reply RebuildPlaced SharedSegmentCacheBuilder
@@ -73,4 +73,4 @@ rebuild_push_reply b (Ok p) = accept record { builder = b; slot = p.slot; locati
 rebuild_push_reply b (Err e) = refuse (error_number e) b
 
 abbrev pub rebuild_finish_reply : SharedSegmentCacheBuilder → Result SharedSegmentCacheBuild SegmentCacheBuildError → Reply SharedSegmentCacheBuild SharedSegmentCacheBuilder
-rebuild_finish_reply b r = replied b r
+rebuild_finish_reply b r = reply_of b r

@@ -4,7 +4,7 @@ use Rattle.std.specs.Prelude.{ℕ, ◌*◌, cond, Result}
 use Rattle.hash_parts.specs.declared.error.SegmentCacheBuildError.{SegmentCacheBuildError}
 use Rattle.hash_parts.specs.declared.setting.SegmentCacheConfig.{SegmentCacheConfig}
 use Rattle.index.specs.Segments.{most_segments}
-use Rattle.sets.specs.Answers.{Reply, accept, refuse, replied}
+use Rattle.sets.specs.Answers.{Reply, accept, refuse, reply_of}
 use Rattle.sets.specs.Questions.{ask_counts, buckets_in, decided, filter_words_in, first_no}
 use Rattle.sets.specs.declared.areas.AreaWords.{AreaWords}
 
@@ -20,7 +20,7 @@ words_needed c records =
     }
 
 abbrev pub area_words_reply : Result AreaWords SegmentCacheBuildError → Reply AreaWords (Unit {0})
-area_words_reply r = replied tt r
+area_words_reply r = reply_of tt r
 
 unfoldable pub area_words_for : SegmentCacheConfig → ℕ → Reply AreaWords (Unit {0})
 area_words_for c records = decided (first_no (ask_counts c records)) (accept (words_needed c records)) (λ n. refuse n tt)

@@ -4,7 +4,7 @@ use Rattle.hash_parts.specs.declared.duration.Duration.{Duration}
 use Rattle.hash_parts.specs.declared.error.SegmentCacheBuildError.{SegmentCacheBuildError}
 use Rattle.index.specs.Build.{empty_slot}
 use Rattle.index.specs.Segments.{most_segments}
-use Rattle.sets.specs.Answers.{Reply, accept, refuse, replied}
+use Rattle.sets.specs.Answers.{Reply, accept, refuse, reply_of}
 use Rattle.sets.specs.Kept.{retained}
 use Rattle.sets.specs.Questions.{decided, first_no}
 use Rattle.sets.specs.Rebuild.{ask_copied, ask_reused, copied_deadline, copied_size, rebuild_filled}
@@ -14,7 +14,7 @@ use Rattle.sets.specs.declared.rebuild.SharedSegmentCacheBuilder.{SharedSegmentC
 -- ---- reused push
 
 abbrev pub slot_planned : Result ℕ SegmentCacheBuildError → Reply ℕ (Unit {0})
-slot_planned r = replied tt r
+slot_planned r = reply_of tt r
 
 unfoldable pub plan_reused : SharedSegmentCacheBuilder → ℕ → List ℕ → List ℕ → SegmentRecordLocation → List ℕ → ℕ → List ℕ → List ℕ → List ℕ → Reply ℕ (Unit {0})
 plan_reused r h key value source index filter starts lengths arena =

@@ -23,7 +23,8 @@ pub fn put_text(out: &mut [u8], at: usize, text: &[u8]) -> usize
 pub fn put_decimal(out: &mut [u8], at: usize, value: u64) -> usize
     ensures { output result out.new ≡ appended at (decimal_text value) out.old }
 {
-    let (digits, from) = decimal_digits(value);
+    let mut digits = [0; DECIMAL_DIGITS];
+    let from = write_digits(&mut digits, value);
     put_text(out, at, &digits[from..])
 }
 
@@ -31,7 +32,8 @@ pub fn put_decimal(out: &mut [u8], at: usize, value: u64) -> usize
 pub fn put_decimal_before(out: &mut [u8], end: usize, value: u64)
     ensures { out.new ≡ ended_before end (decimal_text value) out.old }
 {
-    let (digits, from) = decimal_digits(value);
+    let mut digits = [0; DECIMAL_DIGITS];
+    let from = write_digits(&mut digits, value);
     let text = &digits[from..];
     if let Some(at) = end.checked_sub(text.len()) {
         put_text(out, at, text);
@@ -50,21 +52,20 @@ pub fn put_hex(out: &mut [u8], at: usize, bytes: &[u8]) -> usize
     end
 }
 
-// The digits of a number end an array; and where they begin. By hand: what std writes of a number through
+// Writes the digits of a number to the end of an array, and gives where they begin. By hand: what std writes of a number through
 // a formatter is known only where that says Ok.
-fn decimal_digits(value: u64) -> ([u8; DECIMAL_DIGITS], usize)
-    ensures { (drop result.1 result.0 ≡ decimal_text value) × (result.1 ≤ 20) × (length result.0 ≡ 20) }
+fn write_digits(digits: &mut [u8; DECIMAL_DIGITS], value: u64) -> usize
+    ensures { (drop result digits.new ≡ decimal_text value) × (result ≤ 20) }
 {
-    let mut digits = [0; DECIMAL_DIGITS];
     let mut rest = value;
     for i in (0..DECIMAL_DIGITS).rev() {
         digits[i] = b'0' + (rest % 10) as u8;
         rest /= 10;
         if rest == 0 {
-            return (digits, i);
+            return i;
         }
     }
-    (digits, 0)
+    0
 }
 
 // Fills an area that has two bytes to each. By index: nothing is known of pairs that a zip lends to be written.

@@ -5,7 +5,6 @@ mod areas;
 mod example;
 mod file;
 mod orders;
-mod refusals;
 mod seventeen;
 mod targets;
 
@@ -74,6 +73,5 @@ fn main(rt: HostRuntime) -> io::Result<()> {
     example::run(&rt)?;
     targets::run(&rt)?;
     orders::run(&rt)?;
-    seventeen::run(&rt)?;
-    refusals::run(&rt)
+    seventeen::run(&rt)
 }

@@ -5,14 +5,14 @@ use Rattle.hash_parts.specs.ZeroBytes.{number_of}
 use Rattle.records.specs.Area.{part}
 use Rattle.files.specs.Blocks.{content_of}
 use Rattle.files.specs.Contents.{widths}
-use Rattle.files.specs.Kinds.{place_of}
+use Rattle.files.specs.Kinds.{count_place}
 use Rattle.files.proofs.Copying.{part_lent}
 use Rattle.files.proofs.Reading.{number_in, place_few, sum_within}
 use Rattle.files.proofs.counts.Counts.number.Goals as goal
 
 pub returns : goal.returns
 returns c =
-    let i = place_of c.args.count in
+    let i = count_place c.args.count in
     let few = place_few c.args.count in
     let f = c.args.self.file.now in
     let at = c.place-at.result.0 in

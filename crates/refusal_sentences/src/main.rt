@@ -1,4 +1,6 @@
 // Every refusal as it is printed: its number, and its sentence.
+#![tactic(auto)]
+
 use hash_parts::error::SegmentCacheBuildError;
 use std::io;
 
@@ -21,7 +23,7 @@ const REFUSALS: [SegmentCacheBuildError; 16] = [
     SegmentCacheBuildError::FieldTooLong,
 ];
 
-pub(crate) fn run(rt: &impl Print) -> io::Result<()> {
+fn main(rt: HostRuntime) -> io::Result<()> {
     for refusal in REFUSALS {
         println!(rt; "{}: {refusal}", refusal.number())?;
     }
