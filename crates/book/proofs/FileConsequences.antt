@@ -1,5 +1,5 @@
--- What the claim on lists of calls gives for files: under its premises, loading a written file gives a set with the same lookups,
--- statistics and index words, marks aside. And the writer refuses no set of a list, and the loader no file of it, but for the areas that are lent.
+-- What the claim on lists of calls gives for files. "Under the mission's premises, loading a written file gives a set with the same lookups, statistics and
+-- index words, marks aside". And the writer refuses no set of a list, and the loader no file of it, but for the areas that are lent.
 -- Assumes nothing.
 use Rattle.std.proofs.lemmas.Option.{none-some}
 use Rattle.std.specs.Prelude.{Option, Some, slice_get}

@@ -1,5 +1,5 @@
--- The book of a list of calls: the answers of lookups, worked out from the calls' arguments and from whether each was accepted. It cites the deadline by
--- Setting and the stored bytes, and nothing of how a lookup works. A load's argument is the file's bytes, which the book reads by itself.
+-- The book, of "What each call must say of itself": the answers of lookups, worked out from the calls' arguments and from whether each was accepted. It cites
+-- the deadline by Setting and the stored bytes, and nothing of how a lookup works. A load's argument is the file's bytes, which the book reads by itself.
 -- Assumes nothing.
 use Rattle.std.specs.Prelude.{Bool, true, false, cond, List, [], ◌∷◌, ◌++◌, ℕ, zero, suc, ◌+◌, ◌*◌, ◌/◌, ◌%◌, ◌^◌, min, eqb, leb, ltb, length, take, drop, get_or, None, Option, Some, slice_get}
 use Rattle.hash_parts.specs.Duration.{encoded_expiry}

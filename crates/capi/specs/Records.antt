@@ -32,7 +32,8 @@ unfoldable pub exported_size : List ℕ → ℕ → ℕ → List ℕ → Told
 exported_size w key value old =
     cond (eqb (length old) 1) (on_fitting (setting_fitting w) (λ c. size_told (encoded_size c.expiry key value) old) (λ n. told n old)) (told 11 old)
 
--- ---- the record at a position: nine words, nine zeros for nothing, so that a loader steps through a segment without the index
+-- ---- the record at a position: nine words, nine zeros for nothing. "The harbour offices' loader steps through a segment without the
+-- index."
 
 abbrev pub read_words : RecordRef → List ℕ
 read_words r =

@@ -106,8 +106,8 @@ file_set f =
 
 -- ---- the questions of a file
 
--- 15: "a flag, occupancy, tick, record count, byte count or kind 5's length breaks" the bounds of a set ".., a block's length doesn't fit the counts, expiry is off with a
--- tick not zero, or the segment lengths don't add up to kind 5's"
+-- 15: "a flag, occupancy, tick, record count, byte count or kind 5's length breaks [a set's] bounds .., a block's length doesn't fit the counts, expiry is off
+-- with a tick not zero, or the segment lengths don't add up to kind 5's"
 unfoldable pub content_fits : List ℕ → Bool
 content_fits f =
     all

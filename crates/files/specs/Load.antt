@@ -12,7 +12,7 @@ use Rattle.files.specs.Blocks.{content_of}
 use Rattle.files.specs.Contents.{ask_file, buckets_of, file_filter, file_index, file_set, filter_words_of, segment_lengths, starts_by}
 use Rattle.files.specs.declared.load.FileNeeds.{FileNeeds}
 
--- 10: "any lent area too short .. and .. a lent arena above" the most bytes of an arena; the areas by their lengths
+-- 10: "any lent area too short .. and .. a lent arena above [a set's] bound"; the areas by their lengths
 unfoldable pub load_areas_hold : List ℕ → ℕ → ℕ → ℕ → ℕ → ℕ → Bool
 load_areas_hold f index filter starts lengths arena =
     all

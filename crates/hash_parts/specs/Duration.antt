@@ -9,11 +9,11 @@ use Rattle.hash_parts.specs.declared.setting.SegmentExpiry.{SegmentExpiry}
 use Rattle.hash_parts.specs.declared.setting.SegmentExpiry.TheVariants as setting
 use Rattle.hash_parts.specs.Outcome.{Outcome, accepted, refused}
 
--- A duration is whole seconds, in 64 bits, and nanoseconds. Nanoseconds of a second or more count with their value.
+-- "A duration is whole seconds (64 bits) and nanoseconds". Nanoseconds of a second or more count with their value.
 abbrev pub nanos_of : Duration → ℕ
 nanos_of d = d.secs * 1_000_000_000 + d.nanos
 
--- a number of nanoseconds in two words of 64 bits, as it goes to C
+-- "its nanoseconds in two 64-bit words", as the number goes to C
 pub record Nanoseconds : Type 0 where
   pub high : ℕ
   pub low : ℕ
@@ -29,7 +29,7 @@ nanos_in n = n.high * 2 ^ 64 + n.low
 abbrev pub ceil_div : ℕ → ℕ → ℕ
 ceil_div n m = (n + (m - 1)) / m
 
--- "Deadline: base tick plus lifetime divided by tick length, rounded up"; past 65,534 it is refused.
+-- "Deadline: base tick plus lifetime divided by tick length, rounded up"; "Deadline at most 65,534? 6."
 unfoldable pub deadline_at : ℕ → ℕ → ℕ → Outcome
 deadline_at base lifetime tick =
     cond (nat_le (base + ceil_div lifetime tick) 65534) (accepted (base + ceil_div lifetime tick)) (refused ExpiryOutOfRange)
@@ -38,7 +38,7 @@ deadline_at base lifetime tick =
 abbrev pub never_expires : ℕ
 never_expires = 65535
 
--- A lifetime where no deadlines are kept is refused, and a tick of no length as in the Rust; a set with such a tick is refused before.
+-- "No lifetime where expiry is off? 5." A tick of no length is refused as in the Rust; a set with such a tick is refused before.
 unfoldable pub encoded_expiry : SegmentExpiry → Option Duration → ℕ → Outcome
 encoded_expiry e None base = accepted never_expires
 encoded_expiry setting.None (Some lifetime) base = refused ExpiryDisabled

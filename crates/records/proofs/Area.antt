@@ -12,11 +12,8 @@ use lib.Dec.{eqb}
 use Rattle.std.proofs.Common.{ne_eqb}
 use lib.ListN.{length, take, drop, set, length-append, length-drop, drop_of_length-le}
 use lib.Seq.{take_all, take_at, drop_at, drop-drop, set_at, drop-cons}
-use denote.Ref.{Bor}
-use Rattle.std.specs.Prelude.{Option, Some, None, nat_eq, unwrap_or}
+use Rattle.std.specs.Prelude.{nat_eq}
 use Rattle.std.specs.Cmp.Lexicographic.{pointwise}
-use Rattle.std.specs.Slice.{IsGetRangeResult}
-use Rattle.std.proofs.lemmas.Slice.{between_from_start}
 use Rattle.hash_parts.specs.Outcome.{accepted, refused}
 use Rattle.hash_parts.specs.declared.error.SegmentCacheBuildError.TheVariants.{AreaTooShort}
 use Rattle.records.specs.Area.{copied, over, pasted, written, spanned, same_bytes}
@@ -86,15 +83,6 @@ spanned_in arena span h =
 pub spanned_out : (arena : List ℕ) (span : Span) → length arena < span.at + span.len → [] ≡ spanned arena span
 unfolding spanned
 spanned_out arena span h = rw (lt-leb (span.at + span.len) (length arena) h)
-
--- what is got of the rest from the span's start on
-pub spanned_got : (arena : List ℕ) (span : Span) (rest : List ℕ) (none : Bor (List ℕ)) (got : Option (Bor (List ℕ))) → span.at ≤ length arena
-    → rest ≡ drop span.at arena → none.now ≡ [] → IsGetRangeResult rest 0 span.len got → (unwrap_or got none).now ≡ spanned arena span
-unfolding spanned
-spanned_got arena span rest none (Some x) h e z p =
-    let fits : span.at + span.len ≤ length arena = omega (arith, p.0.1, ap length e, length-drop span.at arena) in
-    p.0.2 ∙ between_from_start rest span.len ∙ ap (take span.len) e ∙ rw (le-leb (span.at + span.len) (length arena) fits)
-spanned_got arena span rest none None h e z p = z ∙ spanned_out arena span (omega (arith, p.0, ap length e, length-drop span.at arena))
 
 -- ---- writing piece by piece: out is the area after the bytes of `whole` before `left`, which end at a position
 

@@ -227,8 +227,11 @@ fn same_each(a: &[u8], b: &[u8]) -> bool
 pub fn value_slice(arena: &[u8], span: Span) -> &[u8]
     ensures { result.now ≡ spanned arena.now span }
 {
-    match arena.get(span.at..) {
-        Some(rest) => rest.get(..span.len).unwrap_or(&[]),
-        None => &[],
+    if arena.len() < span.at {
+        return &[];
     }
+    if arena.len() - span.at < span.len {
+        return &[];
+    }
+    &arena[span.at..span.at + span.len]
 }

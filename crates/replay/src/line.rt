@@ -171,7 +171,9 @@ fn words(text: &[u8]) -> Words {
         };
         let word: &mut u64 = &mut words[place % WORDS];
         *word = match character {
-            b'0'..=b'9' => word.wrapping_mul(10).wrapping_add(u64::from(character - b'0')),
+            b'0'..=b'9' => word
+                .wrapping_mul(10)
+                .wrapping_add(u64::from(character - b'0')),
             b' ' => *word,
             _ => 1,
         };

@@ -2,7 +2,6 @@
 ghost use Rattle.std.specs.Prelude.{◌≤◌, length};
 
 use std::io::Read;
-use std::str::Utf8Error;
 
 // Reads until the area is full or the input ends, and tells how many bytes stand at the front of the
 // area. A read that fails is taken for the end. The library's read_exact does not tell how many came, and
@@ -19,12 +18,6 @@ pub fn read_full<R: Read>(reader: &mut R, area: &mut [u8]) -> usize
         done += count;
     }
     done
-}
-
-// The text that a reader gives, as far as the area has room for it.
-pub fn read_text<'a, R: Read>(reader: &mut R, area: &'a mut [u8]) -> Result<&'a str, Utf8Error> {
-    let length = read_full(reader, area);
-    str::from_utf8(&area[..length])
 }
 
 // How many bytes a read puts at the front of an area: none at the end of the input, and none where it
