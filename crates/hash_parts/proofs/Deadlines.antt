@@ -24,7 +24,7 @@ rounded_up n m p =
     sym (div-eq_of_lt-le m (omega (arith, bounds)) (omega (arith, bounds, next)))
 
 -- as many ticks as cover a lifetime, where one tick less is too short
-ceil_is : (l t short enough : ℕ) → short + 1 ≡ enough → t * short < l → l ≤ t * enough → ceil_div l t ≡ enough
+pub ceil_is : (l t short enough : ℕ) → short + 1 ≡ enough → t * short < l → l ≤ t * enough → ceil_div l t ≡ enough
 ceil_is l t short enough e a b =
     let f : t * enough ≡ t * short + t = ap (λ (x : ℕ). t * x) (sym e) ∙ mul-add t short 1 ∙ ap (λ (x : ℕ). t * short + x) (mul-one t) in
     let g : (enough + 1) * t ≡ enough * t + t = add-mul enough 1 t ∙ ap (λ (x : ℕ). enough * t + x) (one-mul t) in
@@ -41,12 +41,12 @@ ticks_once l t p h = go (dec_le l 0)
     go (yes z) = let none : (l + (t - 1)) / t ≡ 0 = div-eq_of_lt (omega arith) in omega arith
     go (no q) = omega (arith, ceil_is l t 0 1 (omega arith) (rw (mul-zero t) (omega arith)) (rw (mul-one t) h))
 
--- where the search ends: short is too few, and enough covers or is past the limit
-pub search_ends : (l t short enough : ℕ) → 0 < t → t * short < l → (enough ≤ 65534 → l ≤ t * enough) → short < enough → enough ≤ short + 1 → enough ≤ 65535
-    → enough ≡ min (ceil_div l t) 65535
-search_ends l t short enough p a b c d h = go (dec_le enough 65534)
+-- where a search ends: short is too few, and enough covers or is past the limit
+pub search_ends : (l t short enough limit : ℕ) → 0 < t → t * short < l → (enough ≤ limit → l ≤ t * enough) → short < enough → enough ≤ short + 1 → enough ≤ limit + 1
+    → enough ≡ min (ceil_div l t) (limit + 1)
+search_ends l t short enough limit p a b c d h = go (dec_le enough limit)
   where
-    go : Dec (enough ≤ 65534) → enough ≡ min (ceil_div l t) 65535
+    go : Dec (enough ≤ limit) → enough ≡ min (ceil_div l t) (limit + 1)
     go (yes y) = omega (arith, ceil_is l t short enough (omega arith) a (b y))
     go (no q) = omega (arith, ceil_above l t short p a)
 

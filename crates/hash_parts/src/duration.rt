@@ -109,7 +109,6 @@ fn ticks_of(lifetime: u128, tick: u128) -> u64
 
 // The same of a lifetime that is longer than the tick, and one more than the last deadline for all above it: halves the range in
 // which the answer lies, at most 16 times.
-#[tactic(auto, using(crate::proofs::Deadlines::search_ends))]
 fn search_ticks(lifetime: u128, tick: u128) -> u64
     requires { (0 < tick) × (tick < lifetime) × (tick < 2 ^ 94) }
     ensures { result ≡ min (ceil_div lifetime tick) 65535 }

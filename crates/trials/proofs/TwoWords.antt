@@ -1,13 +1,14 @@
 -- Laws of durations in two words of 64 bits, as C is given them, and of lifetimes in ticks: what a machine without numbers of 128 bits would
--- go by. No function cites them: hash_parts divides numbers of 128 bits. Assumes nothing.
-use Rattle.std.proofs.Common.{◌≡◌, ℕ, ◌+◌, ◌-◌, ◌*◌, ◌/◌, ◌%◌, ◌^◌, ◌<◌, ◌≤◌, min, ltb, leb, sym, refl, ap, ◌∙◌, suc-mul, mul_comm, add-mul, mul-le-mul, one-mul, mul-zero, le-div_iff_mul-le, mul-one, mul-add, mul_right_comm, arith, le-ltb, lt-ltb, le-leb}
-use native.Mathlib.Nat.{add-div_right, div-eq_of_lt-le, div-eq_of_lt}
+-- go by. No function cites them: hash_parts has numbers of 128 bits. Assumes nothing.
+use Rattle.std.proofs.Common.{◌≡◌, ℕ, ◌+◌, ◌-◌, ◌*◌, ◌/◌, ◌%◌, ◌^◌, ◌<◌, ◌≤◌, min, ltb, leb, sym, refl, ap, ◌∙◌, add-mul, mul-le-mul, mul-zero, mul-one, mul_right_comm, arith, le-ltb, lt-ltb, le-leb}
+use native.Mathlib.Nat.{add-div_right, div-eq_of_lt}
 use native.Mathlib.Decide.{dec_le, dec_lt}
 use borrow.Author.Tests.{lt-leb}
 use Rattle.hash_parts.specs.declared.duration.Duration.{Duration}
 use Rattle.hash_parts.specs.declared.error.SegmentCacheBuildError.TheVariants.{ExpiryOutOfRange}
 use Rattle.hash_parts.specs.Outcome.{accepted, refused}
 use Rattle.hash_parts.specs.Duration.{Nanoseconds, nanos_of, nanos_in, nanos_words, ceil_div, deadline_at}
+use Rattle.hash_parts.proofs.Deadlines.{ceil_is}
 
 -- two tests that say the same
 same_test : (a b c d : ℕ) → (a < b → c ≤ d) → (c ≤ d → a < b) → ltb a b ≡ leb c d
@@ -81,16 +82,6 @@ module _ (H L k : ℕ) where
           let x : upper * 2 ^ 64 + L * k % 2 ^ 64 < h * 2 ^ 64 + l = omega arith in
           lt-leb l (L * k % 2 ^ 64) (omega arith) ∙ sym (lt-leb _ _ x)
 
--- ---- rounding up
-ceil_is : (l t short enough : ℕ) → short + 1 ≡ enough → t * short < l → l ≤ t * enough → ceil_div l t ≡ enough
-ceil_is l t short enough e a b =
-    let f : t * enough ≡ t * short + t = ap (λ (x : ℕ). t * x) (sym e) ∙ mul-add t short 1 ∙ ap (λ (x : ℕ). t * short + x) (mul-one t) in
-    let g : (enough + 1) * t ≡ enough * t + t = add-mul enough 1 t ∙ ap (λ (x : ℕ). enough * t + x) (one-mul t) in
-    div-eq_of_lt-le t (omega (arith, mul_comm enough t)) (omega (arith, mul_comm enough t))
-
-ceil_above : (l t k : ℕ) → 0 < t → t * k < l → k < ceil_div l t
-ceil_above l t k p h = (le-div_iff_mul-le p).1 (omega (arith, suc-mul k t, mul_comm t k))
-
 -- ---- a lifetime of one word in ticks: none, one, or by division
 nanos_one : (n : Nanoseconds) → n.high ≤ 0 → nanos_in n ≡ n.low
 unfolding nanos_in
@@ -118,15 +109,6 @@ module _ (lifetime tick : Nanoseconds) (one : lifetime.high ≤ 0) (pos : 0 < na
       let q : 0 < tick.low = some_low tick pos h in
       let e : lifetime.low + (tick.low - 1) ≡ lifetime.low - 1 + tick.low = omega arith in
       rw (nanos_one lifetime one, nanos_one tick h, e) (add-div_right (lifetime.low - 1) q)
-
--- where a search ends: short is too few, and enough covers or is past the limit
-pub search_ends : (l t short enough limit : ℕ) → 0 < t → t * short < l → (enough ≤ limit → l ≤ t * enough) → short < enough → enough ≤ short + 1 → enough ≤ limit + 1
-    → enough ≡ min (ceil_div l t) (limit + 1)
-search_ends l t short enough limit p a b c d h = go (dec_le enough limit)
-  where
-    go : Dec (enough ≤ limit) → enough ≡ min (ceil_div l t) (limit + 1)
-    go (yes y) = omega (arith, ceil_is l t short enough (omega arith) a (b y))
-    go (no q) = omega (arith, ceil_above l t short p a)
 
 -- ---- the deadline of so many ticks
 pub deadline_in_law : (base l t ticks : ℕ) → base ≤ 65534 → ticks ≡ min (ceil_div l t) (65534 - base + 1) → ticks ≤ 65534 - base → accepted (base + ticks) ≡ deadline_at base l t
