@@ -1,6 +1,6 @@
 -- Laws of numbers in bytes, of writing from a position of an area on, and of words with some bits cleared. Assumes nothing.
 use mathlib.Core.Path.{◌≡◌, refl, ap, ◌∙◌}
-use mathlib.Core.List.{List, [], ◌∷◌, ◌++◌, append_assoc, append-nil}
+use mathlib.Core.List.{List, [], ◌∷◌, ◌++◌, append_assoc}
 use Prim.Native.Nat.{ℕ, zero, suc, ◌+◌, ◌-◌, ◌*◌, ◌/◌, ◌%◌, ◌≤◌, ◌<◌}
 use native.Mathlib.Decide.{dec_lt}
 use borrow.Rule.Slice.PartMut.{put_mid}
@@ -89,8 +89,6 @@ number_put out new at width n h e =
     let l : length (take width (drop at out)) ≡ width = length-take-le width (drop at out) (omega (arith, length-drop at out)) in
     let f : new ≡ bytes_of width n = rw (k, l) at e in
     rw (k, f, length_bytes width n)
-
--- ---- writing to the whole of an area
 
 -- ---- writing to a part of an area, which then comes home
 

@@ -1,5 +1,6 @@
 -- Laws of durations, deadlines and the time that is left. Assumes nothing.
-use Rattle.std.proofs.Common.{◌≡◌, ℕ, ◌+◌, ◌-◌, ◌*◌, ◌/◌, ◌%◌, ◌^◌, ◌<◌, ◌≤◌, min, sym, ap, ◌∙◌, add-mul, one-mul, mul-one, mul-zero, mul-add, mul_comm, suc-mul, le-div_iff_mul-le, mul_right_comm, div-add-mod', arith, lit<}
+use Rattle.std.proofs.Common.{◌≡◌, ℕ, ◌+◌, ◌-◌, ◌*◌, ◌/◌, ◌%◌, ◌^◌, ◌<◌, ◌≤◌, min, sym, ap, ◌∙◌, arith, lit<}
+use Rattle.std.proofs.Common.{add-mul, one-mul, mul-one, mul-zero, mul-add, mul_comm, suc-mul, le-div_iff_mul-le, mul_right_comm, div-add-mod'}
 use native.Mathlib.Decide.{dec_le}
 use Rattle.std.proofs.lemmas.Grind.{div_ceil_times}
 use native.Mathlib.Nat.{div-eq_of_lt-le, div-eq_of_lt, mul-add-div_right, mul-add-mod_self_right}

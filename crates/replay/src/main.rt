@@ -23,8 +23,8 @@ fn main(rt: HostRuntime) -> io::Result<()> {
 /// line feed goes on to the end of the area, whose zeros are no numbers, so that a list that was cut off is not taken for whole.
 fn run(rt: &impl Print, input: &mut impl Read, list: &mut [u8; LIST_BYTES]) -> io::Result<()> {
     let length = read_full(input, list);
-    let whole = list[..length].ends_with(b"\n");
-    replay(rt, &list[..if whole { length } else { LIST_BYTES }])
+    let cut_off = length > 0 && !list[..length].ends_with(b"\n");
+    replay(rt, &list[..if cut_off { LIST_BYTES } else { length }])
 }
 
 /// A line that begins with `#` says how the list was made.

@@ -1,5 +1,5 @@
 -- `put_number` meets its contract: the front of a number's bytes is copied whole. Assumes nothing.
-use Rattle.std.proofs.Common.{◌≡◌, ◌∙◌, length, take, ap, rules}
+use Rattle.std.proofs.Common.{◌∙◌, length, take, ap, rules}
 use Rattle.records.proofs.Area.{copied_law}
 use Rattle.files.proofs.Copying.{front_bytes}
 use Rattle.files.proofs.copies.put_number.Goals as goal

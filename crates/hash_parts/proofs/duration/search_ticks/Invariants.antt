@@ -1,5 +1,5 @@
 -- What each turn of the loop keeps: short ticks are too few, and enough ticks cover the lifetime or are past the last deadline.
-use Rattle.std.proofs.Common.{◌+◌, ◌-◌, ◌*◌, ◌<◌, ◌≤◌}
+use Rattle.std.proofs.Common.{◌-◌, ◌*◌, ◌<◌, ◌≤◌}
 use Rattle.hash_parts.proofs.duration.search_ticks.Given as goal
 
 abbrev pub invariant-loop-enough : goal.invariant-loop-enough
