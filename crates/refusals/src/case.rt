@@ -1,6 +1,8 @@
 //! The words of a case.
 ghost use Rattle.std.specs.Prelude.{◌≤◌, length};
 
+use show::input::cut;
+
 /// The first words are the state's, in the order of the exported calls: six of a setting, 13 of a builder, 15 of
 /// a set, 22 of a rebuild. The others, named by `Word`, say what is lent and given to the calls.
 #[derive(Clone, Copy)]
@@ -107,14 +109,6 @@ impl Case {
 
     pub(crate) fn lifetime(&self) -> [u64; 2] {
         [self.word(Word::Seconds), self.word(Word::Nanoseconds)]
-    }
-}
-
-/// What stands before the first such byte, and behind it: all and nothing, where there is none.
-pub(crate) fn cut(text: &[u8], byte: u8) -> (&[u8], &[u8]) {
-    match text.iter().position(|b| *b == byte) {
-        Some(at) => (&text[..at], &text[at + 1..]),
-        None => (text, &[]),
     }
 }
 

@@ -4,8 +4,8 @@
 #![tactic(auto)]
 
 use crate::calls::Calls;
-use crate::case::{Case, Word, cut};
-use show::input::read_full;
+use crate::case::{Case, Word};
+use show::input::{cut, read_full};
 use std::io;
 
 mod calls;

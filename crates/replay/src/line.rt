@@ -3,6 +3,7 @@
 ghost use Rattle.std.specs.Prelude.{◌≤◌, length};
 
 use capi::answers::RECORD_WORDS;
+use show::input::cut;
 
 /// The calls, in the order in which they are counted.
 #[derive(Clone, Copy)]
@@ -130,14 +131,6 @@ fn call<'a>(
     // A large value is a part that is repeated, as often as the third number says.
     let (value, _) = bytes(value, words[3] as usize, area)?;
     Some((Kind::named(name)?, key, value))
-}
-
-/// What stands before such a byte, and behind it: all and nothing, where there is none.
-fn cut(text: &[u8], byte: u8) -> (&[u8], &[u8]) {
-    match text.iter().position(|b| *b == byte) {
-        Some(at) => (&text[..at], &text[at + 1..]),
-        None => (text, &[]),
-    }
 }
 
 /// The bytes that a field spells so many times in small hexadecimal, at the front of an area, and the rest of the area.

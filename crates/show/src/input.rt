@@ -27,3 +27,11 @@ pub fn read_some<R: Read>(reader: &mut R, area: &mut [u8]) -> usize
 {
     reader.read(area).unwrap_or(0)
 }
+
+// What stands before the first such byte, and behind it: all and nothing, where there is none.
+pub fn cut(text: &[u8], byte: u8) -> (&[u8], &[u8]) {
+    match text.iter().position(|b| *b == byte) {
+        Some(at) => (&text[..at], &text[at + 1..]),
+        None => (text, &[]),
+    }
+}
