@@ -1,6 +1,8 @@
 -- Laws of comparing bytes a chunk at a time. Assumes nothing.
-use Rattle.std.proofs.Common.{◌≡◌, ℕ, zero, suc, ◌*◌, ◌/◌, Bool, true, false, ◌&&◌, cond, eqb, List, [], ◌∷◌, length, take, drop, refl, sym, ap, ◌∙◌, arith, ne_eqb, nat_eq}
+use Rattle.std.proofs.Common.{◌≡◌, ℕ, zero, suc, ◌+◌, ◌*◌, ◌/◌, ◌<◌, ◌≤◌, Bool, true, false, ◌&&◌, cond, eqb, List, [], ◌∷◌, length, take, drop, get_or, refl, sym, ap, ◌∙◌, arith, ne_eqb, nat_eq}
 use Rattle.std.proofs.Math.Bool.{and_assoc}
+use lib.ListN.{drop_of_length-le}
+use lib.Seq.{drop-cons}
 use Rattle.std.proofs.lemmas.List.{drop-drop}
 use Rattle.std.specs.Cmp.Lexicographic.{pointwise}
 use Rattle.std.specs.List.{list_all, zip}
@@ -37,19 +39,28 @@ module _ (n : ℕ) (a b : List ℕ) (long : length a ≡ length b) {r : Bool} (b
   both : (each && r) ≡ same_bytes a b
   both = rw (behind, ← long) (same_chunks n (length a / n) a b) ∙ same_is a b
 
-  pub rest_differs : r ≡ false → r ≡ same_bytes a b
-  rest_differs e = e ∙ sym (none each) ∙ ap (λ (t : Bool). each && t) (sym e) ∙ both
-    where
-      none : (t : Bool) → (t && false) ≡ false
-      none true = refl
-      none false = refl
+  -- where the chunks are the same, what is behind them decides
+  pub chunks_same : each ≡ true → r ≡ same_bytes a b
+  chunks_same e = sym (ap (λ (t : Bool). t && r) e) ∙ both
 
-  pub chunks_decide : r ≡ true → each ≡ same_bytes a b
-  chunks_decide e = sym (all each) ∙ ap (λ (t : Bool). each && t) (sym e) ∙ both
-    where
-      all : (t : Bool) → (t && true) ≡ t
-      all true = refl
-      all false = refl
+-- where they are not, nothing else does
+pub chunks_differ : (n : ℕ) (a b : List ℕ) → length a ≡ length b
+    → list_all same (zip (first_chunks n (length a / n) a) (first_chunks n (length b / n) b)) ≡ false → false ≡ same_bytes a b
+chunks_differ n a b long e =
+    let r : Bool = same (drop (length a / n * n) a, drop (length b / n * n) b) in
+    sym (ap (λ (t : Bool). t && r) e) ∙ both n a b long {r = r} refl
+
+-- the chunks from one on
+abbrev pub same_from : ℕ → List (List ℕ) → List (List ℕ) → Bool
+same_from i x y = list_all same (zip (drop i x) (drop i y))
+
+pub same_next : (x y : List (List ℕ)) (i : ℕ) → i < length x → i < length y → same_from i x y ≡ (same (get_or x i [], get_or y i []) && same_from (i + 1) x y)
+same_next x y i h k =
+    let next : suc i ≡ i + 1 = omega arith in
+    rw (drop-cons x i [] h, drop-cons y i [] k) (ap (λ (j : ℕ). same (get_or x i [], get_or y i []) && same_from j x y) next)
+
+pub same_end : (x y : List (List ℕ)) (i : ℕ) → length x ≤ i → same_from i x y ≡ true
+same_end x y i h = rw (drop_of_length-le x h) refl
 
 -- lists of other lengths differ
 pub lengths_differ : (a b : List ℕ) → (length a ≡ length b → ⊥) → eqb (length a) (length b) ≡ same_bytes a b

@@ -204,7 +204,7 @@ fn same_long(a: &[u8], b: &[u8]) -> bool
     a == b
 }
 
-// The bytes behind the last whole eight, and then eight at a time.
+// Eight at a time, and the bytes behind the last whole eight.
 #[inline(always)]
 fn same_words(a: &[u8], b: &[u8]) -> bool
     requires { length a.now ≡ length b.now }
@@ -212,7 +212,12 @@ fn same_words(a: &[u8], b: &[u8]) -> bool
 {
     let (words, rest) = a.as_chunks::<8>();
     let (other_words, other_rest) = b.as_chunks::<8>();
-    same_each(rest, other_rest) && words.iter().zip(other_words).all(|(x, y)| x == y)
+    for (i, word) in words.iter().enumerate() {
+        if *word != other_words[i] {
+            return false;
+        }
+    }
+    same_each(rest, other_rest)
 }
 
 // One by one.
