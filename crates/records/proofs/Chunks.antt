@@ -1,5 +1,6 @@
 -- Laws of comparing bytes a chunk at a time. Assumes nothing.
-use Rattle.std.proofs.Common.{◌≡◌, ℕ, zero, suc, ◌+◌, ◌*◌, ◌/◌, ◌<◌, ◌≤◌, Bool, true, false, ◌&&◌, cond, eqb, List, [], ◌∷◌, length, take, drop, get_or, refl, sym, ap, ◌∙◌, arith, ne_eqb, nat_eq}
+use Rattle.std.proofs.Common.{◌≡◌, ℕ, zero, suc, ◌+◌, ◌*◌, ◌/◌, ◌<◌, ◌≤◌, Bool, true, false, ◌&&◌, cond, eqb, nat_eq}
+use Rattle.std.proofs.Common.{List, [], ◌∷◌, length, take, drop, get_or, refl, sym, ap, ◌∙◌, arith}
 use Rattle.std.proofs.Math.Bool.{and_assoc}
 use lib.ListN.{drop_of_length-le}
 use lib.Seq.{drop-cons}
@@ -63,8 +64,8 @@ pub same_end : (x y : List (List ℕ)) (i : ℕ) → length x ≤ i → same_fro
 same_end x y i h = rw (drop_of_length-le x h) refl
 
 -- lists of other lengths differ
-pub lengths_differ : (a b : List ℕ) → (length a ≡ length b → ⊥) → eqb (length a) (length b) ≡ same_bytes a b
-lengths_differ a b n = ne_eqb _ _ n ∙ go (same_bytes a b) refl
+pub lengths_differ : (a b : List ℕ) → (length a ≡ length b → ⊥) → false ≡ same_bytes a b
+lengths_differ a b n = go (same_bytes a b) refl
   where
     go : (t : Bool) → same_bytes a b ≡ t → false ≡ t
     go true e = absurd (n (ap length (same_true a b e)))

@@ -189,10 +189,13 @@ const SHORT_BYTES: usize = 64;
 pub fn same_bytes(a: &[u8], b: &[u8]) -> bool
     ensures { result ≡ same_bytes a.now b.now }
 {
+    if a.len() != b.len() {
+        return false;
+    }
     if a.len() > SHORT_BYTES {
         return same_long(a, b);
     }
-    a.len() == b.len() && same_words(a, b)
+    same_words(a, b)
 }
 
 // Apart, and as what seldom comes: so a search through the index keeps what it needs at hand.

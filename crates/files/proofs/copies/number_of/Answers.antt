@@ -9,5 +9,6 @@ use Rattle.files.proofs.copies.number_of.Goals as goal
 pub returns : goal.returns
 returns c =
     let s = c.args.bytes.now in
-    let e : c.from_le_bytes.result ≡ number_of s = c.from_le_bytes.ensures ∙ rw (c.copy_bytes.ensures ∙ copied_law s _ (length-take-le (length s) _ (omega arith))) (padded_number s c.requires) in
+    let front = c.copy_bytes.ensures ∙ copied_law s _ (length-take-le (length s) _ (omega arith)) in
+    let e : c.from_le_bytes.result ≡ number_of s = c.from_le_bytes.ensures ∙ rw front (padded_number s c.requires) in
     (e, rw e (number_small (all_bytes s (λ j. omega (arith, c.type_inv.bytes j)))))

@@ -2,5 +2,5 @@
 use Rattle.records.proofs.Chunks.{lengths_differ}
 use Rattle.records.proofs.record.same_bytes.Goals as goal
 
-pub returns-else-a-b : goal.returns-else-a-b
-returns-else-a-b c = lengths_differ c.args.a.now c.args.b.now c.if-a-b.false
+pub returns-then-a-b : goal.returns-then-a-b
+returns-then-a-b c = lengths_differ c.args.a.now c.args.b.now c.if-a-b.true
