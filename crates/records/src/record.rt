@@ -235,11 +235,11 @@ fn same_each(a: &[u8], b: &[u8]) -> bool
 pub fn value_slice(arena: &[u8], span: Span) -> &[u8]
     ensures { result.now ≡ spanned arena.now span }
 {
-    if arena.len() < span.at {
+    let Some(rest) = arena.get(span.at..) else {
         return &[];
-    }
-    if arena.len() - span.at < span.len {
+    };
+    let Some(found) = rest.get(..span.len) else {
         return &[];
-    }
-    &arena[span.at..span.at + span.len]
+    };
+    found
 }
